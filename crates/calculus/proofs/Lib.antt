@@ -1,0 +1,8 @@
+-- Laws of the calculus.
+pub mod Lists
+pub mod Cases
+pub mod Sorting
+pub mod Order
+pub mod Folds
+pub mod Magnitude
+pub mod WellFormed

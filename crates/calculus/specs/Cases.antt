@@ -1,0 +1,78 @@
+-- The starred cases of "At the edges", as rows of one table. Each crate above shows its own side of all of them.
+use mathlib.Core.List.{List, [], _∷_}
+use mathlib.Core.Bool.{Bool, true, false}
+use Prim.Native.Nat.{ℕ}
+use lib.IntN.{ℤ, pos, negsuc}
+use Rattle.calculus.specs.Syntax.{Collection, bag, set, Monoid, of, sum, max, all, equal, Term, num, truth, name, field, rec, bin, comp, table, tnil, tcons, qnil, gen, cond, Question}
+use Rattle.calculus.specs.Value.{Value, vnil, vcons, coll, Table, Tables}
+use Rattle.calculus.specs.Value as Va
+
+-- a question over tables, and what it gives: its value, its written words and G; or the refusal's number
+pub data Case : Type 0 where
+  answers : Tables → Question → Value → List ℤ → ℕ → Case
+  refuses : Tables → Question → ℕ → Case
+
+abbrev pub pair : ℕ → ℕ → Value
+pair a b = Va.rec (vcons (Va.num (pos a)) (vcons (Va.num (pos b)) vnil))
+
+abbrev pub tableOf : Collection → List Value → Table
+tableOf c rows = record { kind = c; columns = 2; rows = rows }
+
+abbrev pub berths : List Value
+berths = pair 1 90 ∷ pair 2 70 ∷ []
+
+abbrev pub twice : List Value
+twice = pair 1 90 ∷ pair 1 90 ∷ []
+
+abbrev pub bollards : List Value
+bollards = pair 1 50 ∷ pair 1 60 ∷ []
+
+-- a bag table 0 of berths, a bag table 1 of bollards
+abbrev pub harbour : List Value → List Value → Tables
+harbour b l = tableOf bag b ∷ tableOf bag l ∷ []
+
+-- "records (b.0, sum of l.1 over l in table 1 where l.0 = b.0) for b in table 0"; b is name 0, l is name 1, and what is
+-- summed and the collection are left open
+abbrev pub loads : Term → Term
+loads h = comp sum (gen 1 (table 1) (cond (bin equal (field 0 (name 1)) (field 0 (name 0))) qnil)) h
+
+abbrev pub perBerth : Collection → Term → Question
+perBerth c h = record { monoid = of c; quals = gen 0 (table 0) qnil; head = rec (tcons (field 0 (name 0)) (tcons (loads h) tnil)) }
+
+abbrev pub load : Term
+load = field 1 (name 1)
+
+abbrev pub listing : Question
+listing = perBerth bag load
+
+-- over one table, and over nothing
+abbrev pub over : Monoid → Term → Question
+over m h = record { monoid = m; quals = gen 0 (table 0) qnil; head = h }
+
+abbrev pub alone : Monoid → Term → Question
+alone m h = record { monoid = m; quals = qnil; head = h }
+
+abbrev pub starred : List Case
+starred =
+    -- "The listing above"
+    answers (harbour berths bollards) listing (coll (vcons (pair 1 110) (vcons (pair 2 0) vnil))) (pos 2 ∷ pos 1 ∷ pos 110 ∷ pos 2 ∷ pos 0 ∷ []) 5
+    -- "No berths: answer 0."
+    ∷ answers (harbour [] bollards) listing (coll vnil) (pos 0 ∷ []) 1
+    -- "No bollards: berth 1 with 0, berth 2 with 0."
+    ∷ answers (harbour berths []) listing (coll (vcons (pair 1 0) (vcons (pair 2 0) vnil))) (pos 2 ∷ pos 1 ∷ pos 0 ∷ pos 2 ∷ pos 0 ∷ []) 5
+    -- the same, counting bollards ("Counting a pad as a row, so a berth without bollards counts 1" is a slip)
+    ∷ answers (harbour berths []) (perBerth bag (num (pos 1))) (coll (vcons (pair 1 0) (vcons (pair 2 0) vnil))) (pos 2 ∷ pos 1 ∷ pos 0 ∷ pos 2 ∷ pos 0 ∷ []) 5
+    -- "Berth row (1, 90) twice, no other: 2 1 110 1 110."
+    ∷ answers (harbour twice bollards) listing (coll (vcons (pair 1 110) (vcons (pair 1 110) vnil))) (pos 2 ∷ pos 1 ∷ pos 110 ∷ pos 1 ∷ pos 110 ∷ []) 5
+    -- "As a set comprehension over the same rows: 1 1 110, with G 5."
+    ∷ answers (harbour twice bollards) (perBerth set load) (coll (vcons (pair 1 110) vnil)) (pos 1 ∷ pos 1 ∷ pos 110 ∷ []) 5
+    -- "Sum without qualifiers of 7: 7."
+    ∷ answers [] (alone sum (num (pos 7))) (Va.num (pos 7)) (pos 7 ∷ []) 1
+    -- "All over an empty table: true."
+    ∷ answers (tableOf bag [] ∷ []) (over all (truth false)) (Va.truth true) (pos 1 ∷ []) 1
+    -- "Max of −3: 0."
+    ∷ answers [] (alone max (num (negsuc 2))) (Va.num (pos 0)) (pos 0 ∷ []) 1
+    -- "A set-table generator in a sum: 26; in a set: accepted."
+    ∷ refuses (tableOf set twice ∷ []) (over sum (field 1 (name 0))) 26
+    ∷ answers (tableOf set twice ∷ []) (over (of set) (field 1 (name 0))) (coll (vcons (Va.num (pos 90)) vnil)) (pos 1 ∷ pos 90 ∷ []) 3
+    ∷ []

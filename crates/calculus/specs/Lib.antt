@@ -1,0 +1,8 @@
+-- The calculus of document 01: what is asked, what a value is, how values are ordered, what a question means.
+pub mod Lists
+pub mod Syntax
+pub mod Value
+pub mod Order
+pub mod Monoid
+pub mod Meaning
+pub mod Cases

@@ -1,0 +1,50 @@
+-- What is asked: the terms, monoids and qualifiers that document 01's records of kinds 1 to 18 stand for.
+use Prim.Native.Nat.{ℕ}
+use mathlib.Core.Bool.{Bool}
+use lib.IntN.{ℤ}
+
+-- "1 list, 2 bag, 3 set": the collection of a table, and of the first three monoids
+pub data Collection : Type 0 where
+  list bag set : Collection
+
+-- "1 list, 2 bag, 3 set (empty); 4 sum (0); 5 max (0 ..); 6 some (false); 7 all (true)"
+pub data Monoid : Type 0 where
+  of : Collection → Monoid
+  sum max some all : Monoid
+
+-- "6 plus, 7 minus, 8 times, 9 equal, 10 less, 11 and, 12 or (two terms each)"
+pub data Bin : Type 0 where
+  plus minus times equal less and or : Bin
+
+-- terms, and "kind 14 is one byte of monoid, any count of qualifiers, then one head term"
+mutual
+  pub data Term : Type 0 where
+    num : ℤ → Term
+    truth : Bool → Term
+    name : ℕ → Term
+    field : ℕ → Term → Term
+    rec : Terms → Term
+    bin : Bin → Term → Term → Term
+    negate : Term → Term  -- "13 not"
+    comp : Monoid → Quals → Term → Term
+    table : ℕ → Term
+
+  pub data Terms : Type 0 where
+    tnil : Terms
+    tcons : Term → Terms → Terms
+
+  -- "16 generator (2-byte name, term), 17 binding (2-byte name, term), 18 condition (term)"
+  pub data Quals : Type 0 where
+    qnil : Quals
+    gen : ℕ → Term → Quals → Quals
+    bind : ℕ → Term → Quals → Quals
+    cond : Term → Quals → Quals
+
+-- "A question is one record of kind 14."
+pub record Question : Type 0 where
+  pub monoid : Monoid
+  pub quals : Quals
+  pub head : Term
+
+abbrev pub asTerm : Question → Term
+asTerm q = comp (q .monoid) (q .quals) (q .head)

@@ -1,0 +1,1 @@
+// Definitions only: the calculus of document 01. See specs/.
