@@ -1,0 +1,1 @@
+// Definitions only: tables and questions as bytes. See specs/.
