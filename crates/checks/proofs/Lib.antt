@@ -1,0 +1,5 @@
+-- What the checks give.
+pub mod Fits
+pub mod Judgement
+pub mod Refold
+pub mod Raw

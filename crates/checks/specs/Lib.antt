@@ -1,0 +1,3 @@
+-- What makes a question that can be read a question of the calculus: refusals 24, 25 and 26.
+pub mod Scope
+pub mod Types
