@@ -1,0 +1,1 @@
+// Definitions only: the normal form, its size and its bounds. See specs/.
