@@ -1,0 +1,1 @@
+// Definitions only: the plan, its operators, the planner and the plan's lines. See specs/.
