@@ -1,0 +1,6 @@
+-- Theorems about the outcomes.
+pub mod Cases
+pub mod Checks
+pub mod Judging
+pub mod Written
+pub mod Agreement

@@ -1,0 +1,4 @@
+-- What each open call gives back and leaves behind.
+pub mod Written
+pub mod Accepted
+pub mod Outcome
