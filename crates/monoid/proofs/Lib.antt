@@ -1,0 +1,2 @@
+-- What the words of a monoid mean.
+pub mod Laws

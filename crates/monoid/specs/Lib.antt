@@ -1,0 +1,2 @@
+-- A monoid's start and combining step on words.
+pub mod Word

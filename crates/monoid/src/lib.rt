@@ -1,0 +1,63 @@
+// The monoid's own type: its start and its combining step on words. Loops, nest and reduce use these.
+ghost use mathlib.Core.Path.{_≡_};
+ghost use Prim.Native.Nat.{ℕ, _<_, _^_};
+ghost use lib.Signed.{mag};
+ghost use Rattle.monoid.specs.Word.{monoidOf, numberOf, zeroWord, mergeWord};
+
+pub enum Monoid {
+    List,
+    Bag,
+    Set,
+    Sum,
+    Max,
+    Some,
+    All,
+}
+
+impl Monoid {
+    // The value over nothing, as a word: a collection's is its count.
+    pub fn zero(self) -> i64
+        ensures { λ r. ⌜ r ≡ zeroWord (monoidOf self) ⌝ }
+    {
+        match self {
+            Monoid::List => 0,
+            Monoid::Bag => 0,
+            Monoid::Set => 0,
+            Monoid::Sum => 0,
+            Monoid::Max => 0,
+            Monoid::Some => 0,
+            Monoid::All => 1,
+        }
+    }
+
+    // Two words into one. The result must be a word: what refusal 28 is for.
+    pub fn merge(self, a: i64, b: i64) -> i64
+        requires { ⌜ mag (mergeWord (monoidOf self) a b) < 2 ^ 63 ⌝ }
+        ensures { λ r. ⌜ r ≡ mergeWord (monoidOf self) a b ⌝ }
+    {
+        match self {
+            Monoid::List => a + b,
+            Monoid::Bag => a + b,
+            Monoid::Set => a + b,
+            Monoid::Sum => a + b,
+            Monoid::Max => { if a < b { b } else { a } }
+            Monoid::Some => { if a == 0 { b } else { a } }
+            Monoid::All => { if a == 0 { a } else { b } }
+        }
+    }
+
+    // Document 01's number.
+    pub fn number(self) -> u64
+        ensures { λ r. ⌜ r ≡ numberOf self ⌝ }
+    {
+        match self {
+            Monoid::List => 1,
+            Monoid::Bag => 2,
+            Monoid::Set => 3,
+            Monoid::Sum => 4,
+            Monoid::Max => 5,
+            Monoid::Some => 6,
+            Monoid::All => 7,
+        }
+    }
+}

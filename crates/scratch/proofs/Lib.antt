@@ -1,0 +1,2 @@
+-- Laws of clearing.
+pub mod Laws

@@ -1,0 +1,20 @@
+// The lent scratch is left empty: what every call but 31 ends with.
+ghost use mathlib.Core.Path.{_≡_};
+ghost use mathlib.Core.List.{_++_};
+ghost use Prim.Native.Nat.{ℕ, _≤_};
+ghost use lib.ListN.{length, drop, replicate};
+
+// How many words a call needs, and clears.
+pub const WORDS: usize = 8192;
+
+// "After every call but 31 the first 8,192 scratch words are 0, later ones unchanged."
+pub fn clear(s: &mut [u64])
+    requires { ⌜ 8192 ≤ length (now s) ⌝ }
+    ensures { λ r. ⌜ now (s .exit) ≡ replicate 8192 0 ++ drop 8192 (now (s .entry)) ⌝ }
+{
+    let mut i: usize = 0;
+    while i < WORDS {
+        s[i] = 0;
+        i += 1;
+    }
+}

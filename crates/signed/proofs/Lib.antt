@@ -1,0 +1,2 @@
+-- Laws of signed words.
+pub mod Word

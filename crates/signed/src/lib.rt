@@ -1,0 +1,1 @@
+// Laws only: 64-bit signed arithmetic. See proofs/.
