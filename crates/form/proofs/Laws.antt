@@ -1,0 +1,221 @@
+-- Laws of the words of a normal form: what is packed is unpacked, where the next place lies, what each node is, and how a
+-- tree is read from its node.
+use mathlib.Core.Path.{_≡_, refl, sym, ap, subst, _∙_}
+use mathlib.Core.Bool.{Bool, true, false, cond}
+use mathlib.Core.List.{List}
+use Prim.Native.Nat.{ℕ, zero, suc, _+_, _-_, _/_, _%_, _^_, _≤_, _<_}
+use native.Mathlib.Omega.{arith}
+use borrow.Author.Tests.{le-leb, lt-leb}
+use lib.Dec.{ltb, eqb}
+use lib.ListN.{length, set, List·getD-eq-default}
+use lib.Seq.{getD-set-same, getD-set-other}
+use lib.IntN.{ℤ, pos, negsuc, natAbs, _-ℤ_}
+use mir.Syntax.{w64}
+use mir.Val.{SFits, toZ, ofZ}
+use mir.Facts.{toZ-ofZ}
+use Rattle.calculus.specs.Lists.{pick}
+use Rattle.normal_form.specs.Form.{Form, Clauses, fnil, fcons}
+use Rattle.monoid.specs.declared.Monoid.{Monoid}
+use Rattle.monoid.specs.declared.Monoid.the-variants as Mo
+use Rattle.signed.proofs.Word.{fits, up, mag-sub}
+use Rattle.form.specs.declared.Op.{Op}
+use Rattle.form.specs.declared.Op.the-variants.{Plus}
+use Rattle.form.specs.declared.Node.{Node}
+use Rattle.form.specs.declared.Node.the-variants.{Number, Truth, Row, Cell, Record, Binary, Negation, Comprehension, Generator, Condition, Nothing}
+use Rattle.form.specs.declared.Clause.{Clause}
+use Rattle.form.specs.Packing.{formAt, places, wordAt, kindOf, belowOf, argOf, pack, next, numberOf, operators, opAt, monoids, monoidAt, kinds, nodeOf, nodeAt}
+use Rattle.form.specs.Tree.{formBy, clauseOf, clausesBy, headBy, formTree, formsTree, clausesTree, headTree}
+use Rattle.form.specs.Look.{Inside, Looks, InsideC, LooksC}
+
+-- ---- packing
+module _ (k b a : ℕ) (hk : k < 16) (hb : b < 1024) where
+  pub kind-pack : kindOf (pack k b a) ≡ k
+  kind-pack = omega arith
+
+  pub below-pack : belowOf (pack k b a) ≡ b
+  below-pack = omega arith
+
+  pub arg-pack : argOf (pack k b a) ≡ a
+  arg-pack = omega arith
+
+-- a word that was put is read back, and no other word changes
+pub word-same : (s : List ℕ) (i w : ℕ) → formAt + i < length s → wordAt (set s (formAt + i) w) i ≡ w
+word-same s i w p = getD-set-same s (formAt + i) w 0 p
+
+pub word-other : (s : List ℕ) (i j w : ℕ) → (j ≡ i → ⊥) → wordAt (set s (formAt + i) w) j ≡ wordAt s j
+word-other s i j w n = getD-set-other s (formAt + i) (formAt + j) w 0 (λ e. n (omega arith))
+
+-- ---- places
+module _ (s : List ℕ) (i : ℕ) where
+  pub next-most : next s i ≤ places
+  unfolding next
+  next-most = omega arith
+
+  pub next-past : i < places → i < next s i
+  unfolding next
+  next-past p = omega arith
+
+  pub next-out : places ≤ i → places ≡ next s i
+  unfolding next
+  next-out p = omega arith
+
+  module _ {w : ℕ} (e : w ≡ wordAt s i) where
+    pub next-in : i + 1 + belowOf w < places → i + 1 + belowOf w ≡ next s i
+    unfolding next
+    next-in p = omega (arith, ap belowOf e)
+
+    pub next-cut : places ≤ i + 1 + belowOf w → places ≡ next s i
+    unfolding next
+    next-cut p = omega (arith, ap belowOf e)
+
+-- ---- arguments
+distance : (a : ℕ) → pos a -ℤ pos 0x80000000 ≡ numberOf a
+distance a = go (ltb a 0x80000000)
+  where
+    go : (t : Bool) → cond t (negsuc (0x80000000 - suc a)) (pos (a - 0x80000000)) ≡ elim t [ true ↦ negsuc (0x7fffffff - a) | false ↦ pos (a - 0x80000000) ]
+    go true = ap negsuc (omega arith)
+    go false = refl
+
+module _ {a : ℕ} (p : a < 2 ^ 50) where
+  pub number-ok : SFits w64 (toZ w64 a -ℤ pos 0x80000000)
+  number-ok = rw (up {x = a} (omega arith)) (fits (omega (arith, mag-sub (pos a) (pos 0x80000000))))
+
+  pub number-is : toZ w64 (ofZ w64 (toZ w64 a -ℤ pos 0x80000000)) ≡ numberOf a
+  number-is = toZ-ofZ number-ok ∙ ap (λ (z : ℤ). z -ℤ pos 0x80000000) (up {x = a} (omega arith)) ∙ distance a
+
+  number-small : natAbs (numberOf a) < 2 ^ 50
+  number-small = go (ltb a 0x80000000)
+    where
+      go : (t : Bool) → natAbs (elim t [ true ↦ negsuc (0x7fffffff - a) | false ↦ pos (a - 0x80000000) ]) < 2 ^ 50
+      go true = omega arith
+      go false = omega arith
+
+pub op-rest : (a : ℕ) → (a ≡ 1 → ⊥) → (a ≡ 2 → ⊥) → (a ≡ 3 → ⊥) → (a ≡ 4 → ⊥) → (a ≡ 5 → ⊥) → (a ≡ 6 → ⊥) → Plus ≡ opAt a
+op-rest zero n1 n2 n3 n4 n5 n6 = refl
+op-rest (suc a) n1 n2 n3 n4 n5 n6 = sym (List·getD-eq-default operators Plus {n = suc a} (omega arith))
+
+pub monoid-rest : (a : ℕ) → (a ≡ 2 → ⊥) → (a ≡ 3 → ⊥) → (a ≡ 4 → ⊥) → (a ≡ 5 → ⊥) → (a ≡ 6 → ⊥) → (a ≡ 7 → ⊥) → Mo.List ≡ monoidAt a
+monoid-rest zero n2 n3 n4 n5 n6 n7 = refl
+monoid-rest (suc zero) n2 n3 n4 n5 n6 n7 = refl
+monoid-rest (suc (suc a)) n2 n3 n4 n5 n6 n7 = sym (List·getD-eq-default monoids Mo.List {n = suc (suc a)} (omega arith))
+
+-- ---- nodes
+above : {m k : ℕ} → m ≤ k → (k ≡ m → ⊥) → suc m ≤ k
+above p n = omega arith
+
+pub look-out : {s : List ℕ} {i : ℕ} → places ≤ i → Looks s i Nothing
+unfolding nodeAt pick
+look-out {s} {i} p = record { is = rw (le-leb places i p); inside = tt }
+
+module _ {s : List ℕ} {i w : ℕ} (p : i < places) (e : w ≡ wordAt s i) where
+  look-by : {n : Node} → Inside i n → n ≡ nodeOf s i (kindOf w) (argOf w) → Looks s i n
+  unfolding nodeAt pick
+  look-by q h = record { is = rw (lt-leb places i p) (h ∙ ap (λ x. nodeOf s i (kindOf x) (argOf x)) e); inside = q }
+
+  pub look-number : {z : ℤ} → w < 2 ^ 64 → kindOf w ≡ 1 → z ≡ numberOf (argOf w) → Looks s i (Number z)
+  unfolding nodeOf
+  look-number l k q = look-by (rw q (number-small {a = argOf w} (omega arith))) (rw (k, q))
+
+  pub look-truth : {b : Bool} → kindOf w ≡ 2 → b ≡ eqb (argOf w) 1 → Looks s i (Truth b)
+  unfolding nodeOf
+  look-truth k q = look-by tt (rw (k, q))
+
+  pub look-row : {g : ℕ} → kindOf w ≡ 3 → (g ≡ argOf w % 1024) × (g < 1024) → Looks s i (Row g)
+  unfolding nodeOf
+  look-row k q = look-by (q .1) (rw (k, q .0))
+
+  pub look-cell : {c g : ℕ} → kindOf w ≡ 4 → (c ≡ argOf w / 1024 % 1024) × (c < 1024) → (g ≡ argOf w % 1024) × (g < 1024) → Looks s i (Cell c g)
+  unfolding nodeOf
+  look-cell k q r = look-by (q .1, r .1) (rw (k, q .0, r .0))
+
+  pub look-record : {j : ℕ} → kindOf w ≡ 5 → j ≡ next s i → Looks s i (Record j)
+  unfolding nodeOf
+  look-record k q = look-by (rw q (next-past s i p), rw q (next-most s i)) (rw (k, q))
+
+  pub look-binary : {o : Op} {j : ℕ} → kindOf w ≡ 6 → o ≡ opAt (argOf w) → j ≡ next s (i + 1) → Looks s i (Binary o j)
+  unfolding nodeOf next
+  look-binary k q r = look-by (omega arith, omega arith) (rw (k, q, r))
+
+  pub look-negation : kindOf w ≡ 7 → Looks s i Negation
+  unfolding nodeOf
+  look-negation k = look-by p (rw k)
+
+  pub look-comprehension : {m : Monoid} → kindOf w ≡ 8 → m ≡ monoidAt (argOf w) → Looks s i (Comprehension m)
+  unfolding nodeOf
+  look-comprehension k q = look-by p (rw (k, q))
+
+  pub look-generator : {g t : ℕ} → kindOf w ≡ 9 → (g ≡ argOf w / 1024 % 1024) × (g < 1024) → (t ≡ argOf w % 1024) × (t < 1024) → Looks s i (Generator g t)
+  unfolding nodeOf
+  look-generator k q r = look-by (p, q .1, r .1) (rw (k, q .0, r .0))
+
+  pub look-condition : {j : ℕ} → kindOf w ≡ 10 → j ≡ next s i → Looks s i (Condition j)
+  unfolding nodeOf
+  look-condition k q = look-by (rw q (next-past s i p), rw q (next-most s i)) (rw (k, q))
+
+  -- a kind that is none of the ten
+  pub look-rest :
+      (kindOf w ≡ 1 → ⊥) → (kindOf w ≡ 2 → ⊥) → (kindOf w ≡ 3 → ⊥) → (kindOf w ≡ 4 → ⊥) → (kindOf w ≡ 5 → ⊥) → (kindOf w ≡ 6 → ⊥) →
+      (kindOf w ≡ 7 → ⊥) → (kindOf w ≡ 8 → ⊥) → (kindOf w ≡ 9 → ⊥) → (kindOf w ≡ 10 → ⊥) → Looks s i Nothing
+  unfolding nodeOf
+  look-rest n1 n2 n3 n4 n5 n6 n7 n8 n9 n10 = look-by tt (go (kindOf w) refl)
+    where
+      go : (k : ℕ) → kindOf w ≡ k → Nothing ≡ nodeOf s i k (argOf w)
+      go zero h = refl
+      go (suc k) h = sym (List·getD-eq-default (kinds s i (argOf w)) Nothing {n = suc k} (subst (λ x. 11 ≤ x) h
+          (above (above (above (above (above (above (above (above (above (above (omega (arith, h)) n1) n2) n3) n4) n5) n6) n7) n8) n9) n10)))
+
+-- ---- clauses
+inside-clause : (i : ℕ) (n : Node) → Inside i n → InsideC i (clauseOf n)
+inside-clause i (Number z) h = tt
+inside-clause i (Truth b) h = tt
+inside-clause i (Row g) h = tt
+inside-clause i (Cell c g) h = tt
+inside-clause i (Record e) h = tt
+inside-clause i (Binary o j) h = tt
+inside-clause i Negation h = tt
+inside-clause i (Comprehension m) h = tt
+inside-clause i (Generator g k) h = h
+inside-clause i (Condition j) h = h
+inside-clause i Nothing h = tt
+
+pub clause-found : {s : List ℕ} {i : ℕ} {r n : Node} {c : Clause} → Looks s i r → r ≡ n → c ≡ clauseOf n → LooksC s i c
+clause-found {s} {i} {r} H e q = subst (LooksC s i) (ap clauseOf e ∙ sym q) (record { is = ap clauseOf (H .is); inside = inside-clause i r (H .inside) })
+
+-- ---- trees, by the node that was looked at; one law each, to be used at every fuel
+abbrev pub formNode : ℕ → List ℕ → ℕ → Node → Form
+formNode f s i n = formBy (λ j. formTree f s j) (λ j e. formsTree f s j e) (λ j. clausesTree f s j) (λ j. headTree f s j) i n
+
+abbrev pub clausesNode : ℕ → List ℕ → ℕ → Clause → Clauses
+clausesNode f s i n = clausesBy (λ j. formTree f s j) (λ j. clausesTree f s j) i n
+
+abbrev pub headNode : ℕ → List ℕ → ℕ → Clause → Form
+headNode f s i n = headBy (λ j. formTree f s j) (λ j. headTree f s j) i n
+
+pub recast : {s : List ℕ} {i : ℕ} {r n : Node} → Looks s i r → r ≡ n → Looks s i n
+recast {s} {i} H e = subst (Looks s i) e H
+
+pub recastC : {s : List ℕ} {i : ℕ} {r n : Clause} → LooksC s i r → r ≡ n → LooksC s i n
+recastC {s} {i} H e = subst (LooksC s i) e H
+
+module _ {s : List ℕ} {i : ℕ} {n : Node} (H : Looks s i n) (f : ℕ) where
+  pub form-is : formTree (suc f) s i ≡ formNode f s i n
+  unfolding formTree
+  form-is = ap (formNode f s i) (sym (H .is))
+
+module _ {s : List ℕ} {i : ℕ} {n : Clause} (H : LooksC s i n) (f : ℕ) where
+  pub clauses-is : clausesTree (suc f) s i ≡ clausesNode f s i n
+  unfolding formTree
+  clauses-is = ap (clausesNode f s i) (sym (H .is))
+
+  pub head-is : headTree (suc f) s i ≡ headNode f s i n
+  unfolding formTree
+  head-is = ap (headNode f s i) (sym (H .is))
+
+module _ (f : ℕ) (s : List ℕ) (i e : ℕ) where
+  pub forms-end : e ≤ i → formsTree (suc f) s i e ≡ fnil
+  unfolding formTree pick
+  forms-end p = rw (le-leb e i p)
+
+  pub forms-more : i < e → formsTree (suc f) s i e ≡ fcons (formTree f s i) (formsTree f s (next s i) e)
+  unfolding formTree pick
+  forms-more p = rw (lt-leb e i p)

@@ -1,0 +1,3 @@
+-- What reading and writing the words of a normal form comes to.
+pub mod Laws
+pub mod ReadBack

@@ -1,0 +1,38 @@
+-- What `look` and `look_clause` answer: the node or clause at a place, whose places lie behind it and within the words, and
+-- whose numbers are small.
+use mathlib.Core.Path.{_≡_}
+use mathlib.Core.List.{List}
+use Prim.Native.Nat.{ℕ, _^_, _<_, _≤_}
+use lib.IntN.{natAbs}
+use Rattle.form.specs.declared.Node.{Node}
+use Rattle.form.specs.declared.Node.the-variants.{Number, Truth, Row, Cell, Record, Binary, Negation, Comprehension, Generator, Condition, Nothing}
+use Rattle.form.specs.declared.Clause.{Clause}
+use Rattle.form.specs.declared.Clause.the-variants as Cl
+use Rattle.form.specs.Packing.{places, nodeAt}
+use Rattle.form.specs.Tree.{clauseOf}
+
+abbrev pub Inside : ℕ → Node → Type 0
+Inside i (Number z) = natAbs z < 2 ^ 50
+Inside i (Truth b) = Unit {0}
+Inside i (Row g) = g < 1024
+Inside i (Cell c g) = (c < 1024) × (g < 1024)
+Inside i (Record e) = (i < e) × (e ≤ places)
+Inside i (Binary o j) = (i < j) × (j ≤ places)
+Inside i Negation = i < places
+Inside i (Comprehension m) = i < places
+Inside i (Generator g k) = (i < places) × (g < 1024) × (k < 1024)
+Inside i (Condition j) = (i < j) × (j ≤ places)
+Inside i Nothing = Unit {0}
+
+pub record Looks (s : List ℕ) (i : ℕ) (r : Node) : Type 0 where
+  pub is : r ≡ nodeAt s i
+  pub inside : Inside i r
+
+abbrev pub InsideC : ℕ → Clause → Type 0
+InsideC i (Cl.Generator g k) = (i < places) × (g < 1024) × (k < 1024)
+InsideC i (Cl.Condition j) = (i < j) × (j ≤ places)
+InsideC i Cl.Head = Unit {0}
+
+pub record LooksC (s : List ℕ) (i : ℕ) (r : Clause) : Type 0 where
+  pub is : r ≡ clauseOf (nodeAt s i)
+  pub inside : InsideC i r

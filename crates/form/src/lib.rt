@@ -1,0 +1,166 @@
+// The words of a normal form in scratch: `look` is their only reader, `put_word` their only writer.
+ghost use mathlib.Core.Path.{_≡_};
+ghost use Prim.Native.Nat.{_+_, _%_, _<_, _^_};
+ghost use lib.ListN.{set};
+ghost use Rattle.form.specs.Packing.{formAt, wordAt, pack, next, numberOf, opAt, monoidAt};
+ghost use Rattle.form.specs.Look.{Looks, LooksC};
+use monoid::Monoid;
+
+// The words of the normal form stand from word 1,296 on, at most 512 of them.
+const FORM_AT: usize = 1296;
+
+const PLACES: usize = 512;
+
+pub enum Op {
+    Plus,
+    Minus,
+    Times,
+    Equal,
+    Less,
+    And,
+    Or,
+}
+
+// A node, with the places that are not the one behind it: the end of a record, the second operand, the end of a condition.
+// A cell is column and generator, a generator its number and its table.
+pub enum Node {
+    Number(i64),
+    Truth(bool),
+    Row(usize),
+    Cell(usize, usize),
+    Record(usize),
+    Binary(Op, usize),
+    Negation,
+    Comprehension(Monoid),
+    Generator(usize, usize),
+    Condition(usize),
+    Nothing,
+}
+
+// A node that stands among the clauses of a comprehension: all but generators and conditions are its head.
+pub enum Clause {
+    Generator(usize, usize),
+    Condition(usize),
+    Head,
+}
+
+// Word i of the normal form; 0 outside.
+pub fn word(s: &[u64], i: usize) -> u64
+    ensures { λ r. ⌜ r ≡ wordAt (now (s .entry)) i ⌝ }
+{
+    if s.len() <= FORM_AT {
+        return 0;
+    }
+    if i < s.len() - FORM_AT {
+        s[FORM_AT + i]
+    } else {
+        0
+    }
+}
+
+// Writes a word: kind, how many words are below it, argument. No store outside.
+pub fn put_word(s: &mut [u64], i: usize, k: u64, below: u64, a: u64)
+    requires { ⌜ (k < 16) × (below < 1024) × (a < 2 ^ 50) ⌝ }
+    ensures { λ _. ⌜ now (s .exit) ≡ set (now (s .entry)) (formAt + i) (pack k below a) ⌝ }
+{
+    if FORM_AT < s.len() {
+        if i < s.len() - FORM_AT {
+            s[FORM_AT + i] = k + 16 * (below + 1024 * a);
+        }
+    }
+}
+
+// The place behind the subtree at i.
+pub fn next(s: &[u64], i: usize) -> usize
+    ensures { λ r. ⌜ r ≡ next (now (s .entry)) i ⌝ }
+{
+    if PLACES <= i {
+        return PLACES;
+    }
+    let below = word(s, i) / 16 % 1024;
+    let e = i + 1 + below as usize;
+    if e < PLACES { e } else { PLACES }
+}
+
+fn number(a: u64) -> i64
+    requires { ⌜ a < 2 ^ 50 ⌝ }
+    ensures { λ r. ⌜ r ≡ numberOf a ⌝ }
+{
+    a as i64 - 2147483648
+}
+
+fn operator(a: u64) -> Op
+    ensures { λ r. ⌜ r ≡ opAt a ⌝ }
+{
+    match a {
+        1 => Op::Minus,
+        2 => Op::Times,
+        3 => Op::Equal,
+        4 => Op::Less,
+        5 => Op::And,
+        6 => Op::Or,
+        _ => Op::Plus,
+    }
+}
+
+fn monoid_of(a: u64) -> Monoid
+    ensures { λ r. ⌜ r ≡ monoidAt a ⌝ }
+{
+    match a {
+        2 => Monoid::Bag,
+        3 => Monoid::Set,
+        4 => Monoid::Sum,
+        5 => Monoid::Max,
+        6 => Monoid::Some,
+        7 => Monoid::All,
+        _ => Monoid::List,
+    }
+}
+
+// The low ten bits.
+fn low(a: u64) -> usize
+    ensures { λ r. ⌜ (r ≡ a % 1024) × (r < 1024) ⌝ }
+{
+    (a % 1024) as usize
+}
+
+pub fn look(s: &[u64], i: usize) -> Node
+    ensures { λ r. ⌜ Looks (now (s .entry)) i r ⌝ }
+{
+    if PLACES <= i {
+        return Node::Nothing;
+    }
+    let w = word(s, i);
+    let a = w / 16384;
+    match w % 16 {
+        1 => Node::Number(number(a)),
+        2 => Node::Truth(a == 1),
+        3 => Node::Row(low(a)),
+        4 => Node::Cell(low(a / 1024), low(a)),
+        5 => Node::Record(next(s, i)),
+        6 => Node::Binary(operator(a), next(s, i + 1)),
+        7 => Node::Negation,
+        8 => Node::Comprehension(monoid_of(a)),
+        9 => Node::Generator(low(a / 1024), low(a)),
+        10 => Node::Condition(next(s, i)),
+        _ => Node::Nothing,
+    }
+}
+
+pub fn look_clause(s: &[u64], i: usize) -> Clause
+    ensures { λ r. ⌜ LooksC (now (s .entry)) i r ⌝ }
+{
+    match look(s, i) {
+        Node::Number(z) => Clause::Head,
+        Node::Truth(b) => Clause::Head,
+        Node::Row(g) => Clause::Head,
+        Node::Cell(c, g) => Clause::Head,
+        Node::Record(e) => Clause::Head,
+        Node::Binary(o, j) => Clause::Head,
+        Node::Negation => Clause::Head,
+        Node::Comprehension(m) => Clause::Head,
+        Node::Generator(g, k) => Clause::Generator(g, k),
+        Node::Condition(j) => Clause::Condition(j),
+        Node::Nothing => Clause::Head,
+    }
+}

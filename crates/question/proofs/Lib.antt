@@ -1,0 +1,2 @@
+-- Laws of the node words.
+pub mod Laws

@@ -1,0 +1,23 @@
+-- Which scratch words hold what. Everything lies below word 2,048.
+use Prim.Native.Nat.{ℕ}
+
+-- word 0: how many tables; words 1 to 8: their descriptions
+-- a word for each node of the question, at most 256, in post-order
+abbrev pub nodesAt : ℕ
+nodesAt = 16
+
+-- for each name the node that binds it
+abbrev pub bindersAt : ℕ
+bindersAt = 272
+
+-- a word for each node: the node that it comes to at its head
+abbrev pub shapesAt : ℕ
+shapesAt = 528
+
+-- two words for each node: its sizes in the normal form
+abbrev pub sizesAt : ℕ
+sizesAt = 784
+
+-- the words of the normal form, at most 512
+abbrev pub formAt : ℕ
+formAt = 1296
