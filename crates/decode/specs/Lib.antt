@@ -1,0 +1,5 @@
+-- The node table that the words of a question stand for, and what reading a node answers.
+pub mod Decode
+pub mod Look
+pub mod Levels
+pub mod Tree
