@@ -1,0 +1,5 @@
+pub mod Accepts
+pub mod Codes
+pub mod Laws
+pub mod Noted
+pub mod OneBinder

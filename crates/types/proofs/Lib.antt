@@ -1,0 +1,5 @@
+pub mod NodeTypes
+pub mod Represents
+pub mod Laws
+pub mod Fitting
+pub mod Checked

@@ -1,0 +1,4 @@
+-- The types of a question's nodes, and their shapes: what a type is at its head.
+pub mod Typing
+pub mod Shapes
+pub mod Words
