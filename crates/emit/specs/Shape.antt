@@ -1,0 +1,53 @@
+-- Which forms have nodes below them, and how each stands as a condition.
+use mathlib.Core.Path.{_≡_}
+use mathlib.Core.Bool.{Bool, true, false}
+use Prim.Native.Nat.{ℕ}
+use Rattle.normal_form.specs.Normal.{givesWay}
+use Rattle.monoid.specs.Word.{monoidOf}
+use Rattle.monoid.specs.declared.Monoid.{Monoid}
+use Rattle.monoid.specs.declared.Monoid.the-variants as Mo
+use Rattle.decode.specs.declared.Op.{Op}
+use Rattle.decode.specs.declared.Op.the-variants as Op
+use Rattle.resolve.specs.declared.Form.{Form}
+use Rattle.resolve.specs.declared.Form.the-variants.{Number, Truth, Row, Cell, Record, Two, Not, Comp, Table, Bad}
+use Rattle.emit.specs.declared.Split.{Split}
+use Rattle.emit.specs.declared.Split.the-variants.{And, Some, One}
+
+-- no node is below it
+abbrev pub Simple : Form → Type 0
+Simple (Number z) = Unit {0}
+Simple (Truth b) = Unit {0}
+Simple (Row g) = Unit {0}
+Simple (Cell k g) = Unit {0}
+Simple Record = ⊥
+Simple (Two o a b) = ⊥
+Simple (Not c) = ⊥
+Simple (Comp m k) = ⊥
+Simple (Table k) = Unit {0}
+Simple Bad = Unit {0}
+
+-- one condition: neither an "and" nor a comprehension that gives way
+abbrev pub Single : Form → Bool → Type 0
+Single (Number z) v = Unit {0}
+Single (Truth b) v = Unit {0}
+Single (Row g) v = Unit {0}
+Single (Cell k g) v = Unit {0}
+Single Record v = Unit {0}
+Single (Two o a b) v = o ≡ Op.And → ⊥
+Single (Not c) v = Unit {0}
+Single (Comp m k) v = givesWay (monoidOf m) v ≡ false
+Single (Table k) v = Unit {0}
+Single Bad v = Unit {0}
+
+abbrev pub SplitIs : Form → Bool → Split → Type 0
+SplitIs f v (And a b) = f ≡ Two Op.And a b
+SplitIs f v (Some k) = (f ≡ Comp Mo.Some k) × (v ≡ true)
+SplitIs f v One = Single f v
+
+pub record Splits (f : Form) (v : Bool) (r : Split) : Type 0 where
+  pub is : SplitIs f v r
+
+-- a comprehension of m
+pub record IsComp (m : Monoid) (f : Form) : Type 0 where
+  pub head : ℕ
+  pub is : f ≡ Comp m head

@@ -1,0 +1,42 @@
+-- `measure::is_qualifier` meets its contract.
+use Rattle.measure.proofs.Parts.{is-gen, is-bind, is-cond, is-term}
+use borrow.Author.Needs.{needs}
+use Rattle.measure.proofs.is_qualifier.Statement.{statement}
+use Rattle.measure.proofs.is_qualifier.Tie as tie
+
+look-requires : tie.Need-look-requires
+look-requires c κs = search needs
+
+enum-known-c : tie.Need-enum-known-c
+enum-known-c c = search needs
+
+enum-known-c-2 : tie.Need-enum-known-c-2
+enum-known-c-2 c = search needs
+
+enum-known-c-3 : tie.Need-enum-known-c-3
+enum-known-c-3 c = search needs
+
+returns : tie.Need-returns
+returns c = is-gen (c .before .before .before .look .ensures) (c .before .c .given .1)
+
+returns-2 : tie.Need-returns-2
+returns-2 c = is-bind (c .before .before .before .look .ensures) (c .before .c2 .given .1)
+
+returns-3 : tie.Need-returns-3
+returns-3 c = is-cond (c .before .before .before .look .ensures) (c .before .c3 .given .1)
+
+returns-4 : tie.Need-returns-4
+returns-4 c = is-term (c .before .look .ensures) (c .match .keys4)
+
+pub is-qualifier-spec : {M : Type 1} → statement M
+is-qualifier-spec =
+    tie.close
+    (tie.spec
+    look-requires
+    enum-known-c
+    enum-known-c-2
+    enum-known-c-3
+    returns
+    returns-2
+    returns-3
+    returns-4)

@@ -1,0 +1,3 @@
+-- Laws of following names and fields.
+pub mod Laws
+pub mod Calls

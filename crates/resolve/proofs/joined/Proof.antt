@@ -1,0 +1,80 @@
+-- `resolve::joined` meets its contract.
+use mathlib.Core.Path.{refl}
+use Rattle.normal_form.specs.Normal.{idempotent}
+use Rattle.monoid.specs.declared.Monoid.the-variants as Mo
+use Rattle.resolve.proofs.Laws.{joined-by}
+use borrow.Author.Needs.{needs}
+use Rattle.resolve.proofs.joined.Statement.{statement}
+use Rattle.resolve.proofs.joined.Tie as tie
+
+returns : tie.Need-returns
+returns c = search needs
+
+enum-told : tie.Need-enum-told
+enum-told c = search needs
+
+enum-told-2 : tie.Need-enum-told-2
+enum-told-2 c = search needs
+
+enum-told-3 : tie.Need-enum-told-3
+enum-told-3 c = search needs
+
+enum-told-4 : tie.Need-enum-told-4
+enum-told-4 c = search needs
+
+enum-told-5 : tie.Need-enum-told-5
+enum-told-5 c = search needs
+
+enum-told-6 : tie.Need-enum-told-6
+enum-told-6 c = search needs
+
+enum-told-7 : tie.Need-enum-told-7
+enum-told-7 c = search needs
+
+returns-2 : tie.Need-returns-2
+unfolding idempotent
+returns-2 c = joined-by Mo.List (c .before .before .if1 .left) (c .enum-told .given .1) refl
+
+returns-3 : tie.Need-returns-3
+unfolding idempotent
+returns-3 c = joined-by Mo.Bag (c .before .before .if1 .left) (c .enum-told2 .given .1) refl
+
+returns-4 : tie.Need-returns-4
+unfolding idempotent
+returns-4 c = joined-by Mo.Set (c .before .before .if1 .left) (c .enum-told3 .given .1) refl
+
+returns-5 : tie.Need-returns-5
+unfolding idempotent
+returns-5 c = joined-by Mo.Sum (c .before .before .if1 .left) (c .enum-told4 .given .1) refl
+
+returns-6 : tie.Need-returns-6
+unfolding idempotent
+returns-6 c = joined-by Mo.Max (c .before .before .if1 .left) (c .enum-told5 .given .1) refl
+
+returns-7 : tie.Need-returns-7
+unfolding idempotent
+returns-7 c = joined-by Mo.Some (c .before .before .if1 .left) (c .enum-told6 .given .1) refl
+
+returns-8 : tie.Need-returns-8
+unfolding idempotent
+returns-8 c = joined-by Mo.All (c .before .before .if1 .left) (c .enum-told7 .given .1) refl
+
+pub joined-spec : {M : Type 1} → statement M
+joined-spec =
+    tie.close
+    (tie.spec
+    returns
+    enum-told
+    enum-told-2
+    enum-told-3
+    enum-told-4
+    enum-told-5
+    enum-told-6
+    enum-told-7
+    returns-2
+    returns-3
+    returns-4
+    returns-5
+    returns-6
+    returns-7
+    returns-8)
