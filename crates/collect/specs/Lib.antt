@@ -1,0 +1,4 @@
+-- A value's words in the answer buffer.
+pub mod Laying
+pub mod Shapes
+pub mod Contract

@@ -1,0 +1,2 @@
+-- The rows that generators stand for.
+pub mod Env
