@@ -1,0 +1,3 @@
+-- Laws of reading and moving words.
+pub mod Places
+pub mod Blocks

@@ -1,0 +1,27 @@
+-- Reading at any place at all: a place behind the last word holds 0, and no step leads further.
+use mathlib.Core.List.{List}
+use Prim.Native.Nat.{ℕ, zero, suc, _+_}
+use lib.Dec.{ltb}
+use lib.ListN.{length, getD}
+use lib.IntN.{ℤ, pos, negsuc}
+use Rattle.calculus.specs.Lists.{pick}
+
+abbrev pub wordAt : List ℤ → ℕ → ℤ
+wordAt w p = getD w p (pos 0)
+
+-- a word as a count; a negative one is none
+abbrev pub natOf : ℤ → ℕ
+natOf (pos n) = n
+natOf (negsuc n) = 0
+
+abbrev pub countAt : List ℤ → ℕ → ℕ
+countAt w p = natOf (wordAt w p)
+
+-- the place behind the word at p
+unfoldable pub behind : List ℤ → ℕ → ℕ
+behind w p = pick (ltb p (length w)) (p + 1) p
+
+-- n steps F from p
+unfoldable pub times : ℕ → (ℕ → ℕ) → ℕ → ℕ
+times zero F p = p
+times (suc n) F p = times n F (F p)

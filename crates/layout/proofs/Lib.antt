@@ -1,0 +1,6 @@
+-- Laws of types in scratch, of skipping and of comparing.
+pub mod Stands
+pub mod Types
+pub mod Skips
+pub mod Compares
+pub mod Values

@@ -1,0 +1,156 @@
+-- The raw value of a normal form is of the type that the normal form stands for: a row is looked at only where its generator has
+-- run, and a generator has as many columns as its table.
+use mathlib.Core.Path.{_≡_, refl, sym, subst}
+use mathlib.Core.Bool.{Bool, true, false}
+use mathlib.Core.List.{List, [], _∷_, map}
+use Prim.Native.Nat.{ℕ, zero, suc}
+use lib.Dec.{T, eqb, eqb→eq}
+use lib.IntN.{ℤ, pos}
+use lib.ListN.{length}
+use Rattle.calculus.specs.Lists.{guard, upd}
+use Rattle.calculus.specs.Syntax.{Monoid, of, sum, max, some, all, Bin, plus, minus, times, equal, less, and, or}
+use Rattle.calculus.specs.Value.{Value, Values, toList, fromList, junk, asBool, nth, fieldOf, binV, notV, Tables, columnsOf, rowsOf}
+use Rattle.calculus.specs.Value as Va
+use Rattle.calculus.specs.Monoid.{start, step, foldBy, raw}
+use Rattle.calculus.specs.Meaning.{Env}
+use Rattle.calculus.proofs.Lists.{All, all-bind}
+use Rattle.calculus.proofs.Folds.{raw-of}
+use Rattle.calculus.proofs.WellFormed.{Row, WellFormed, rows-well-formed}
+use Rattle.checks.specs.Types.{Ty, number, record′, coll, cells}
+use Rattle.checks.proofs.Judgement.{result}
+use Rattle.checks.proofs.Refold.{gathered}
+use Rattle.normal_form.specs.Form.{Form, Forms, Clauses, NormalForm, asForm, row, cell, rec, bin, negate, comp, fnil, fcons, done, gen, cond, value, values, loops, normalValue}
+use Rattle.normal_form.specs.Form as Fo
+use Rattle.layout.specs.Shape.{typeOf, typesOf}
+use Rattle.layout.specs.Typed.{Of, a-number, a-truth, a-record, a-collection, OfEach, no-field, field, AllOf, no-element, element}
+
+-- ---- elements as a list
+pub to-all : {t : Ty} {vs : Values} → AllOf t vs → All (Of t) (toList vs)
+to-all no-element = tt
+to-all (element h k) = (h, to-all k)
+
+pub from-all : {t : Ty} (l : List Value) → All (Of t) l → AllOf t (fromList l)
+from-all [] h = no-element
+from-all (v ∷ l) h = element (h .0) (from-all l (h .1))
+
+-- ---- rows
+row-cells : (zs : List ℤ) → OfEach (cells (length zs)) (fromList (map Va.num zs))
+unfolding cells
+row-cells [] = no-field
+row-cells (z ∷ zs) = field (a-number z) (row-cells zs)
+
+pub row-of : {n : ℕ} {v : Value} → Row n v → Of (record′ (cells n)) v
+row-of r = subst (Of (record′ (cells _))) (sym (r .is)) (a-record (subst (λ (m : ℕ). OfEach (cells m) (fromList (map Va.num (r .cells)))) (r .width) (row-cells (r .cells))))
+
+nth-of : (n i : ℕ) (vs : Values) → OfEach (cells n) vs → Of number (nth i vs)
+unfolding cells nth
+nth-of zero i vs no-field = a-number (pos 0)
+nth-of (suc n) zero vs (field h k) = h
+nth-of (suc n) (suc i) vs (field {vs = ws} h k) = nth-of n i ws k
+
+-- ---- what generators stand for: a row where they have run, nothing yet before
+abbrev StandsFor : Bool → ℕ → Value → Type 0
+StandsFor true n v = Of (record′ (cells n)) v
+StandsFor false n v = v ≡ junk
+
+abbrev pub Stand : (ℕ → ℕ) → (ℕ → Bool) → Env → Type 0
+Stand C B ρ = (g : ℕ) → StandsFor (B g) (C g) (ρ g)
+
+stand-next : (C : ℕ → ℕ) (B : ℕ → Bool) (ρ : Env) (g : ℕ) (v : Value) → Stand C B ρ → Of (record′ (cells (C g))) v → Stand C (upd g true B) (upd g v ρ)
+unfolding upd
+stand-next C B ρ g v S h x = go (eqb g x) refl
+  where
+    go : (b : Bool) → eqb g x ≡ b → StandsFor (elim b [ true ↦ true | false ↦ B x ]) (C x) (elim b [ true ↦ v | false ↦ ρ x ])
+    go true e = subst (λ (y : ℕ). Of (record′ (cells (C y))) v) (eqb→eq g x (subst T (sym e) tt)) h
+    go false e = S x
+
+cell-of : (b : Bool) (n i : ℕ) (v : Value) → StandsFor b n v → Of number (fieldOf i v)
+unfolding fieldOf
+cell-of true n i v (a-record {vs = vs} h) = nth-of n i vs h
+cell-of false n i v e = subst (λ (w : Value). Of number (fieldOf i w)) (sym e) (a-number (pos 0))
+
+-- which generators have run behind clauses
+unfoldable pub ran : Clauses → (ℕ → Bool) → ℕ → Bool
+ran done B = B
+ran (gen g k q) B = ran q (upd g true B)
+ran (cond t q) B = ran q B
+
+-- Each row in the head, or in a field of it, is of a generator that has run (those in B), and each generator has as many columns
+-- as its table.
+abbrev mutual
+  pub Rooted : (ℕ → ℕ) → Tables → (ℕ → Bool) → Form → Type 0
+  Rooted C T B (Fo.num z) = Unit {0}
+  Rooted C T B (Fo.truth b) = Unit {0}
+  Rooted C T B (row g) = B g ≡ true
+  Rooted C T B (cell i g) = Unit {0}
+  Rooted C T B (rec ts) = RootedF C T B ts
+  Rooted C T B (bin o t u) = Unit {0}
+  Rooted C T B (negate t) = Unit {0}
+  Rooted C T B (comp m q h) = RootedC C T B q × Rooted C T (ran q B) h
+
+  pub RootedF : (ℕ → ℕ) → Tables → (ℕ → Bool) → Forms → Type 0
+  RootedF C T B fnil = Unit {0}
+  RootedF C T B (fcons t ts) = Rooted C T B t × RootedF C T B ts
+
+  pub RootedC : (ℕ → ℕ) → Tables → (ℕ → Bool) → Clauses → Type 0
+  RootedC C T B done = Unit {0}
+  RootedC C T B (gen g k q) = (C g ≡ columnsOf T k) × RootedC C T (upd g true B) q
+  RootedC C T B (cond t q) = RootedC C T B q
+
+-- ---- operators and monoids
+bin-of : (o : Bin) (v w : Value) → Of (result o) (binV o v w)
+unfolding result binV
+bin-of plus v w = a-number _
+bin-of minus v w = a-number _
+bin-of times v w = a-number _
+bin-of equal v w = a-truth _
+bin-of less v w = a-truth _
+bin-of and v w = a-truth _
+bin-of or v w = a-truth _
+
+fold-of : (m : Monoid) (t : Ty) (l : List Value) → All (Of t) l → Of (gathered m t) (raw m l)
+unfolding gathered raw foldBy start step
+fold-of (of c) t l h = subst (Of (coll c t)) (sym (raw-of c l)) (a-collection c (from-all l h))
+fold-of sum t [] h = a-number _
+fold-of sum t (v ∷ l) h = a-number _
+fold-of max t [] h = a-number _
+fold-of max t (v ∷ l) h = a-number _
+fold-of some t [] h = a-truth _
+fold-of some t (v ∷ l) h = a-truth _
+fold-of all t [] h = a-truth _
+fold-of all t (v ∷ l) h = a-truth _
+
+guard-all : (P : Value → Type 0) (b : Bool) (l : List Value) → All P l → All P (guard b l)
+unfolding guard
+guard-all P true l h = h
+guard-all P false l h = tt
+
+module _ {D : Tables} (W : WellFormed D) (C : ℕ → ℕ) where
+  loops-of : (P : Value → Type 0) (B : ℕ → Bool) (q : Clauses) (k : Env → List Value) (ρ : Env) → RootedC C D B q → Stand C B ρ → ((σ : Env) → Stand C (ran q B) σ → All P (k σ)) → All P (loops raw D q k ρ)
+  unfolding value ran
+  loops-of P B done k ρ h S f = f ρ S
+  loops-of P B (gen g t q) k ρ h S f = all-bind (Row (columnsOf D t)) P (λ v. loops raw D q k (upd g v ρ)) (rowsOf D t) (rows-well-formed W t) (λ v r.
+      loops-of P (upd g true B) q k (upd g v ρ) (h .1) (stand-next C B ρ g v S (subst (λ (n : ℕ). Of (record′ (cells n)) v) (sym (h .0)) (row-of r))) f)
+  loops-of P B (cond t q) k ρ h S f = guard-all P (asBool (value raw D t ρ)) (loops raw D q k ρ) (loops-of P B q k ρ h S f)
+
+  mutual
+    unfolding value typeOf notV
+
+    pub value-of : (B : ℕ → Bool) (t : Form) (ρ : Env) → Rooted C D B t → Stand C B ρ → Of (typeOf C t) (value raw D t ρ)
+    value-of B (Fo.num z) ρ h S = a-number z
+    value-of B (Fo.truth b) ρ h S = a-truth b
+    value-of B (row g) ρ h S = subst (λ b. StandsFor b (C g) (ρ g)) h (S g)
+    value-of B (cell i g) ρ h S = cell-of (B g) (C g) i (ρ g) (S g)
+    value-of B (rec ts) ρ h S = a-record (values-of B ts ρ h S)
+    value-of B (bin o t u) ρ h S = bin-of o (value raw D t ρ) (value raw D u ρ)
+    value-of B (negate t) ρ h S = a-truth _
+    value-of B (comp m q t) ρ h S = fold-of m (typeOf C t) (loops raw D q (λ σ. value raw D t σ ∷ []) ρ) (loops-of (Of (typeOf C t)) B q (λ σ. value raw D t σ ∷ []) ρ (h .0) S (λ σ Z. (value-of (ran q B) t σ (h .1) Z, tt)))
+
+    values-of : (B : ℕ → Bool) (ts : Forms) (ρ : Env) → RootedF C D B ts → Stand C B ρ → OfEach (typesOf C ts) (values raw D ts ρ)
+    values-of B fnil ρ h S = no-field
+    values-of B (fcons t ts) ρ h S = field (value-of B t ρ (h .0) S) (values-of B ts ρ (h .1) S)
+
+  -- The raw value of a question's normal form.
+  pub normal-of : (t : NormalForm) → Rooted C D (λ g. false) (asForm t) → Of (typeOf C (asForm t)) (normalValue raw D t)
+  unfolding normalValue
+  normal-of t h = value-of (λ g. false) (asForm t) (λ g. junk) h (λ g. refl)

@@ -1,0 +1,7 @@
+-- Values as their written words show them: which values a type has, how words are skipped and compared by a type, and the
+-- type that the words of a normal form stand for.
+pub mod Typed
+pub mod Reading
+pub mod Columns
+pub mod Shape
+pub mod Skips

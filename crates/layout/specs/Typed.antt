@@ -1,0 +1,23 @@
+-- The values of a type.
+use mathlib.Core.Bool.{Bool}
+use lib.IntN.{ℤ}
+use Rattle.calculus.specs.Syntax.{Collection}
+use Rattle.calculus.specs.Value.{Value, Values, num, truth, rec, coll, vnil, vcons}
+use Rattle.checks.specs.Types.{Ty, Tys, number, record′, ynil, ycons}
+use Rattle.checks.specs.Types as Ty
+
+mutual
+  pub data Of : Ty → Value → Type 0 where
+    a-number : (z : ℤ) → Of number (num z)
+    a-truth : (b : Bool) → Of Ty.truth (truth b)
+    a-record : {ts : Tys} {vs : Values} → OfEach ts vs → Of (record′ ts) (rec vs)
+    a-collection : (c : Collection) {t : Ty} {vs : Values} → AllOf t vs → Of (Ty.coll c t) (coll vs)
+
+  -- field by field
+  pub data OfEach : Tys → Values → Type 0 where
+    no-field : OfEach ynil vnil
+    field : {t : Ty} {ts : Tys} {v : Value} {vs : Values} → Of t v → OfEach ts vs → OfEach (ycons t ts) (vcons v vs)
+
+  pub data AllOf : Ty → Values → Type 0 where
+    no-element : {t : Ty} → AllOf t vnil
+    element : {t : Ty} {v : Value} {vs : Values} → Of t v → AllOf t vs → AllOf t (vcons v vs)

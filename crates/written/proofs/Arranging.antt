@@ -1,0 +1,118 @@
+-- Laws of arranging: it keeps types, leaves a collection no more elements, and does not see how many columns a row has.
+use mathlib.Core.Path.{_≡_, refl, sym, ap, ap₂, subst, fun-ext}
+use mathlib.Core.Bool.{Bool, true, false}
+use mathlib.Core.List.{List, [], _∷_, map}
+use Prim.Native.Nat.{ℕ, zero, suc, _≤_}
+use native.Mathlib.Omega.{arith}
+use lib.ListN.{length}
+use Rattle.calculus.specs.Syntax.{Collection, list, bag, set, Monoid, of, sum, max, some, all}
+use Rattle.calculus.specs.Value.{Value, Values, vnil, vcons, count, toList, fromList}
+use Rattle.calculus.specs.Value as Va
+use Rattle.calculus.specs.Order.{leV, put}
+use Rattle.calculus.specs.Monoid.{foldBy, ordered}
+use Rattle.calculus.proofs.Lists.{All}
+use Rattle.calculus.proofs.Sorting.{rearranged-sym, all-rearranged, all-repeated, sortDistinct, put-eq, put-lt, put-gt, sort-rearranges, distinct-repeats}
+use Rattle.calculus.proofs.Order.{V-total}
+use Rattle.calculus.proofs.Folds.{arranged}
+use Rattle.checks.specs.Types.{Ty, Tys, record′, coll, cells}
+use Rattle.checks.proofs.Refold.{onParts, refold, refolds, gathered, arrangeAs, arrange-coll, rows-kept}
+use Rattle.normal_form.specs.Form.{Form, Forms, row, cell, rec, bin, negate, comp, fnil, fcons}
+use Rattle.normal_form.specs.Form as Fo
+use Rattle.normal_form.proofs.Arranged.{shape, shapes, arrange}
+use Rattle.outcome.specs.Written.{words, wordsL}
+use Rattle.layout.specs.Shape.{typeOf, typesOf}
+use Rattle.layout.specs.Typed.{Of, a-number, a-truth, a-record, a-collection, OfEach, no-field, field, AllOf, no-element, element}
+use Rattle.layout.proofs.Values.{from-all}
+use Rattle.ordering.proofs.Elements.{rearranged-count}
+
+-- ---- elements as a list
+pub count-from : (l : List Value) → count (fromList l) ≡ length l
+unfolding count
+count-from [] = refl
+count-from (v ∷ l) = ap suc (count-from l)
+
+-- ---- a collection has no more elements than it was made of
+put-count : (v : Value) (l : List Value) → length (put leV v l) ≤ suc (length l)
+unfolding put
+put-count v [] = omega arith
+put-count v (w ∷ l) = go (leV v w) (leV w v) refl refl (put-count v l)
+  where
+    go : (b c : Bool) → leV v w ≡ b → leV w v ≡ c → length (put leV v l) ≤ suc (length l) → length (put leV v (w ∷ l)) ≤ suc (length (w ∷ l))
+    go true true p q h = rw (put-eq leV v w l p q) (omega arith)
+    go true false p q h = rw (put-lt leV v w l p q) (omega arith)
+    go false c p q h = rw (put-gt leV v w l p) (omega arith)
+
+distinct-count : (l : List Value) → length (sortDistinct leV l) ≤ length l
+unfolding sortDistinct
+distinct-count [] = omega arith
+distinct-count (v ∷ l) = omega (arith, put-count v (sortDistinct leV l), distinct-count l)
+
+pub arranged-count : (c : Collection) (l : List Value) → length (arranged c l) ≤ length l
+unfolding arranged
+arranged-count list l = omega arith
+arranged-count bag l = omega (arith, rearranged-count (sort-rearranges leV l))
+arranged-count set l = distinct-count l
+
+-- ---- types are kept
+arranged-all : (P : Value → Type 0) (c : Collection) (l : List Value) → All P l → All P (arranged c l)
+unfolding arranged
+arranged-all P list l h = h
+arranged-all P bag l h = all-rearranged P (rearranged-sym (sort-rearranges leV l)) h
+arranged-all P set l h = all-repeated P (distinct-repeats leV V-total l) .1 h
+
+mutual
+  unfolding refold onParts
+
+  pub arrange-of : (t : Ty) (v : Value) → Of t v → Of t (arrangeAs t v)
+  arrange-of t v (a-number z) = a-number z
+  arrange-of t v (a-truth b) = a-truth b
+  arrange-of t v (a-record {ts = ts} {vs = vs} h) = a-record (arrange-each ts vs h)
+  arrange-of t v (a-collection c {t = u} {vs = vs} h) = subst (Of (coll c u)) (sym (arrange-coll c u vs)) (a-collection c (from-all (arranged c (map (arrangeAs u) (toList vs))) (arranged-all (Of u) c (map (arrangeAs u) (toList vs)) (arrange-all u vs h))))
+
+  arrange-each : (ts : Tys) (vs : Values) → OfEach ts vs → OfEach ts (refolds ordered ts vs)
+  arrange-each ts vs no-field = no-field
+  arrange-each ts vs (field {t = t} {ts = us} {v = v} {vs = ws} h k) = field (arrange-of t v h) (arrange-each us ws k)
+
+  arrange-all : (t : Ty) (vs : Values) → AllOf t vs → All (Of t) (map (arrangeAs t) (toList vs))
+  arrange-all t vs no-element = tt
+  arrange-all t vs (element {v = v} {vs = ws} h k) = (arrange-of t v h, arrange-all t ws k)
+
+pub arrange-list : (t : Ty) (l : List Value) → All (Of t) l → All (Of t) (map (arrangeAs t) l)
+arrange-list t [] h = tt
+arrange-list t (v ∷ l) h = (arrange-of t v (h .0), arrange-list t l (h .1))
+
+-- ---- a table row is as it is
+pub row-words : (n : ℕ) (vs : Values) → OfEach (cells n) vs → length (wordsL vs) ≡ n
+unfolding cells words
+row-words zero vs no-field = refl
+row-words (suc n) vs (field {vs = ws} (a-number z) k) = ap suc (row-words n ws k)
+
+pub row-same : (n : ℕ) (v : Value) → arrangeAs (record′ (cells n)) v ≡ v
+row-same n v = let e = rows-kept ordered n (v ∷ []) in cc
+
+gathered-same : (m : Monoid) (t u : Ty) → ((w : Value) → arrangeAs t w ≡ arrangeAs u w) → (v : Value) → arrangeAs (gathered m t) v ≡ arrangeAs (gathered m u) v
+unfolding gathered refold
+gathered-same (of c) t u h v = ap (λ (f : Value → Value). onParts Va.rec (λ vs. foldBy ordered (of c) (map f (toList vs))) v) (fun-ext h)
+gathered-same sum t u h v = refl
+gathered-same max t u h v = refl
+gathered-same some t u h v = refl
+gathered-same all t u h v = refl
+
+-- ---- The type of a normal form arranges a value as the normal form does: it tells a row's columns besides.
+mutual
+  unfolding typeOf shape refold
+
+  pub arrange-type : (C : ℕ → ℕ) (t : Form) (v : Value) → arrangeAs (typeOf C t) v ≡ arrange t v
+  arrange-type C (Fo.num z) v = refl
+  arrange-type C (Fo.truth b) v = refl
+  arrange-type C (row g) v = row-same (C g) v
+  arrange-type C (cell i g) v = refl
+  arrange-type C (rec ts) v = ap (λ r. onParts r Va.coll v) (fun-ext λ vs. ap Va.rec (arrange-types C ts vs))
+  arrange-type C (bin o t u) v = refl
+  arrange-type C (negate t) v = refl
+  arrange-type C (comp m q h) v = gathered-same m (typeOf C h) (shape h) (λ w. arrange-type C h w) v
+
+  arrange-types : (C : ℕ → ℕ) (ts : Forms) (vs : Values) → refolds ordered (typesOf C ts) vs ≡ refolds ordered (shapes ts) vs
+  arrange-types C fnil vs = refl
+  arrange-types C (fcons t ts) vnil = refl
+  arrange-types C (fcons t ts) (vcons v vs) = ap₂ vcons (arrange-type C t v) (arrange-types C ts vs)
