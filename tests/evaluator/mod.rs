@@ -1,0 +1,167 @@
+//! A second evaluator of document 01, written from its text alone and as literally as it can be:
+//! trees are rewritten, streams are kept whole, and nothing is fast. It serves the four calls
+//! and says `Unknown` where an input would take it too long.
+
+mod bounds;
+mod budget;
+mod checks;
+mod meaning;
+mod normal;
+mod operators;
+mod plan;
+mod reader;
+mod tables;
+mod terms;
+mod values;
+
+use budget::Stop;
+pub use budget::Unknown;
+use tables::Table;
+use terms::Comprehension;
+
+/// "31: scratch under 8,192 words."
+const SCRATCH: usize = 8192;
+
+/// What an answering call gives.
+#[derive(Clone, Debug, Default, PartialEq, Eq)]
+pub struct Answer {
+    /// 0, or the refusal's number.
+    pub number: u32,
+    /// Words of the answer; 0 at a refusal.
+    pub length: u64,
+    /// The answer's words; in the lent buffer 0 follows them up to G.
+    pub words: Vec<i64>,
+    /// G; 0 at a refusal other than 32.
+    pub greatest: u64,
+    /// By plan: pairs of a stream row without a pad and a table row, over all joins and outers.
+    pub offered: u64,
+}
+
+/// The checker: number and length, the length always 0. "The checker takes no answer buffer and
+/// ends after 28."
+pub fn check(data: &[u8], question: &[u8], scratch: usize) -> Result<(u32, u64), Unknown> {
+    let accepted = accept(data, question, scratch).map(|_| (0, 0));
+    refusal_or(accepted, |number| (number, 0))
+}
+
+/// The answer by loops, over the question as typed.
+pub fn by_loops(
+    data: &[u8],
+    question: &[u8],
+    scratch: usize,
+    answer_words: u64,
+) -> Result<Answer, Unknown> {
+    answered(data, question, scratch, answer_words, |accepted| {
+        let words = meaning::answer_by_loops(&accepted.question, &accepted.tables)?;
+        Ok((words, 0))
+    })
+}
+
+/// The answer by plan, from the operators' definitions.
+pub fn by_plan(
+    data: &[u8],
+    question: &[u8],
+    scratch: usize,
+    answer_words: u64,
+) -> Result<Answer, Unknown> {
+    answered(data, question, scratch, answer_words, |accepted| {
+        let plan = plan::make_plan(&accepted.form)?;
+        let run = operators::answer_by_plan(&plan, &accepted.tables)?;
+        Ok((run.words, run.offered))
+    })
+}
+
+/// The plan's lines; at a refusal its number and no bytes. The length is that of the bytes.
+pub fn plan_lines(
+    data: &[u8],
+    question: &[u8],
+    scratch: usize,
+    buffer_bytes: usize,
+) -> Result<(u32, Vec<u8>), Unknown> {
+    let lines = accept(data, question, scratch).and_then(|accepted| {
+        let lines = plan::lines_of(&plan::make_plan(&accepted.form)?).into_bytes();
+        // "33: the plan call's byte buffer is shorter than the plan's lines."
+        if buffer_bytes < lines.len() {
+            return Err(Stop::Refused(33));
+        }
+        Ok((0, lines))
+    });
+    refusal_or(lines, |number| (number, Vec::new()))
+}
+
+/// For tests of the evaluator itself: whether the normal form is one, by the six rules and the
+/// node count alone. True for a question that is refused.
+pub fn normal_form_holds(data: &[u8], question: &[u8]) -> Result<bool, Unknown> {
+    let holds = accept(data, question, SCRATCH).map(|accepted| {
+        normal::no_rule_applies(&accepted.form) && normal::nodes_of(&accepted.form) <= 512
+    });
+    refusal_or(holds, |_| true)
+}
+
+/// A question that the checker answers with 0.
+struct Accepted {
+    tables: Vec<Table>,
+    question: Comprehension,
+    form: Comprehension,
+}
+
+/// "Order: 31; the data ...; 21; 22 and 23 in reading order ...; then 24 to 28 by number, each
+/// over the whole question".
+fn accept(data: &[u8], question: &[u8], scratch: usize) -> Result<Accepted, Stop> {
+    if scratch < SCRATCH {
+        return Err(Stop::Refused(31));
+    }
+    let tables = tables::read_tables(data)?;
+    let question = reader::read_question(question)?;
+    checks::check_names(&question)?;
+    checks::check_types(&question, &tables)?;
+    let form = normal::normal_form(&question, &tables)?;
+    bounds::check_bounds(&form)?;
+    Ok(Accepted {
+        tables,
+        question,
+        form,
+    })
+}
+
+/// "32: the answer buffer has fewer than G words", then the words and the pairs offered.
+fn answered(
+    data: &[u8],
+    question: &[u8],
+    scratch: usize,
+    answer_words: u64,
+    evaluate: impl Fn(&Accepted) -> Result<(Vec<i64>, u64), Stop>,
+) -> Result<Answer, Unknown> {
+    let answer = accept(data, question, scratch).and_then(|accepted| {
+        let greatest = meaning::greatest_length(&accepted.form, &accepted.tables)?;
+        if answer_words < greatest {
+            return Ok(Answer {
+                number: 32,
+                greatest,
+                ..Answer::default()
+            });
+        }
+        let (words, offered) = evaluate(&accepted)?;
+        let length = u64::try_from(words.len()).unwrap_or(u64::MAX);
+        Ok(Answer {
+            number: 0,
+            length,
+            words,
+            greatest,
+            offered,
+        })
+    });
+    refusal_or(answer, |number| Answer {
+        number,
+        ..Answer::default()
+    })
+}
+
+/// A refusal as a reply, a give-up as `Unknown`.
+fn refusal_or<T>(reply: Result<T, Stop>, refused: impl Fn(u32) -> T) -> Result<T, Unknown> {
+    match reply {
+        Ok(reply) => Ok(reply),
+        Err(Stop::Refused(number)) => Ok(refused(number)),
+        Err(Stop::Unknown(reason)) => Err(Unknown(reason)),
+    }
+}

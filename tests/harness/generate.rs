@@ -1,0 +1,131 @@
+//! Inputs for the calls of document 01: the same data and question for the same seed and index.
+
+mod breaks;
+mod doublings;
+mod limits;
+mod nodes;
+mod random;
+mod typed;
+
+use nodes::{data_bytes, Node, Stored};
+use random::Random;
+use typed::{random_tables, Size, Writer};
+
+/// What an input was made to be. What it is, only an evaluator can tell.
+#[derive(Clone, Copy, Debug, PartialEq, Eq, PartialOrd, Ord)]
+pub enum Family {
+    WellTyped,
+    ForbiddenGenerator,
+    BrokenMeaning,
+    BrokenRecord,
+    BrokenBytes,
+    BrokenData,
+    Levels,
+    Records,
+    Bytes,
+    Nodes,
+    Bounds,
+    Rows,
+    Doubling,
+}
+
+/// Families with their weights, of 1,000.
+const FAMILIES: [(Family, usize); 13] = [
+    (Family::WellTyped, 470),
+    (Family::ForbiddenGenerator, 40),
+    (Family::BrokenMeaning, 120),
+    (Family::BrokenRecord, 60),
+    (Family::BrokenBytes, 70),
+    (Family::BrokenData, 70),
+    (Family::Levels, 25),
+    (Family::Records, 20),
+    (Family::Bytes, 20),
+    (Family::Nodes, 20),
+    (Family::Bounds, 30),
+    (Family::Rows, 5),
+    (Family::Doubling, 50),
+];
+
+/// Data and question of an index.
+pub fn generate(seed: u64, index: u64) -> (Vec<u8>, Vec<u8>) {
+    let (_, data, question) = generate_named(seed, index);
+    (data, question)
+}
+
+/// The same, with the family it belongs to.
+pub fn generate_named(seed: u64, index: u64) -> (Family, Vec<u8>, Vec<u8>) {
+    let mut random = Random::new(seed, index);
+    let position = random.weighted(&FAMILIES.map(|(_, weight)| weight));
+    let family = FAMILIES
+        .get(position)
+        .map_or(Family::WellTyped, |(family, _)| *family);
+    let (data, question) = input_of(&mut random, family);
+    (family, data, question)
+}
+
+fn input_of(random: &mut Random, family: Family) -> (Vec<u8>, Vec<u8>) {
+    let tables = random_tables(random);
+    let data = data_bytes(&tables);
+    match family {
+        Family::WellTyped => (data, written(random, &tables, false).bytes()),
+        Family::ForbiddenGenerator => (data, written(random, &tables, true).bytes()),
+        Family::BrokenMeaning => {
+            let mut question = written(random, &tables, false);
+            for _ in 0..random.between(1, 2) {
+                breaks::break_meaning(random, &mut question);
+            }
+            (data, question.bytes())
+        }
+        Family::BrokenRecord => {
+            let mut question = written(random, &tables, false);
+            breaks::break_record(random, &mut question);
+            (data, question.bytes())
+        }
+        Family::BrokenBytes => (data, broken_bytes(random, &tables)),
+        Family::BrokenData => {
+            let question = broken_or_whole(random, &tables);
+            (breaks::broken_data(random, &tables), question)
+        }
+        Family::Levels => (data, perhaps_broken(random, limits::of_levels)),
+        Family::Records => (data, perhaps_broken(random, limits::of_records)),
+        Family::Bytes => (data, limits::of_bytes(random)),
+        Family::Nodes => (data, limits::of_nodes(random).bytes()),
+        Family::Bounds => with_own_tables(limits::of_bounds(random)),
+        Family::Rows => with_own_tables(limits::of_rows(random)),
+        Family::Doubling => with_own_tables(doublings::random_doubling(random)),
+    }
+}
+
+/// A well-typed question over the tables.
+fn written(random: &mut Random, tables: &[Stored], lawless: bool) -> Node {
+    let size = Size::random(random);
+    Writer::new(random, tables, size, lawless).question()
+}
+
+fn broken_bytes(random: &mut Random, tables: &[Stored]) -> Vec<u8> {
+    let mut bytes = written(random, tables, false).bytes();
+    for _ in 0..random.between(1, 2) {
+        breaks::break_bytes(random, &mut bytes);
+    }
+    bytes
+}
+
+fn broken_or_whole(random: &mut Random, tables: &[Stored]) -> Vec<u8> {
+    if random.chance(30) {
+        return broken_bytes(random, tables);
+    }
+    written(random, tables, false).bytes()
+}
+
+/// A question at a limit, sometimes with broken bytes: the order of 22 and 23.
+fn perhaps_broken(random: &mut Random, make: fn(&mut Random) -> Node) -> Vec<u8> {
+    let mut bytes = make(random).bytes();
+    if random.chance(25) {
+        breaks::break_bytes(random, &mut bytes);
+    }
+    bytes
+}
+
+fn with_own_tables((tables, question): (Vec<Stored>, Node)) -> (Vec<u8>, Vec<u8>) {
+    (data_bytes(&tables), question.bytes())
+}

@@ -1,0 +1,166 @@
+//! Records to be written: "two bytes of content length, two bytes of kind, content".
+
+pub const LIST: u8 = 1;
+pub const BAG: u8 = 2;
+pub const SET: u8 = 3;
+pub const SUM: u8 = 4;
+pub const MAX: u8 = 5;
+pub const SOME: u8 = 6;
+pub const ALL: u8 = 7;
+
+pub const NUMBER: u16 = 1;
+pub const TRUTH: u16 = 2;
+pub const NAME: u16 = 3;
+pub const FIELD: u16 = 4;
+pub const RECORD: u16 = 5;
+pub const PLUS: u16 = 6;
+pub const MINUS: u16 = 7;
+pub const TIMES: u16 = 8;
+pub const EQUAL: u16 = 9;
+pub const LESS: u16 = 10;
+pub const AND: u16 = 11;
+pub const OR: u16 = 12;
+pub const NOT: u16 = 13;
+pub const COMPREHENSION: u16 = 14;
+pub const TABLE: u16 = 15;
+pub const GENERATOR: u16 = 16;
+pub const BINDING: u16 = 17;
+pub const CONDITION: u16 = 18;
+pub const STORED: u16 = 20;
+
+/// A record of a question: its kind, its own bytes, the records in it.
+#[derive(Clone, Debug)]
+pub struct Node {
+    pub kind: u16,
+    pub fixed: Vec<u8>,
+    pub parts: Vec<Node>,
+}
+
+fn node(kind: u16, fixed: &[u8], parts: Vec<Node>) -> Node {
+    Node {
+        kind,
+        fixed: fixed.to_vec(),
+        parts,
+    }
+}
+
+pub fn number(value: i32) -> Node {
+    node(NUMBER, &value.to_le_bytes(), Vec::new())
+}
+
+pub fn truth(value: bool) -> Node {
+    node(TRUTH, &[u8::from(value)], Vec::new())
+}
+
+pub fn name(value: u16) -> Node {
+    node(NAME, &value.to_le_bytes(), Vec::new())
+}
+
+pub fn field(index: u8, inner: Node) -> Node {
+    node(FIELD, &[index], vec![inner])
+}
+
+pub fn record(fields: Vec<Node>) -> Node {
+    node(RECORD, &[], fields)
+}
+
+pub fn two(kind: u16, left: Node, right: Node) -> Node {
+    node(kind, &[], vec![left, right])
+}
+
+pub fn not(inner: Node) -> Node {
+    node(NOT, &[], vec![inner])
+}
+
+pub fn table(number: u8) -> Node {
+    node(TABLE, &[number], Vec::new())
+}
+
+pub fn generator(name: u16, inner: Node) -> Node {
+    node(GENERATOR, &name.to_le_bytes(), vec![inner])
+}
+
+pub fn binding(name: u16, inner: Node) -> Node {
+    node(BINDING, &name.to_le_bytes(), vec![inner])
+}
+
+pub fn condition(inner: Node) -> Node {
+    node(CONDITION, &[], vec![inner])
+}
+
+pub fn comprehension(monoid: u8, qualifiers: Vec<Node>, head: Node) -> Node {
+    let mut parts = qualifiers;
+    parts.push(head);
+    node(COMPREHENSION, &[monoid], parts)
+}
+
+impl Node {
+    pub fn bytes(&self) -> Vec<u8> {
+        let mut content = self.fixed.clone();
+        for part in &self.parts {
+            content.extend(part.bytes());
+        }
+        record_bytes(self.kind, &content)
+    }
+
+    /// Records in the tree.
+    pub fn count(&self) -> usize {
+        self.parts
+            .iter()
+            .map(Node::count)
+            .fold(1, usize::saturating_add)
+    }
+
+    /// The record at a position of the written order; the first is 0.
+    pub fn at(&mut self, position: usize) -> Option<&mut Node> {
+        let Some(mut left) = position.checked_sub(1) else {
+            return Some(self);
+        };
+        for part in &mut self.parts {
+            let count = part.count();
+            if left < count {
+                return part.at(left);
+            }
+            left = left.saturating_sub(count);
+        }
+        None
+    }
+}
+
+/// A record with a length that fits its content.
+pub fn record_bytes(kind: u16, content: &[u8]) -> Vec<u8> {
+    let length = u16::try_from(content.len()).unwrap_or(u16::MAX);
+    let mut bytes = length.to_le_bytes().to_vec();
+    bytes.extend(kind.to_le_bytes());
+    bytes.extend(content);
+    bytes
+}
+
+/// A table to be written.
+#[derive(Clone, Debug)]
+pub struct Stored {
+    pub collection: u8,
+    pub columns: usize,
+    pub rows: Vec<Vec<i32>>,
+}
+
+impl Stored {
+    pub fn content(&self) -> Vec<u8> {
+        let columns = u8::try_from(self.columns).unwrap_or(u8::MAX);
+        let rows = u16::try_from(self.rows.len()).unwrap_or(u16::MAX);
+        let mut content = vec![self.collection, columns];
+        content.extend(rows.to_le_bytes());
+        for cell in self.rows.iter().flatten() {
+            content.extend(cell.to_le_bytes());
+        }
+        content
+    }
+
+    pub fn bytes(&self) -> Vec<u8> {
+        record_bytes(STORED, &self.content())
+    }
+}
+
+pub fn data_bytes(tables: &[Stored]) -> Vec<u8> {
+    tables.iter().flat_map(Stored::bytes).collect()
+}
