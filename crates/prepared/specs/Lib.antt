@@ -1,0 +1,2 @@
+-- An accepted question in scratch.
+pub mod Prepared
