@@ -4,22 +4,22 @@ use mathlib.Core.Bool.{Bool, true, false, _||_}
 use mathlib.Core.List.{List, [], _∷_, _++_}
 use Prim.Native.Nat.{ℕ, suc, _+_, _-_, _*_, _<_, _≤_}
 use native.Mathlib.Omega.{arith}
-use lib.ListN.{length, getD, set}
+use lib.ListN.{length, getD}
 use lib.IntN.{ℤ}
 use Rattle.calculus.specs.Lists.{pick}
 use Rattle.calculus.specs.Syntax.{Collection, Monoid, of, Bin}
-use Rattle.normal_form.specs.Form.{Form, Forms, Clauses, gens, gensF, gensC}
+use Rattle.normal_form.specs.Form.{Clauses, gens, gensF, gensC}
 use Rattle.normal_form.specs.Form as Nf
-use Rattle.normal_form.specs.Normal.{Sem, Sems, row, fields, both, nested, plain, snil, scons, quote, quotes, idempotent, givesWay, one, condition, ranges, binary}
+use Rattle.normal_form.specs.Normal.{Sem, Sems, row, fields, both, nested, plain, snil, scons, quote, quotes, idempotent, givesWay, condition, binary}
 use Rattle.normal_form.specs.Size.{nodesC}
 use Rattle.nodes.specs.Node.{Node, Nodes, ngen, ncond}
 use Rattle.nodes.specs.Flat.{Env, enter, At, qualOf, clausesOf, compOf}
 use Rattle.nodes.specs.Word.{Label, Word, word, wnum, wtruth, wrow, wcell, wrec, wnegate, wcond, wbin, wcomp, wgen, words, wordsF, wordsC, flat, flatF, flatC}
-use Rattle.nodes.specs.Emit.{state, puts, mark, markGen, tell, tellF, tellC, Emits, EmitsF, EmitsQ}
+use Rattle.nodes.specs.Emit.{state, puts, mark, markGen, tellC, Emits, EmitsF, EmitsQ}
 use Rattle.nodes.specs.Emit as No
 use Rattle.nodes.proofs.Counts.{sizes, sizesF, sizesC, flat-length, flat-lengthF, flat-lengthC}
 use Rattle.nodes.proofs.Emit as Em
-use Rattle.form.specs.Packing.{formAt, places, pack}
+use Rattle.form.specs.Packing.{pack}
 use Rattle.form.specs.Flat.{numberArg, opArg, monoidArg}
 use Rattle.emit.specs.declared.State.{State}
 use Rattle.emit.specs.Start.{Room}

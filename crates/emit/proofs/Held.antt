@@ -1,16 +1,16 @@
 -- The words that were laid are those of the form, and scratch holds them.
 use mathlib.Core.Path.{_≡_, refl, sym, ap, ap₂, subst, _∙_}
-use mathlib.Core.Logic.{_⊎_, ⊎-elim}
+use mathlib.Core.Logic.{⊎-elim}
 use mathlib.Core.Bool.{true}
 use mathlib.Core.List.{List, [], _∷_, _++_}
-use Prim.Native.Nat.{ℕ, suc, _+_, _*_, _<_, _≤_}
+use Prim.Native.Nat.{ℕ, suc, _+_, _*_, _≤_}
 use native.Mathlib.Omega.{arith}
 use lib.ListN.{length, getD, length-set}
 use lib.Seq.{getD-set-same}
 use Rattle.calculus.specs.Syntax.{Question, asTerm}
 use Rattle.checks.specs.Scope.{namesHold}
 use Rattle.normal_form.specs.Form.{Form, Forms, Clauses, num, truth, row, cell, rec, bin, negate, comp, fnil, fcons, done, gen, cond, asForm}
-use Rattle.normal_form.specs.Normal.{Sem, quote, normal}
+use Rattle.normal_form.specs.Normal.{quote, normal}
 use Rattle.normal_form.specs.Size.{nodes}
 use Rattle.nodes.specs.Flat.{outside}
 use Rattle.nodes.specs.Tree.{noNames, Placed}
@@ -23,7 +23,7 @@ use Rattle.nodes.specs.Emit as No
 use Rattle.nodes.proofs.Counts.{sizes, flat-length}
 use Rattle.nodes.proofs.Local.{sem-local}
 use Rattle.nodes.proofs.Saturated.{written}
-use Rattle.form.specs.Packing.{formAt, places, wordAt, pack}
+use Rattle.form.specs.Packing.{formAt, places, pack}
 use Rattle.form.specs.Flat.{size, sizeF, sizeC, flat, flatF, flatC, opArg, monoidArg, Holds}
 use Rattle.decode.specs.Decode.{depthAt, nodesOf}
 use Rattle.decode.proofs.PostOrder.{post-order}
@@ -137,15 +137,16 @@ module _ {s : List ℕ} {i : ℕ} (W : Writable s i) (l : List ℕ) where
       }
 
 -- ---- the normal form
--- Where the scratch holds a question whose names hold, with offsets that are right up to 513, and its normal form has at most
--- 512 nodes, its words are those of the normal form.
-module _ (s : List ℕ) (i : ℕ) (q : Question) (O : Placed left (collections s) (nodesOf s) (depthAt s) (offsets s)) (H : Tr.Holds (nodesOf s) (depthAt s) (asTerm q) i 0 noNames) (h : namesHold q ≡ true)
-    (l : nodes (asForm (normal (collections s) q)) ≤ places) where
-  form-normal : formOf s i ≡ asForm (normal (collections s) q)
-  form-normal = written (collections s) (nodesOf s) (post-order s) (depthAt s) (offsets s) O q i outside H h l
+-- what the root writes is t
+module _ (s : List ℕ) (i : ℕ) {t : Form} (e : formOf s i ≡ t) where
+  pub form-short : nodes t ≤ places → words (formOf s i) ≤ places
+  form-short h = let c = sizes t .1 in subst (λ u. words u ≤ places) (sym e) (omega arith)
 
-  pub normal-short : words (formOf s i) ≤ places
-  normal-short = let c = sizes (asForm (normal (collections s) q)) .1 in subst (λ t. words t ≤ places) (sym form-normal) (omega arith)
+  pub form-held : {s′ : List ℕ} {r : ℕ} → WritesForm s i s′ r → Holds s′ 0 (flat t) × (r ≡ size t)
+  form-held {s′} W = (subst (λ u. Holds s′ 0 (flat u)) e (W .held), W .number ∙ ap size e)
 
-  pub normal-held : {s′ : List ℕ} {r : ℕ} → WritesForm s i s′ r → Holds s′ 0 (flat (asForm (normal (collections s) q)))
-  normal-held {s′} W = subst (λ t. Holds s′ 0 (flat t)) form-normal (W .held)
+-- Where the table holds a question whose names hold, with offsets that are right up to 513, and its normal form has at most
+-- 512 nodes, that is the normal form.
+pub form-normal : (s : List ℕ) (i : ℕ) (q : Question) → Placed left (collections s) (nodesOf s) (depthAt s) (offsets s) → Tr.Holds (nodesOf s) (depthAt s) (asTerm q) i 0 noNames → namesHold q ≡ true
+    → nodes (asForm (normal (collections s) q)) ≤ places → formOf s i ≡ asForm (normal (collections s) q)
+form-normal s i q O H h l = written (collections s) (nodesOf s) (post-order s) (depthAt s) (offsets s) O q i outside H h l

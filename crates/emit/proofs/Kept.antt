@@ -19,7 +19,7 @@ use Rattle.question.specs.Layout.{bindersAt}
 use Rattle.question.specs.Packing.{nodeWord}
 use Rattle.form.specs.Packing.{formAt}
 use Rattle.sizes.specs.declared.Count.{Count}
-use Rattle.sizes.specs.Packing.{wordAt, firstPair, secondPair, thirdPair, conditionCount, stored}
+use Rattle.sizes.specs.Packing.{wordAt, secondPair, thirdPair, conditionCount, stored}
 use Rattle.decode.specs.Decode.{most, depthAt, childrenOf, qualifiersOf, nodesOf, nodeBy}
 use Rattle.decode.specs.Levels.{AllAt, Level}
 use Rattle.decode.proofs.PostOrder.{post-order}

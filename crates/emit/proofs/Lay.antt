@@ -1,19 +1,14 @@
 -- Words laid into scratch: where they end, what stays as it was, and that a word may be laid after those behind it.
-use mathlib.Core.Path.{_≡_, refl, sym, ap, ap₂, _∙_}
-use mathlib.Core.Bool.{Bool, false}
+use mathlib.Core.Path.{_≡_, refl, sym, ap, _∙_}
 use mathlib.Core.List.{List, [], _∷_}
-use Prim.Native.Nat.{ℕ, suc, _+_, _-_, _<_, _≤_}
+use Prim.Native.Nat.{ℕ, _+_, _<_, _≤_}
 use native.Mathlib.Omega.{arith}
 use lib.ListN.{length, getD, set, length-set}
 use lib.Seq.{getD-set-other, set-comm}
-use Rattle.normal_form.specs.Form.{Form, Forms, Clauses, gens, gensF, gensC}
-use Rattle.normal_form.specs.Normal.{Sem, Sems, quote, quotes, condition, ranges}
-use Rattle.nodes.specs.Word.{Word, words, wordsF, wordsC, flat, flatF, flatC}
-use Rattle.nodes.specs.Emit.{State, state, puts, mark, tell, tellF, tellC}
-use Rattle.nodes.proofs.Counts.{flat-length, flat-lengthC}
+use Rattle.nodes.specs.Word.{Word, words}
+use Rattle.nodes.specs.Emit.{State, state, puts}
 use Rattle.form.specs.Packing.{formAt}
-use Rattle.emit.specs.declared.State as De
-use Rattle.emit.specs.Wrote.{packed, Buffer, buffer, put, stateOf, behind, Emitted, EmittedF, EmittedC, EmittedQ}
+use Rattle.emit.specs.Wrote.{packed, Buffer, buffer, put}
 
 -- ---- words one behind the other
 pub puts-place : (l : List Word) (b : Buffer) → puts put l b .place ≡ b .place + length l

@@ -2,8 +2,11 @@
 pub mod Lay
 pub mod Kept
 pub mod Done
-pub mod Begin
-pub mod Clauses
-pub mod Shapes
+pub mod Terms
+pub mod Copies
+pub mod Conditions
+pub mod Leaves
 pub mod Small
 pub mod Held
+pub mod Tables
+pub mod Fits

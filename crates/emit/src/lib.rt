@@ -207,7 +207,7 @@ fn copy(h: Place, m: Monoid, v: bool, n: u64) -> [u64; 32]
 }
 
 // Node i as a term.
-pub fn emit(s: &mut [u64], i: usize, depth: usize, env: [u64; 32], st: State) -> State
+fn emit(s: &mut [u64], i: usize, depth: usize, env: [u64; 32], st: State) -> State
     requires { ⌜ TermAt (now s) i depth env st ⌝ }
     ensures { λ r. ⌜ Emitted (semS (now (s .entry)) i depth (envOf env)) (now (s .entry)) st (now (s .exit)) r ⌝ }
 {

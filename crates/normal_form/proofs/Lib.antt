@@ -7,6 +7,7 @@ pub mod Embed
 pub mod Agree
 pub mod Proper
 pub mod Numbered
+pub mod Ranges
 pub mod Substitute
 pub mod Rules
 pub mod Place

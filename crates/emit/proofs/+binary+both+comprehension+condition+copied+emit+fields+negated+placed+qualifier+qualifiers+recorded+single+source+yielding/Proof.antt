@@ -5,9 +5,10 @@ use Prim.Native.Nat.{_+_, _-_, _*_, ℕ, _<_}
 use Rattle.decode.proofs.Laws.{recast, looked-inside}
 use Rattle.resolve.proofs.Laws.{picks-cast}
 use Rattle.emit.proofs.Done.{moved, movedF, movedQ, one-done, qual-source, qual-condition}
-use Rattle.emit.proofs.Begin.{term-place, condition-place, source-place, term-done, condition-done, source-done, has-place, two-below, not-below, comp-below, ends, ends-later, two-first, two-second, two-done, not-first, not-done, record-first, record-done, no-fields, field-first, field-next, field-done, one-has-place, one-first}
-use Rattle.emit.proofs.Clauses.{copy-ok, copy-starts, copy-done, comp-first, comp-second, comp-written, quals-end, quals-first, quals-second, quals-written, qual-skipped, qual-silent, qual-source-first, qual-condition-first}
-use Rattle.emit.proofs.Shapes.{source-comp, source-table, source-never, spliced-written, table-written, never-written, single-starts, single-written, both-first, both-second, both-written, some-first, some-second, some-written, simple-starts, simple-written, split-cast, yields-starts, yields-cast}
+use Rattle.emit.proofs.Terms.{term-place, condition-place, source-place, term-done, condition-done, source-done, has-place, two-below, not-below, comp-below, ends, ends-later, two-first, two-second, two-done, not-first, not-done, record-first, record-done, no-fields, field-first, field-next, field-done, one-has-place, one-first}
+use Rattle.emit.proofs.Copies.{copy-ok, copy-starts, copy-done, comp-first, comp-second, comp-written, quals-end, quals-first, quals-second, quals-written, qual-skipped, qual-silent, qual-source-first, qual-condition-first}
+use Rattle.emit.proofs.Conditions.{source-comp, source-table, source-never, spliced-written, table-written, never-written, single-starts, single-written, both-first, both-second, both-written, some-first, some-second, some-written, split-cast, yields-starts, yields-cast}
+use Rattle.emit.proofs.Leaves.{simple-starts, simple-written}
 use borrow.Fn.Kinds.{In}
 use borrow.Fn.PlainCycle.{Measures, is, falls, and}
 use Rattle.emit.proofs.binary.Reads as binary

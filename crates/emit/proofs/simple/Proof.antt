@@ -1,6 +1,6 @@
 use borrow.Author.Needs.{needs}
 use native.Mathlib.Omega.{arith}
-use Rattle.emit.proofs.Shapes.{one-place, cell-small, row-small, table-starts, simple-number, simple-truth, simple-row, simple-cell, simple-table, simple-rest}
+use Rattle.emit.proofs.Leaves.{one-place, cell-small, row-small, table-starts, simple-number, simple-truth, simple-row, simple-cell, simple-table, simple-rest}
 use Rattle.emit.proofs.simple.Statement.{statement}
 use Rattle.emit.proofs.simple.Tie as tie
 

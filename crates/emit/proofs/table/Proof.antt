@@ -1,7 +1,7 @@
 use borrow.Author.Needs.{needs}
 use native.Mathlib.Omega.{arith}
 use Rattle.emit.specs.Start.{collections}
-use Rattle.emit.proofs.Begin.{room-less}
+use Rattle.emit.proofs.Terms.{room-less}
 use Rattle.emit.proofs.Done.{behind-place, numbered-place, room-behind, closes-arg, table-done}
 use Rattle.emit.proofs.table.Statement.{statement}
 use Rattle.emit.proofs.table.Tie as tie

@@ -1,56 +1,46 @@
 -- What the calls for qualifiers and conditions ask, and what they come to.
 use mathlib.Core.Path.{_≡_, refl, sym, ap, ap₂, subst, _∙_}
-use mathlib.Core.Bool.{Bool, true, false}
+use mathlib.Core.Bool.{Bool, false}
 use mathlib.Core.List.{List, [], _∷_, _++_}
-use Prim.Native.Nat.{ℕ, suc, _+_, _-_, _^_, _<_, _≤_}
+use Prim.Native.Nat.{ℕ, suc, _+_, _-_, _<_, _≤_}
 use native.Mathlib.Omega.{arith}
 use types.Run.{OneOf, miss}
 use denote.Enum.Declared.{tagOf}
-use Rattle.calculus.specs.Syntax.{Bin, plus, minus, times, equal, less, and, or}
-use Rattle.normal_form.specs.Form.{Clauses, gens, gensC, _⊕_}
+use Rattle.normal_form.specs.Form.{Clauses, gensC, _⊕_}
 use Rattle.normal_form.specs.Form as Nf
-use Rattle.normal_form.specs.Normal.{Sem, quote, idempotent, givesWay, one, condition, ranges, binary}
+use Rattle.normal_form.specs.Normal.{Sem, quote}
 use Rattle.normal_form.specs.Size.{nodesC}
-use Rattle.normal_form.proofs.Writing.{condition-gives-way}
-use Rattle.normal_form.proofs.Embed.{NotAnd}
-use Rattle.nodes.specs.Node.{Node, Nodes, ncomp, ngen, ncond}
+use Rattle.nodes.specs.Node.{Node, Nodes}
 use Rattle.nodes.specs.Flat.{Env, At, qualOf, clausesOf, levels}
 use Rattle.nodes.specs.Saturated.{limit}
 use Rattle.nodes.specs.Word.{words, wordsC}
 use Rattle.nodes.specs.Emit.{tellC}
 use Rattle.nodes.proofs.Counts.{Counts, counts-append}
-use Rattle.nodes.proofs.Emit.{clauses-append, Whole, condition-whole, binary-whole, Never, ranges-never}
+use Rattle.nodes.proofs.Emit.{clauses-append}
 use Rattle.monoid.specs.declared.Monoid.{Monoid}
-use Rattle.monoid.specs.declared.Monoid.the-variants as Mo
 use Rattle.monoid.specs.Word.{monoidOf}
 use Rattle.form.specs.Flat.{monoidArg}
 use Rattle.question.specs.Tree.{startAt}
 use Rattle.sizes.specs.declared.Count.{Count}
 use Rattle.sizes.specs.Packing.{conditionCount}
-use Rattle.decode.specs.Decode.{most, depthAt, chain, qualifiersOf, nodesOf}
-use Rattle.decode.specs.Look.{binOf, nodeNamed, Looks}
+use Rattle.decode.specs.Decode.{depthAt, chain, qualifiersOf, nodesOf}
+use Rattle.decode.specs.Look.{nodeNamed, Looks}
 use Rattle.decode.specs.Levels.{AllAt, Level}
-use Rattle.decode.specs.declared.Op.{Op}
-use Rattle.decode.specs.declared.Op.the-variants as Op
 use Rattle.decode.specs.declared.Node.the-variants as Nd
 use Rattle.decode.specs.declared.Node as Dn
 use Rattle.decode.proofs.Laws.{looked-inside}
 use Rattle.decode.proofs.Chain.{chain-none, chain-more}
 use Rattle.decode.proofs.Node as node
 use Rattle.resolve.specs.Place.{envOf}
-use Rattle.resolve.specs.declared.Form.{Form}
-use Rattle.resolve.specs.declared.Form.the-variants.{Number, Truth, Row, Cell, Record, Two, Not, Comp, Table, Bad}
+use Rattle.resolve.specs.declared.Form.the-variants.{Number, Truth, Record, Two, Not, Comp, Table, Bad}
 use Rattle.resolve.specs.declared.Place.{Place}
-use Rattle.resolve.proofs.Form as form
-use Rattle.resolve.proofs.Laws.{unranged}
 use Rattle.emit.specs.declared.State.{State}
-use Rattle.emit.specs.Shape.{Single, IsComp}
-use Rattle.emit.specs.Wrote.{put, stateOf, behind, Closes, Generates, EmittedOne, Emitted, EmittedC, EmittedG, EmittedN, EmittedQ}
-use Rattle.emit.specs.Wrote as Wr
-use Rattle.emit.specs.Start.{collections, semS, placeS, flagIn, copyEnv, copyS, Copies, Room, Starts, StartsAt, StartsQ, TermAt, ConditionAt, SourceAt, QualifierAt, QualifiersAt, TermOf, ConditionOf, WholeOf, CopyOf}
-use Rattle.emit.proofs.Kept.{Kept, nodes-kept, depth-kept, sem-kept, ready-kept}
-use Rattle.emit.proofs.Done.{laid-kept, laid, laidC, laidQ, moved, movedC, movedQ, room-left, room-behind, closes-arg, one-done, comp-done, table-source, both-done, yields-done, whole-done, spliced-done, never-source, qual-none, qual-source, qual-condition, quals-none, quals-more}
-use Rattle.emit.proofs.Begin.{formS, form-is, childS, form-at, node-inside, node-level, child-starts, again, later-starts, term-before, condition-before, room-term, room-condition, room-at, room-less}
+use Rattle.emit.specs.Shape.{IsComp}
+use Rattle.emit.specs.Wrote.{put, stateOf, behind, Closes, Emitted, EmittedN, EmittedQ}
+use Rattle.emit.specs.Start.{semS, placeS, flagIn, copyEnv, copyS, Copies, Room, StartsAt, TermAt, ConditionAt, SourceAt, QualifierAt, QualifiersAt, TermOf, CopyOf}
+use Rattle.emit.proofs.Kept.{nodes-kept, depth-kept, sem-kept, ready-kept}
+use Rattle.emit.proofs.Done.{laid-kept, laidQ, movedQ, room-left, room-behind, closes-arg, comp-done, qual-none, quals-none, quals-more}
+use Rattle.emit.proofs.Terms.{form-is, form-at, node-inside, node-level, again, later-starts, term-before, room-term, room-at, room-less}
 
 pub words-append : (w q : Clauses) → wordsC (w ⊕ q) ≡ wordsC w + wordsC q
 words-append w q = ap (λ (a : Counts). a .long) (counts-append w q)

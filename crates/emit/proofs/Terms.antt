@@ -1,48 +1,36 @@
 -- What each call asks, from what the caller was given.
 use mathlib.Core.Path.{_≡_, refl, sym, ap, ap₂, subst, _∙_}
-use mathlib.Core.Bool.{Bool, true, false, _||_}
-use mathlib.Core.List.{List, [], _∷_, _++_}
-use Prim.Native.Nat.{ℕ, zero, suc, _+_, _-_, _*_, _^_, _<_, _≤_}
+use mathlib.Core.Bool.{Bool}
+use mathlib.Core.List.{List, [], _∷_}
+use Prim.Native.Nat.{ℕ, zero, suc, _+_, _<_, _≤_}
 use native.Mathlib.Omega.{arith}
-use types.Run.{OneOf, miss}
-use denote.Enum.Declared.{tagOf}
-use lib.ListN.{length, drop}
-use Rattle.calculus.specs.Syntax.{Bin, plus, minus, times, equal, less, and, or}
-use Rattle.normal_form.specs.Form.{Clauses, gens, gensC, _⊕_}
+use lib.ListN.{drop}
+use Rattle.calculus.specs.Syntax.{Bin}
+use Rattle.normal_form.specs.Form.{gens}
 use Rattle.normal_form.specs.Form as Nf
-use Rattle.normal_form.specs.Normal.{Sem, Sems, scons, quote, quotes, idempotent, givesWay, one, condition, ranges, binary}
-use Rattle.normal_form.proofs.Writing.{condition-gives-way}
-use Rattle.nodes.specs.Node.{Node, Inside, Below, ncomp, nbin, nnegate, nrec, ngen, ncond}
-use Rattle.nodes.specs.Flat.{Env, enter, At, qualOf, clausesOf, semsOf, compOf, levels}
-use Rattle.nodes.specs.Saturated.{limit}
+use Rattle.normal_form.specs.Normal.{Sem, Sems, scons, quote, quotes, condition, ranges, binary}
+use Rattle.nodes.specs.Node.{Node, Inside}
+use Rattle.nodes.specs.Flat.{Env, At, semsOf, levels}
 use Rattle.nodes.specs.Word.{words, wordsF, wordsC}
-use Rattle.nodes.proofs.Counts.{Counts, countsC, counts-append}
-use Rattle.nodes.proofs.Emit.{quote-binary, clauses-append, Whole, binary-whole}
-use Rattle.nodes.proofs.Emit as Em
+use Rattle.nodes.proofs.Emit.{quote-binary}
 use Rattle.monoid.specs.declared.Monoid.{Monoid}
-use Rattle.monoid.specs.declared.Monoid.the-variants as Mo
-use Rattle.monoid.specs.Word.{monoidOf}
 use Rattle.form.specs.Packing.{places}
-use Rattle.form.specs.Flat.{opArg, monoidArg}
-use Rattle.question.specs.Tree.{startAt}
-use Rattle.decode.specs.Decode.{most, depthAt, childrenOf, chain, qualifiersOf, nodesOf}
+use Rattle.form.specs.Flat.{opArg}
+use Rattle.decode.specs.Decode.{most, depthAt, childrenOf, nodesOf}
 use Rattle.decode.specs.Look.{binOf, nth, Picks}
 use Rattle.decode.specs.Levels.{AllAt, Level}
 use Rattle.decode.specs.declared.Op.{Op}
-use Rattle.decode.specs.declared.Op.the-variants as Op
 use Rattle.decode.specs.declared.Found.the-variants as Fd
-use Rattle.decode.proofs.PostOrder.{post-order, below-children}
-use Rattle.decode.proofs.Chain.{chain-none, chain-more}
-use Rattle.decode.proofs.Same.{children-same}
-use Rattle.resolve.specs.Place.{envOf, formSem, FormAt, Fine, Heads}
+use Rattle.decode.proofs.PostOrder.{post-order}
+use Rattle.resolve.specs.Place.{envOf, formSem, FormAt, Heads}
 use Rattle.resolve.specs.declared.Form.{Form}
-use Rattle.resolve.specs.declared.Form.the-variants.{Number, Truth, Row, Cell, Record, Two, Not, Comp, Table, Bad}
+use Rattle.resolve.specs.declared.Form.the-variants.{Record, Two, Not, Comp}
 use Rattle.resolve.specs.declared.Place.{Place}
 use Rattle.emit.specs.declared.State.{State}
-use Rattle.emit.specs.Wrote.{behind, Leaves, Closes, Generates, Never, EmittedOne, Emitted, EmittedF, EmittedC, EmittedG, EmittedN, EmittedQ}
-use Rattle.emit.specs.Start.{collections, semS, placeS, fieldsS, flagIn, copyEnv, copyS, simpleS, Ready, Room, Starts, StartsAt, StartsQ, TermAt, ConditionAt, SourceAt, QualifierAt, QualifiersAt, TermOf, FieldsOf, ConditionOf, WholeOf, SimpleAt, CopyOf}
-use Rattle.emit.proofs.Kept.{Kept, nodes-kept, depth-kept, children-kept, fine-kept, sem-kept, ready-kept}
-use Rattle.emit.proofs.Done.{Moved, laid-kept, laid, laidF, laidC, laidQ, moved, movedF, movedC, movedQ, room-left, room-behind, closes-arg, rec-done, negate-done, one-done, binary-done, comp-done, fields-none, fields-more, leaf-num, leaf-truth, leaf-row, leaf-cell, leaf-arg, table-source, both-done, yields-done, whole-done, spliced-done, never-source, qual-none, qual-source, qual-condition, quals-none, quals-more}
+use Rattle.emit.specs.Wrote.{behind, Closes, Emitted, EmittedF, EmittedC, EmittedG}
+use Rattle.emit.specs.Start.{collections, semS, placeS, fieldsS, Room, Starts, StartsAt, TermAt, ConditionAt, SourceAt, TermOf, FieldsOf, ConditionOf, WholeOf}
+use Rattle.emit.proofs.Kept.{Kept, depth-kept, children-kept, fine-kept, sem-kept, ready-kept}
+use Rattle.emit.proofs.Done.{Moved, laid-kept, laid, moved, room-left, room-behind, closes-arg, rec-done, negate-done, binary-done, fields-none, fields-more}
 
 -- ---- a node's place
 place-is : {s : List ℕ} {i D : ℕ} {l : List ℕ} {h : Place} → Heads s i D l h → placeS s h ≡ semS s i D (envOf l)
