@@ -1,4 +1,2 @@
--- What the composition of the passes needs.
-pub mod Given
-pub mod Link
-pub mod Outs
+-- From the parts of a call to its outcome.
+pub mod Calls

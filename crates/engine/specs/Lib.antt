@@ -1,3 +1,2 @@
--- The front end: what each of its parts finds in scratch, and leaves there.
-pub mod Loaded
-pub mod Front
+-- What the open calls end with.
+pub mod Replies

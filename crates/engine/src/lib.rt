@@ -1,68 +1,86 @@
 // The open calls.
-ghost use Prim.Native.Nat.{_≤_};
+ghost use mathlib.Core.List.{[]};
+ghost use Prim.Native.Nat.{ℕ, _≤_};
 ghost use lib.ListN.{length};
-ghost use Rattle.engine.specs.Front.{FromSizes, FromTypes, FromNames, Fronted};
-use reader::Read;
+ghost use Rattle.outcome.specs.Outcome.{byLoops, checked};
+ghost use Rattle.prepared.specs.Gives.{Gives};
+ghost use Rattle.engine.specs.Replies.{Begins, Replies};
+use front::Checked;
+use prepared::Answer;
 
-// The number of the question's nodes, or the refusal.
-pub enum Front {
+// "An answer is 0 and its length ..; a refusal its number and length 0."
+#[repr(C)]
+pub struct Reply {
+    pub number: u64,
+    pub length: u64,
+}
+
+// How every call begins: too little scratch, a refusal of the checks, or an accepted question.
+pub enum Begun {
+    Scant,
     Refused(u64),
-    Nodes(usize),
+    Accepted,
 }
 
-// "27: a normal form over 512 nodes."
-fn sized(s: &mut [u64], n: usize) -> Front
-    requires { ⌜ n ≤ 256 ⌝ }
-    ensures { λ r. ⌜ FromSizes (now (s .entry)) (now (s .exit)) n r ⌝ }
+// "31: scratch under 8,192 words. Scratch stays untouched." Then the checks.
+fn begin(tables: &[u8], question: &[u8], scratch: &mut [u64]) -> Begun
+    ensures { λ r. ⌜ Begins (now (tables .entry)) (now (question .entry)) (now (scratch .entry)) (now (scratch .exit)) r ⌝ }
 {
-    measure::measure(s, n);
-    let z = measure::size(s, n);
-    if 512 < z {
-        return Front::Refused(27);
+    if scratch.len() < 8192 {
+        return Begun::Scant;
     }
-    Front::Nodes(n)
+    match front::prepare(tables, question, scratch) {
+        Checked::Refused(k) => Begun::Refused(k),
+        Checked::Accepted => Begun::Accepted,
+    }
 }
 
-// "25: a type, field or table that does not fit. 26: a generator its monoid may not have."
-fn typed(s: &mut [u64], n: usize) -> Front
-    requires { ⌜ n ≤ 256 ⌝ }
-    ensures { λ r. ⌜ FromTypes (now (s .entry)) (now (s .exit)) n r ⌝ }
-{
-    let a = types::types_fit(s, n);
-    if !a {
-        return Front::Refused(25);
-    }
-    let b = types::generators_fit(s, n);
-    if !b {
-        return Front::Refused(26);
-    }
-    sized(s, n)
-}
-
-// "24: a name out of scope or bound twice."
-fn judged(s: &mut [u64], n: usize) -> Front
-    requires { ⌜ n ≤ 256 ⌝ }
-    ensures { λ r. ⌜ FromNames (now (s .entry)) (now (s .exit)) n r ⌝ }
-{
-    let a = scope::names_hold(s, n);
-    if !a {
-        return Front::Refused(24);
-    }
-    scope::binders(s, n);
-    typed(s, n)
-}
-
-// The data, then 21 to 23, then 24 to 27: the checks but the last, in their order.
-pub fn front_end(d: &[u8], l: &[u8], s: &mut [u64]) -> Front
+// How every call but 31 ends.
+fn finish(s: &mut [u64], k: u64, n: u64) -> Reply
     requires { ⌜ 8192 ≤ length (now s) ⌝ }
-    ensures { λ r. ⌜ Fronted (now (d .entry)) (now (l .entry)) (now (s .entry)) (now (s .exit)) r ⌝ }
+    ensures { λ r. ⌜ Replies (now (s .entry)) (now (s .exit)) k n r ⌝ }
 {
-    let z = tables::read_data(d, s);
-    if z != 0 {
-        return Front::Refused(z);
+    scratch::clear(s);
+    Reply {
+        number: k,
+        length: n,
     }
-    match reader::read_question(l, s) {
-        Read::Refused(k) => Front::Refused(k),
-        Read::Question(n) => judged(s, n),
+}
+
+// "The checker takes no answer buffer and ends after 28."
+#[no_mangle]
+pub extern "C" fn dislogha_check(tables: &[u8], question: &[u8], scratch: &mut [u64]) -> Reply
+    ensures { λ r. ⌜ Gives (checked (now (tables .entry)) (now (question .entry)) (now (scratch .entry))) (r .number) (r .length) [] (now (scratch .exit)) ⌝ }
+{
+    match begin(tables, question, scratch) {
+        Begun::Scant => Reply {
+            number: 31,
+            length: 0,
+        },
+        Begun::Refused(k) => finish(scratch, k, 0),
+        Begun::Accepted => finish(scratch, 0, 0),
+    }
+}
+
+// By loops: the value of the question as typed.
+#[no_mangle]
+pub extern "C" fn dislogha_answer_by_loops(
+    tables: &[u8],
+    question: &[u8],
+    scratch: &mut [u64],
+    answer: &mut [i64],
+) -> Reply
+    ensures { λ r. ⌜ Gives (byLoops (now (tables .entry)) (now (question .entry)) (now (scratch .entry)) (now (answer .entry))) (r .number) (r .length) (now (answer .exit)) (now (scratch .exit)) ⌝ }
+{
+    match begin(tables, question, scratch) {
+        Begun::Scant => Reply {
+            number: 31,
+            length: 0,
+        },
+        Begun::Refused(k) => finish(scratch, k, 0),
+        Begun::Accepted => match loops::answer(scratch, tables, answer) {
+            Answer::Short => finish(scratch, 32, 0),
+            Answer::Length(n) => finish(scratch, 0, n as u64),
+        },
     }
 }

@@ -140,7 +140,7 @@ module _ {s : List ℕ} {i w : ℕ} (p : i < places) (e : w ≡ wordAt s i) wher
   unfolding nodeOf
   look-negation k = look-by p (rw k)
 
-  pub look-comprehension : {m : Monoid} → kindOf w ≡ 8 → m ≡ monoidAt (argOf w) → Looks s i (Comprehension m)
+  pub look-comprehension : {m : Monoid} → kindOf w ≡ 8 → m ≡ monoidAt (argOf w % 8) → Looks s i (Comprehension m)
   unfolding nodeOf
   look-comprehension k q = look-by p (rw (k, q))
 

@@ -3,7 +3,7 @@
 use mathlib.Core.Path.{_≡_, refl, sym, ap, ap₂, subst, _∙_}
 use mathlib.Core.Bool.{Bool, true, false}
 use mathlib.Core.List.{List, [], _∷_, _++_}
-use Prim.Native.Nat.{ℕ, zero, suc, pred, min, _+_, _-_, _*_, _^_, _≤_, _<_}
+use Prim.Native.Nat.{ℕ, zero, suc, pred, min, _+_, _-_, _*_, _%_, _^_, _≤_, _<_}
 use native.Mathlib.Omega.{arith}
 use borrow.Author.Tests.{lt-ltb, le-ltb, le-leb, lt-leb}
 use lib.Dec.{leb, eqb}
@@ -74,7 +74,7 @@ mutual
 pub words-nodes : (t : Form) → length (flat t) ≤ nodes t
 words-nodes t = omega (arith, length-flat t, size-nodes t)
 
-size-some : (t : Form) → 0 < size t
+pub size-some : (t : Form) → 0 < size t
 unfolding size
 size-some (num z) = omega arith
 size-some (truth b) = omega arith
@@ -126,7 +126,7 @@ unfolding pick
 truth-back true = refl
 truth-back false = refl
 
-op-back : (o : Bin) → binOf (opAt (opArg o)) ≡ o
+pub op-back : (o : Bin) → binOf (opAt (opArg o)) ≡ o
 op-back plus = refl
 op-back minus = refl
 op-back times = refl
@@ -135,7 +135,16 @@ op-back less = refl
 op-back and = refl
 op-back or = refl
 
-monoid-back : (m : Monoid) → Mw.monoidOf (monoidAt (monoidArg m)) ≡ m
+monoid-low : (m : Monoid) → monoidArg m % 8 ≡ monoidArg m
+monoid-low (of list) = refl
+monoid-low (of bag) = refl
+monoid-low (of set) = refl
+monoid-low sum = refl
+monoid-low max = refl
+monoid-low some = refl
+monoid-low all = refl
+
+pub monoid-back : (m : Monoid) → Mw.monoidOf (monoidAt (monoidArg m)) ≡ m
 monoid-back (of list) = refl
 monoid-back (of bag) = refl
 monoid-back (of set) = refl
@@ -146,7 +155,7 @@ monoid-back all = refl
 
 -- ---- nodes read back
 -- the node of a form at i
-abbrev node : List ℕ → ℕ → Form → Node
+abbrev pub node : List ℕ → ℕ → Form → Node
 node s i (num z) = Number z
 node s i (truth b) = Truth b
 node s i (row g) = Row g
@@ -166,7 +175,7 @@ module _ (s : List ℕ) where
     unfolding next
     next-found = ap (λ x. min (i + 1 + x) places) (ap belowOf h ∙ below-pack k b a hk (omega arith)) ∙ omega arith
 
-  node-is : (t : Form) (i : ℕ) → Fits t → i + size t ≤ places → Holds s i (flat t) → nodeAt s i ≡ node s i t
+  pub node-is : (t : Form) (i : ℕ) → Fits t → i + size t ≤ places → Holds s i (flat t) → nodeAt s i ≡ node s i t
   unfolding flat size nodeOf
   node-is (num z) i w l h = node-found i 1 0 (numberArg z) (h .0) (omega arith) (omega arith) ∙ ap Number (number-back z w)
   node-is (truth b) i w l h = node-found i 2 0 (pick b 1 0) (h .0) (omega arith) (omega arith) ∙ ap Truth (truth-back b)
@@ -175,9 +184,9 @@ module _ (s : List ℕ) where
   node-is (rec ts) i w l h = node-found i 5 (sizeF ts) 0 (h .0) (omega arith) (omega arith)
   node-is (bin o t u) i w l h = node-found i 6 (size t + size u) (opArg o) (h .0) (omega arith) (omega arith)
   node-is (negate t) i w l h = node-found i 7 (size t) 0 (h .0) (omega arith) (omega arith)
-  node-is (comp m q u) i w l h = node-found i 8 (sizeC q + size u) (monoidArg m) (h .0) (omega arith) (omega arith)
+  node-is (comp m q u) i w l h = node-found i 8 (sizeC q + size u) (monoidArg m) (h .0) (omega arith) (omega arith) ∙ ap (λ a. Comprehension (monoidAt a)) (monoid-low m)
 
-  next-is : (t : Form) (i : ℕ) → i + size t ≤ places → Holds s i (flat t) → next s i ≡ i + size t
+  pub next-is : (t : Form) (i : ℕ) → i + size t ≤ places → Holds s i (flat t) → next s i ≡ i + size t
   unfolding flat size
   next-is (num z) i l h = next-found i 1 0 (numberArg z) (h .0) (omega arith) (omega arith)
   next-is (truth b) i l h = next-found i 2 0 (pick b 1 0) (h .0) (omega arith) (omega arith)
@@ -189,21 +198,21 @@ module _ (s : List ℕ) where
   next-is (comp m q u) i l h = next-found i 8 (sizeC q + size u) (monoidArg m) (h .0) (omega arith) (omega arith)
 
   -- a generator's node; a condition's, and where it ends
-  gen-node : (g k : ℕ) (q : Clauses) (i : ℕ) → FitsC (gen g k q) → i < places → Holds s i (flatC (gen g k q)) → nodeAt s i ≡ Generator g k
+  pub gen-node : (g k : ℕ) (q : Clauses) (i : ℕ) → FitsC (gen g k q) → i < places → Holds s i (flatC (gen g k q)) → nodeAt s i ≡ Generator g k
   unfolding flat nodeOf
   gen-node g k q i w l h = node-found i 9 0 (1024 * g + k) (h .0) (omega arith) (omega arith) ∙ ap₂ Generator (omega arith) (omega arith)
 
   module _ (t : Form) (q : Clauses) (i : ℕ) (l : i + size t < places) (h : Holds s i (flatC (cond t q))) where
-    cond-node : nodeAt s i ≡ Condition (next s i)
+    pub cond-node : nodeAt s i ≡ Condition (next s i)
     unfolding flat nodeOf
     cond-node = node-found i 10 (size t) 0 (h .0) (omega arith) l
 
-    cond-next : next s i ≡ i + suc (size t)
+    pub cond-next : next s i ≡ i + suc (size t)
     unfolding flat
     cond-next = next-found i 10 (size t) 0 (h .0) (omega arith) l
 
   -- a form's node ends the clauses
-  head-node : (t : Form) (i : ℕ) → clauseOf (node s i t) ≡ Cl.Head
+  pub head-node : (t : Form) (i : ℕ) → clauseOf (node s i t) ≡ Cl.Head
   head-node (num z) i = refl
   head-node (truth b) i = refl
   head-node (row g) i = refl

@@ -59,11 +59,12 @@ abbrev pub monoidAt : ℕ → Monoid
 monoidAt a = getD monoids a Mo.List
 
 -- The node with argument a at place i, for each kind from 0 on. The places in it are behind the record, of the second
--- operand, behind the condition. A cell is column and generator, a generator its number and its table, all below 1,024.
+-- operand, behind the condition. A cell is column and generator, a generator its number and its table, all below 1,024. The
+-- bits of rows, cells, comprehensions, generators and conditions that are not read here are free: a plan is kept there.
 abbrev pub kinds : List ℕ → ℕ → ℕ → List Node
 kinds s i a =
     Nothing ∷ Number (numberOf a) ∷ Truth (eqb a 1) ∷ Row (a % 1024) ∷ Cell (a / 1024 % 1024) (a % 1024) ∷ Record (next s i)
-    ∷ Binary (opAt a) (next s (i + 1)) ∷ Negation ∷ Comprehension (monoidAt a) ∷ Generator (a / 1024 % 1024) (a % 1024)
+    ∷ Binary (opAt a) (next s (i + 1)) ∷ Negation ∷ Comprehension (monoidAt (a % 8)) ∷ Generator (a / 1024 % 1024) (a % 1024)
     ∷ Condition (next s i) ∷ []
 
 unfoldable pub nodeOf : List ℕ → ℕ → ℕ → ℕ → Node

@@ -140,7 +140,7 @@ pub fn look(s: &[u64], i: usize) -> Node
         5 => Node::Record(next(s, i)),
         6 => Node::Binary(operator(a), next(s, i + 1)),
         7 => Node::Negation,
-        8 => Node::Comprehension(monoid_of(a)),
+        8 => Node::Comprehension(monoid_of(a % 8)),
         9 => Node::Generator(low(a / 1024), low(a)),
         10 => Node::Condition(next(s, i)),
         _ => Node::Nothing,

@@ -1,2 +1,4 @@
--- An accepted question in scratch.
+-- An accepted question in scratch; what a call gives, and what a part does that answers.
 pub mod Prepared
+pub mod Gives
+pub mod Answering

@@ -1,2 +1,2 @@
--- Laws of clearing.
+-- Laws of words set to 0.
 pub mod Laws

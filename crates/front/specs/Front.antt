@@ -3,32 +3,29 @@
 use mathlib.Core.Path.{_≡_}
 use mathlib.Core.List.{List}
 use mathlib.Core.Bool.{true}
-use Prim.Native.Nat.{ℕ, _-_, _<_}
-use Rattle.calculus.specs.Syntax.{Collection, Question, asTerm}
+use Prim.Native.Nat.{ℕ, _-_}
+use Rattle.calculus.specs.Syntax.{Question}
 use Rattle.calculus.specs.Value.{Tables, kindOf}
 use Rattle.encoding.specs.Record.{Bytes, refused, got}
 use Rattle.encoding.specs.Reader.{readQuestion}
 use Rattle.checks.specs.Types.{typesFit, generatorsFit}
+use Rattle.normal_form.specs.Form.{asForm}
 use Rattle.normal_form.specs.Normal.{normal}
 use Rattle.normal_form.specs.Size.{sizeFits}
 use Rattle.outcome.specs.Accepted.{judge, examine}
-use Rattle.nodes.specs.Tree.{noNames, Holds}
-use Rattle.decode.specs.Decode.{depthAt, nodesOf}
-use Rattle.measure.specs.Arranged.{Arranged}
-use Rattle.measure.specs.Kept.{Kept}
-use Rattle.engine.specs.Loaded.{Loaded, Ready, Apart}
-use Rattle.engine.specs.declared.Front.{Front}
-use Rattle.engine.specs.declared.Front.the-variants as Front
+use Rattle.emit.specs.Whole.{formOf, Writable}
+use Rattle.front.specs.Loaded.{Loaded, Ready, Apart}
+use Rattle.front.specs.declared.Front.{Front}
+use Rattle.front.specs.declared.Front.the-variants as Front
 
--- 24 to 27 let the question pass; its last node holds it, and what each node writes is kept
+-- 24 to 27 let the question pass; its last node may be written, and comes to the normal form
 pub record Passed (d : Bytes) (T : Tables) (q : Question) (s : List ℕ) (n : ℕ) : Type 0 where
   pub ready : Ready d T q s n
   pub types : typesFit T q ≡ true
   pub generators : generatorsFit T q ≡ true
   pub size : sizeFits (normal (kindOf T) q) ≡ true
-  pub holds : Holds (nodesOf s) (depthAt s) (asTerm q) (n - 1) 0 noNames
-  pub arranged : Arranged s n
-  pub kept : (K : ℕ → Collection) (i : ℕ) → i < n → Kept K s s i
+  pub writable : Writable s (n - 1)
+  pub form : formOf s (n - 1) ≡ asForm (normal (kindOf T) q)
 
 abbrev pub JudgedBy : Bytes → Tables → Question → List ℕ → Front → Type 0
 JudgedBy d T q s (Front.Refused k) = judge T q ≡ refused k

@@ -1,8 +1,8 @@
--- `engine::front_end` meets its contract.
-use Rattle.engine.proofs.Outs.{data-wrong, question-few, question-wrong, question-right}
+-- `front::front_end` meets its contract.
+use Rattle.front.proofs.Outs.{data-wrong, question-few, question-wrong, question-right}
 use borrow.Author.Needs.{needs}
-use Rattle.engine.proofs.front_end.Statement.{statement}
-use Rattle.engine.proofs.front_end.Tie as tie
+use Rattle.front.proofs.front_end.Statement.{statement}
+use Rattle.front.proofs.front_end.Tie as tie
 
 returns : tie.Need-returns
 returns c = data-wrong (c .before .before .before .read-data .ensures) (c .if1 .taken)

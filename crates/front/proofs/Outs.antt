@@ -4,15 +4,11 @@ use mathlib.Core.List.{List}
 use mathlib.Core.Bool.{Bool, true, false, not}
 use Prim.Native.Nat.{ℕ, _+_, _-_, _≤_, _<_}
 use native.Mathlib.Omega.{arith}
-use lib.Dec.{leb}
 use lib.ListN.{length}
 use borrow.Author.Tests.{le-leb, lt-leb}
-use Rattle.calculus.specs.Syntax.{Question, asTerm}
-use Rattle.calculus.specs.Value.{Tables, kindOf}
+use Rattle.calculus.specs.Syntax.{Question}
 use Rattle.encoding.specs.Record.{Bytes}
 use Rattle.encoding.specs.Reader.{readQuestion}
-use Rattle.normal_form.specs.Normal.{normal}
-use Rattle.normal_form.specs.Size.{sizeFits}
 use Rattle.outcome.proofs.Judging.{data-refused, question-refused, judged-as, names-decide, types-decide, generators-decide, size-decides}
 use Rattle.tables.specs.Reading.{ReadsData}
 use Rattle.tables.proofs.Laws.{tables-most, WellFormed, well-formed, not-well-formed, kept-word}
@@ -24,16 +20,14 @@ use Rattle.scope.specs.Binders.{bindersOf}
 use Rattle.sizes.specs.Packing.{termCount}
 use Rattle.types.specs.Words.{Judges}
 use Rattle.types.proofs.Checked.{types-fit, generators-fit}
-use Rattle.measure.specs.Arranged.{Arranged}
 use Rattle.measure.specs.Kept.{Measures}
-use Rattle.measure.proofs.Laid.{laid-arranged}
-use Rattle.measure.proofs.Result.{still-arranged, measured-kept, measured-fits}
-use Rattle.engine.specs.Loaded.{Loaded, Ready, Apart}
-use Rattle.engine.specs.Front.{JudgedBy, FromSizes, FromTypes, FromNames, FrontBy, Fronted}
-use Rattle.engine.specs.declared.Front.{Front}
-use Rattle.engine.specs.declared.Front.the-variants as Front
-use Rattle.engine.proofs.Given.{question-given}
-use Rattle.engine.proofs.Link.{apart-then, ready-same, binders-away, names-said, made-ready, ready-holds, ready-checked, root-depth, judges-away, judges-ready}
+use Rattle.front.specs.Loaded.{Loaded, Ready, Apart}
+use Rattle.front.specs.Front.{JudgedBy, FromSizes, FromTypes, FromNames, FrontBy, Fronted}
+use Rattle.front.specs.declared.Front.{Front}
+use Rattle.front.specs.declared.Front.the-variants as Front
+use Rattle.front.proofs.Given.{question-given}
+use Rattle.front.proofs.Link.{apart-then, binders-away, names-said, made-ready, ready-checked, judges-away, judges-ready}
+use Rattle.front.proofs.Writing.{after, size-said, root-form, root-writable}
 
 pub off : (a : Bool) → not a ≡ true → a ≡ false
 off true h = sym h
@@ -48,34 +42,18 @@ module _ {s r : List ℕ} {n : ℕ} (M : Measures s n r) (few : n ≤ 256) where
   measures-away : Apart s r
   measures-away = record { long = M .long; above = λ j l. M .back j (omega arith) }
 
-  module _ {d : Bytes} {T : Tables} {q : Question} (R : Ready d T q s n) where
-    arranged : Arranged s n
-    arranged = subst (Arranged s) (sym (R .loaded .count)) (laid-arranged s (asTerm q) (R .loaded .laid) (omega (arith, few, R .loaded .count)))
-
-    after : Ready d T q r n
-    after = ready-same (M .long) (λ j l. M .front j (omega arith)) R
-
-    size-said : leb (termCount r (n - 1) .size) 512 ≡ sizeFits (normal (kindOf T) q)
-    size-said = measured-fits M arranged few (omega (arith, few, R .loaded .long)) (kindOf T) q (n - 1) (omega (arith, R .loaded .some)) (ready-holds R) (root-depth R)
-
   module _ {z : ℕ} (e : z ≡ termCount r (n - 1) .size) where
     pub too-large : 512 < z → FromSizes s r n (Front.Refused 27)
     too-large h = record {
-      is = λ d T q R b c. size-decides T q (R .names) b c (sym (size-said R) ∙ lt-leb (termCount r (n - 1) .size) 512 (omega (arith, e, h)));
+      is = λ d T q R b c. size-decides T q (R .names) b c (sym (size-said M few R) ∙ lt-leb (termCount r (n - 1) .size) 512 (omega (arith, e, h)));
       away = measures-away;
     }
 
     pub small-enough : z ≤ 512 → FromSizes s r n (Front.Nodes n)
     small-enough h = record {
-      is = λ d T q R b c. record {
-        ready = after R;
-        types = b;
-        generators = c;
-        size = sym (size-said R) ∙ le-leb (termCount r (n - 1) .size) 512 (omega (arith, e, h));
-        holds = ready-holds (after R);
-        arranged = still-arranged M (arranged R) few (omega (arith, few, R .loaded .long));
-        kept = measured-kept M (arranged R) few (omega (arith, few, R .loaded .long));
-      };
+      is = λ d T q R b c.
+          let w = sym (size-said M few R) ∙ le-leb (termCount r (n - 1) .size) 512 (omega (arith, e, h)) in
+          record { ready = after M few R; types = b; generators = c; size = w; writable = root-writable M few R w; form = root-form M few R w };
       away = measures-away;
     }
 

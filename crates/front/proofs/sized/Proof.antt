@@ -1,8 +1,8 @@
--- `engine::sized` meets its contract.
-use Rattle.engine.proofs.Outs.{too-large, small-enough}
+-- `front::sized` meets its contract.
+use Rattle.front.proofs.Outs.{too-large, small-enough}
 use borrow.Author.Needs.{needs}
-use Rattle.engine.proofs.sized.Statement.{statement}
-use Rattle.engine.proofs.sized.Tie as tie
+use Rattle.front.proofs.sized.Statement.{statement}
+use Rattle.front.proofs.sized.Tie as tie
 
 returns : tie.Need-returns
 returns c = too-large (c .before .before .before .before .before .measure .ensures) (c .before .before .before .before .before .before .before .before .pre) (c .before .size .ensures) (c .if1 .taken)

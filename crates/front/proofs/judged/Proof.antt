@@ -1,8 +1,8 @@
--- `engine::judged` meets its contract.
-use Rattle.engine.proofs.Outs.{off, on, names-wrong, names-right}
+-- `front::judged` meets its contract.
+use Rattle.front.proofs.Outs.{off, on, names-wrong, names-right}
 use borrow.Author.Needs.{needs}
-use Rattle.engine.proofs.judged.Statement.{statement}
-use Rattle.engine.proofs.judged.Tie as tie
+use Rattle.front.proofs.judged.Statement.{statement}
+use Rattle.front.proofs.judged.Tie as tie
 
 returns : tie.Need-returns
 returns c = names-wrong (c .before .names-hold .ensures) (off (c .before .names-hold .result) (c .if1 .taken))

@@ -15,7 +15,6 @@ use Rattle.tables.proofs.Laws.{tables-most}
 use Rattle.question.specs.Layout.{nodesAt, bindersAt, shapesAt}
 use Rattle.question.specs.Packing.{kindOf as kindIn, argOf, nodeWord}
 use Rattle.question.specs.Tree.{kindAt, argAt}
-use Rattle.question.specs.Laid.{nodes}
 use Rattle.question.proofs.Laws.{laid-same}
 use Rattle.scope.specs.Words.{Judged}
 use Rattle.scope.specs.Binders.{bindsName, cleared, bindersOf}
@@ -30,7 +29,7 @@ use Rattle.decode.proofs.Levels.{last-depth}
 use Rattle.types.specs.Words.{shaped, shapedUpTo, shapeOf, shapeWord, Judges}
 use Rattle.types.proofs.Laws.{shaped-length}
 use Rattle.types.proofs.Checked.{Checked}
-use Rattle.engine.specs.Loaded.{Loaded, Ready, Apart}
+use Rattle.front.specs.Loaded.{Loaded, Ready, Apart}
 
 -- ---- words that stay
 pub apart-then : {s t u : List ℕ} → Apart s t → Apart t u → Apart s u

@@ -1,8 +1,8 @@
--- `engine::typed` meets its contract.
-use Rattle.engine.proofs.Outs.{off, on, types-wrong, generators-wrong, both-fit}
+-- `front::typed` meets its contract.
+use Rattle.front.proofs.Outs.{off, on, types-wrong, generators-wrong, both-fit}
 use borrow.Author.Needs.{needs}
-use Rattle.engine.proofs.typed.Statement.{statement}
-use Rattle.engine.proofs.typed.Tie as tie
+use Rattle.front.proofs.typed.Statement.{statement}
+use Rattle.front.proofs.typed.Tie as tie
 
 returns : tie.Need-returns
 returns c = types-wrong (c .before .before .before .types-fit .ensures) (c .before .before .before .before .before .before .pre) (off (c .before .before .before .types-fit .result) (c .if1 .taken))

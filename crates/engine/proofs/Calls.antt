@@ -1,0 +1,151 @@
+-- From the parts of a call to its outcome: 31, a refusal of the checks, and what a part settles behind them.
+use mathlib.Core.Path.{_≡_, refl, sym, ap, subst, _∙_}
+use mathlib.Core.List.{List, [], _++_}
+use Prim.Native.Nat.{ℕ, _+_, _-_, _≤_, _<_}
+use native.Mathlib.Omega.{arith}
+use lib.ListN.{length, getD, drop, replicate, length-drop}
+use lib.Seq.{getD-drop, ext-getD}
+use lib.IntN.{ℤ}
+use borrow.Author.Tests.{lt-ltb, le-ltb}
+use Rattle.calculus.specs.Value.{Value}
+use Rattle.encoding.specs.Record.{Bytes, Result, refused, got, andThen}
+use Rattle.outcome.specs.Accepted.{Accepted, examine}
+use Rattle.outcome.specs.Outcome.{Outcome, Answer, scratchWords, cleared, settled, withScratch, written, answered, checked}
+use Rattle.prepared.specs.Gives.{Gives, Settles, Spares}
+use Rattle.prepared.specs.Answering.{Asked, numberOf, lengthOf}
+use Rattle.prepared.specs.Answering as An
+use Rattle.prepared.specs.declared.Answer.{Answer as Ended}
+use Rattle.front.specs.Loaded.{Apart}
+use Rattle.front.specs.Prepares.{Accepts, PreparedBy, Prepares}
+use Rattle.front.specs.declared.Checked.the-variants as Checked
+use Rattle.engine.specs.Replies.{BegunBy, Begins, Replies}
+use Rattle.engine.specs.declared.Begun.{Begun}
+use Rattle.engine.specs.declared.Begun.the-variants as Begun
+use Rattle.engine.specs.declared.Reply.{Reply}
+
+-- ---- scratch
+pub spares-then : {s t u : List ℕ} → Spares s t → Spares t u → Spares s u
+spares-then A B = record { long = B .long ∙ A .long; above = λ j h. B .above j h ∙ A .above j h }
+
+pub spares-all : (s : List ℕ) → Spares s s
+spares-all s = record { long = refl; above = λ j h. refl }
+
+apart-spares : {s t : List ℕ} → Apart s t → Spares s t
+apart-spares A = record { long = A .long; above = λ j h. A .above j (omega arith) }
+
+cleared-same : {s t : List ℕ} → Spares s t → cleared t ≡ cleared s
+cleared-same {s} {t} S = ap (λ (l : List ℕ). replicate scratchWords 0 ++ l) (ext-getD 0 (drop scratchWords t) (drop scratchWords s) long word)
+  where
+    long : length (drop scratchWords t) ≡ length (drop scratchWords s)
+    long = length-drop scratchWords t ∙ ap (λ (n : ℕ). n - scratchWords) (S .long) ∙ sym (length-drop scratchWords s)
+
+    word : (j : ℕ) → j < length (drop scratchWords t) → getD (drop scratchWords t) j 0 ≡ getD (drop scratchWords s) j 0
+    word j h = getD-drop scratchWords t j 0 ∙ S .above (scratchWords + j) (omega arith) ∙ sym (getD-drop scratchWords s j 0)
+
+-- ---- 31
+module _ {A : Type 0} (s : List ℕ) (b : List A) (x : Result (Answer A)) where
+  short-is : length s < scratchWords → withScratch s b x ≡ record { number = 31; size = 0; buffer = b; scratch = s }
+  unfolding withScratch
+  short-is h = rw (lt-ltb (length s) scratchWords h, withScratch)
+
+  long-is : scratchWords ≤ length s → withScratch s b x ≡ settled s b x
+  unfolding withScratch
+  long-is h = rw (le-ltb (length s) scratchWords h, withScratch)
+
+  pub too-short : length s < scratchWords → Gives (withScratch s b x) 31 0 b s
+  too-short h = subst (λ (o : Outcome A). Gives o 31 0 b s) (sym (short-is h)) (record { number = refl; size = refl; buffer = refl; scratch = refl })
+
+-- ---- behind 31
+module _ {A : Type 0} {s t u : List ℕ} {b b′ : List A} {x : Result (Answer A)} {k n : ℕ} {r : Reply} (room : scratchWords ≤ length s) (S : Spares s t) (R : Replies t u k n r) where
+  replied : Settles x b k n b′ → Gives (withScratch s b x) (r .number) (r .length) b′ u
+  replied P =
+      let g = P .gives s in
+      subst (λ (o : Outcome A). Gives o (r .number) (r .length) b′ u) (sym (long-is s b x room))
+      (record { number = R .number ∙ g .number; size = R .length ∙ g .size; buffer = g .buffer; scratch = R .scratch ∙ cleared-same S ∙ g .scratch })
+
+settles-refused : {A : Type 0} (b : List A) (k : ℕ) → Settles (refused k) b k 0 b
+unfolding settled
+settles-refused b k = record { gives = λ s. record { number = refl; size = refl; buffer = refl; scratch = refl } }
+
+-- ---- the checker hands on nothing
+abbrev nothing : Accepted → Result (Answer ℕ)
+nothing a = got (record { size = 0; front = [] })
+
+settles-nothing : (a : Accepted) → Settles (nothing a) [] 0 0 []
+unfolding settled
+settles-nothing a = record { gives = λ s. record { number = refl; size = refl; buffer = refl; scratch = refl } }
+
+-- ---- how a call begins
+module _ {d l : Bytes} {s t : List ℕ} {x : Begun} (B : Begins d l s t x) where
+  scant : x ≡ Begun.Scant → (length s < scratchWords) × (t ≡ s)
+  scant e = subst (BegunBy d l s t) e (B .is)
+
+  refuses : {k : ℕ} → x ≡ Begun.Refused k → (scratchWords ≤ length s) × Prepares d l s t (Checked.Refused k)
+  refuses e = subst (BegunBy d l s t) e (B .is)
+
+  accepts : x ≡ Begun.Accepted → (scratchWords ≤ length s) × Prepares d l s t Checked.Accepted
+  accepts e = subst (BegunBy d l s t) e (B .is)
+
+  pub room-refused : {k : ℕ} → x ≡ Begun.Refused k → scratchWords ≤ length t
+  room-refused e = let p = refuses e in omega (arith, p .0, p .1 .away .long)
+
+  pub room-accepted : x ≡ Begun.Accepted → scratchWords ≤ length t
+  room-accepted e = let p = accepts e in omega (arith, p .0, p .1 .away .long)
+
+  -- the question stands in scratch for the part that answers
+  pub asked : x ≡ Begun.Accepted → Asked d t
+  asked e = let Y : Accepts d l t = accepts e .1 .is in record { question = l; accepted = Y .accepted; read = Y .read; prepared = Y .prepared }
+
+  -- The checks, then a part over what they hand on.
+  module _ {A : Type 0} (part : Accepted → Result (Answer A)) (b : List A) where
+    scant-by : x ≡ Begun.Scant → Gives (withScratch s b (andThen (examine d l) part)) 31 0 b t
+    scant-by e = let p = scant e in subst (Gives (withScratch s b (andThen (examine d l) part)) 31 0 b) (sym (p .1)) (too-short s b (andThen (examine d l) part) (p .0))
+
+    refused-by : {k : ℕ} → x ≡ Begun.Refused k → {u : List ℕ} {r : Reply} → Replies t u k 0 r → Gives (withScratch s b (andThen (examine d l) part)) (r .number) (r .length) b u
+    unfolding andThen
+    refused-by {k} e R =
+        let p = refuses e in
+        replied (p .0) (apart-spares (p .1 .away)) R
+        (subst (λ y. Settles (andThen y part) b k 0 b) (sym (p .1 .is)) (settles-refused b k))
+
+    settled-by : x ≡ Begun.Accepted → {b′ : List A} {u v : List ℕ} {k n : ℕ} {r : Reply} → Spares t u → ((y : Accepts d l t) → Settles (part (y .accepted)) b k n b′) → Replies u v k n r
+        → Gives (withScratch s b (andThen (examine d l) part)) (r .number) (r .length) b′ v
+    unfolding andThen
+    settled-by e {b′} {k = k} {n} S f R =
+        let p = accepts e in
+        let Y : Accepts d l t = p .1 .is in
+        replied (p .0) (spares-then (apart-spares (p .1 .away)) S) R
+        (subst (λ y. Settles (andThen y part) b k n b′) (sym (Y .is)) (f Y))
+
+  -- ---- the checker
+  pub check-scant : x ≡ Begun.Scant → Gives (checked d l s) 31 0 [] t
+  unfolding checked
+  check-scant e = scant-by nothing [] e
+
+  pub check-refused : {k : ℕ} → x ≡ Begun.Refused k → {u : List ℕ} {r : Reply} → Replies t u k 0 r → Gives (checked d l s) (r .number) (r .length) [] u
+  unfolding checked
+  check-refused e R = refused-by nothing [] e R
+
+  pub check-accepted : x ≡ Begun.Accepted → {u : List ℕ} {r : Reply} → Replies t u 0 0 r → Gives (checked d l s) (r .number) (r .length) [] u
+  unfolding checked
+  check-accepted e R = settled-by nothing [] e (spares-all t) (λ y. settles-nothing (y .accepted)) R
+
+  -- ---- answering, by the value that is to be answered
+  module _ (value : Accepted → Value) {b : List ℤ} where
+    pub answer-scant : x ≡ Begun.Scant → Gives (answered value d l s b) 31 0 b t
+    unfolding answered
+    answer-scant e = scant-by (written value b) b e
+
+    pub answer-refused : {k : ℕ} → x ≡ Begun.Refused k → {u : List ℕ} {r : Reply} → Replies t u k 0 r → Gives (answered value d l s b) (r .number) (r .length) b u
+    unfolding answered
+    answer-refused e R = refused-by (written value b) b e R
+
+    pub room-answered : x ≡ Begun.Accepted → {b′ : List ℤ} {u : List ℕ} {y : Ended} → An.Answers value d t b u b′ y → scratchWords ≤ length u
+    room-answered e A = omega (arith, room-accepted e, A .long)
+
+    pub answer-given : x ≡ Begun.Accepted → {b′ : List ℤ} {u v : List ℕ} {y z : Ended} {r : Reply} → An.Answers value d t b u b′ y → y ≡ z → Replies u v (numberOf z) (lengthOf z) r → Gives (answered value d l s b) (r .number) (r .length) b′ v
+    unfolding answered
+    answer-given e {b′} {u} A₀ q R =
+        let A = subst (An.Answers value d t b u b′) q A₀ in
+        settled-by (written value b) b e (record { long = A .long; above = λ j h. A .above j (omega arith) })
+        (λ Y. A .is l (Y .accepted) (Y .read) (Y .prepared)) R

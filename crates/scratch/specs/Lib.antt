@@ -1,0 +1,2 @@
+-- Words of scratch set to 0.
+pub mod Wiped
