@@ -24,7 +24,7 @@ use Rattle.environment.specs.Env.{envOf, tablesIn, Held}
 use Rattle.environment.proofs.Laws.{each-row, table-each}
 use Rattle.scalar.specs.Contract.{valueOf, headsOf}
 use Rattle.outcome.specs.Written.{words, wordsL, truthWord}
-use Rattle.collect.specs.Laying.{big, cutWords, cutWordsL}
+use Rattle.laying.specs.Laying.{big, cutWords, cutWordsL}
 use Rattle.collect.specs.Contract.{filled, someF, filledF}
 
 -- Cutting counts changes no length.

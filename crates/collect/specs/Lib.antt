@@ -1,4 +1,3 @@
 -- A value's words in the answer buffer.
 pub mod Laying
-pub mod Shapes
 pub mod Contract

@@ -1,4 +1,3 @@
 -- A form's value as one word.
-pub mod Sorts
-pub mod Clauses
+pub mod Leaves
 pub mod Contract

@@ -1,0 +1,4 @@
+-- Words in the answer buffer.
+pub mod Laying
+pub mod Shapes
+pub mod Contract

@@ -1,0 +1,100 @@
+// The words of the answer, laid into its buffer behind a limit; how a value is written, and the words of a row.
+ghost use mathlib.Core.Path.{_≡_};
+ghost use Rattle.laying.specs.Laying.{bump, laid, Puts};
+ghost use Rattle.laying.specs.Shapes.{comprehensionShape, ShapeAt};
+ghost use Rattle.laying.specs.Contract.{Rows};
+use environment::description;
+use environment::slot;
+use form::Node;
+use form::look;
+use monoid::Monoid;
+use operators::Sort;
+use operators::result;
+use tables::cell;
+use tables::columns;
+use tables::rows;
+
+// How a form's value is written: one word, a row's columns, a record's fields up to a place, a collection.
+pub enum Shape {
+    Word(Sort),
+    Row(usize),
+    Record(usize),
+    Collection,
+}
+
+// One more, at most 2^62: G can be any number, and nothing wraps.
+pub fn more(p: usize) -> usize
+    ensures { λ r. ⌜ r ≡ bump p ⌝ }
+{
+    if p < 4611686018427387904 { p + 1 } else { p }
+}
+
+pub fn lay(out: &mut [i64], limit: usize, p: usize, x: i64)
+    ensures { λ _. ⌜ now (out .exit) ≡ laid limit p x (now (out .entry)) ⌝ }
+{
+    if p < limit {
+        if p < out.len() {
+            out[p] = x;
+        }
+    }
+}
+
+// A word at p where that is below the limit; the next place.
+pub fn put(out: &mut [i64], limit: usize, p: usize, x: i64) -> usize
+    ensures { λ r. ⌜ Puts limit (now (out .entry)) p x (now (out .exit)) r ⌝ }
+{
+    lay(out, limit, p, x);
+    more(p)
+}
+
+fn comprehension_shape(m: Monoid) -> Shape
+    ensures { λ r. ⌜ r ≡ comprehensionShape m ⌝ }
+{
+    match m {
+        Monoid::List => Shape::Collection,
+        Monoid::Bag => Shape::Collection,
+        Monoid::Set => Shape::Collection,
+        Monoid::Sum => Shape::Word(Sort::Number),
+        Monoid::Max => Shape::Word(Sort::Number),
+        Monoid::Some => Shape::Word(Sort::Truth),
+        Monoid::All => Shape::Word(Sort::Truth),
+    }
+}
+
+pub fn shape_at(s: &[u64], i: usize) -> Shape
+    ensures { λ r. ⌜ ShapeAt (now (s .entry)) i r ⌝ }
+{
+    match look(s, i) {
+        Node::Number(z) => Shape::Word(Sort::Number),
+        Node::Truth(b) => Shape::Word(Sort::Truth),
+        Node::Row(g) => Shape::Row(g),
+        Node::Cell(c, g) => Shape::Word(Sort::Number),
+        Node::Record(e) => Shape::Record(e),
+        Node::Binary(o, j) => Shape::Word(result(o)),
+        Node::Negation => Shape::Word(Sort::Truth),
+        Node::Comprehension(m) => comprehension_shape(m),
+        Node::Generator(g, k) => Shape::Word(Sort::Number),
+        Node::Condition(j) => Shape::Word(Sort::Number),
+        Node::Nothing => Shape::Word(Sort::Number),
+    }
+}
+
+// The columns of the row that generator g stands for.
+pub fn row(s: &[u64], data: &[u8], out: &mut [i64], limit: usize, g: usize, p: usize) -> usize
+    ensures { λ r. ⌜ Rows (now («data» .entry)) (now (s .entry)) limit (now (out .entry)) g p (now (out .exit)) r ⌝ }
+{
+    let e = slot(s, g) as usize;
+    let w = description(s, e / 2048);
+    let r = e % 2048;
+    if rows(w) <= r {
+        return put(out, limit, p, 0);
+    }
+    let n = columns(w);
+    let mut q = p;
+    let mut c = 0;
+    while c < n {
+        q = put(out, limit, q, cell(data, w, r, c));
+        c += 1;
+    }
+    q
+}

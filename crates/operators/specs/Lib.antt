@@ -1,0 +1,2 @@
+-- Values read as one word.
+pub mod Sorts
