@@ -4,3 +4,4 @@ pub mod Types
 pub mod Skips
 pub mod Compares
 pub mod Values
+pub mod Columns

@@ -1,0 +1,2 @@
+-- Answering by loops, below its open call.
+pub mod Answering

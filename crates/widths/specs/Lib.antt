@@ -1,0 +1,2 @@
+-- How many columns the rows of each generator have.
+pub mod Noting
