@@ -15,11 +15,11 @@ use Rattle.plan.specs.Planner.{free, mentions, next, term, nextL, termL,
 use Rattle.plan.specs.Lines.{ascii, digits, decimal, signedDecimal, monoidName, binName, truthName, showTerm, showSource, showLast, showOp, showOps, lines}
 
 -- the definitions that a plan's making and running compute with
-unfoldable planning : Unit {0}
+unfoldable pub planning : Unit {0}
 unfolding upd pick kindOf _⊕_ gens quote idempotent givesWay condition ranges Nm.nth part binary before norm normal free mentions next term nextL termL joined conj source gensOf condsOf orUnit planGens sift early late slot slots after mentioned lastOf home growsAt grows ops planOf
 planning = tt
 
-unfoldable running : Unit {0}
+unfoldable pub running : Unit {0}
 unfolding bindL guard pick nth fieldOf asInt asBool elems eqZ binV count rowsOf then compareZ compareV leV insert put start greater step foldBy ordered canonical valueOf at evalP meets whole sourceRows numbered matches kept matchesOrPad number same enter heads groups close apply exec one planValue
 running = tt
 

@@ -90,7 +90,7 @@ module _ (T : Tables) (t : Source) (c : PTerm) (r : Row) where
   matches-on : All (λ u. Grew (suc (length r)) r u) (matches T t c r)
   matches-on = matches-all (Grew (suc (length r)) r) (λ i v. (row i v ∷ [], refl, length-snoc r (row i v)))
 
-  matches-whole : whole r ≡ true → All (λ u. whole u ≡ true) (matches T t c r)
+  pub matches-whole : whole r ≡ true → All (λ u. whole u ≡ true) (matches T t c r)
   matches-whole e = matches-all (λ u. whole u ≡ true) (λ i v. whole-row r i v ∙ e)
 
   matches-apart : Apart (matches T t c r)
@@ -126,7 +126,7 @@ unfolding kept
 kept-apart r [] h = (tt, tt)
 kept-apart r (u ∷ s) h = h
 
-kept-some : (r : Row) (s : Stream) → Some (kept r s)
+pub kept-some : (r : Row) (s : Stream) → Some (kept r s)
 unfolding kept
 kept-some r [] = tt
 kept-some r (u ∷ s) = tt

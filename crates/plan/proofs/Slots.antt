@@ -126,7 +126,7 @@ mutual
   next-le (negate t) k = next-le t k
   next-le (comp m q h) k = omega arith
 
-  nexts-le : (ts : Forms) (k : ℕ) → k ≤ nexts ts k
+  pub nexts-le : (ts : Forms) (k : ℕ) → k ≤ nexts ts k
   nexts-le fnil k = omega arith
   nexts-le (fcons t ts) k = let h : k ≤ next t k = next-le t k in let l : next t k ≤ nexts ts (next t k) = nexts-le ts (next t k) in omega arith
 
@@ -139,7 +139,7 @@ nextL-le (t ∷ ts) k = let h : k ≤ next t k = next-le t k in let l : next t k
 mutual
   unfolding term next evalP
 
-  term-stable : (t : Form) (c : Slots) (k : ℕ) → Stable k c → (r y : Row) → next t k ≤ length r → evalP (term t c k) (r ++ y) ≡ evalP (term t c k) r
+  pub term-stable : (t : Form) (c : Slots) (k : ℕ) → Stable k c → (r y : Row) → next t k ≤ length r → evalP (term t c k) (r ++ y) ≡ evalP (term t c k) r
   term-stable (num z) c k s r y h = refl
   term-stable (truth b) c k s r y h = refl
   term-stable (Nf.row g) c k s r y h = s g r y h

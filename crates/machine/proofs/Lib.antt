@@ -1,0 +1,20 @@
+-- Theorems about the machine.
+pub mod Cases
+pub mod Listing
+pub mod Portions
+pub mod Merging
+pub mod Arrivals
+pub mod Pass
+pub mod Moves
+pub mod Size
+pub mod Loops
+pub mod Written
+pub mod Tidy
+pub mod Telling
+pub mod Answer
+pub mod Standing
+pub mod Spans
+pub mod Fitting
+pub mod Straight
+pub mod Seen
+pub mod Accepted

@@ -1,0 +1,7 @@
+-- Answering by plan, one offered row at a time.
+pub mod Program
+pub mod Machine
+pub mod Offers
+pub mod Flat
+pub mod Text
+pub mod Seen
