@@ -1,0 +1,93 @@
+// Asks the engine about each recorded case, and prints a line for each: its place, what the checker
+// says, and where the answer is known the number, the length and the words by loops.
+// A case is one byte that says whether its answer is known (1) or too long for any engine (0), two
+// bytes of data's length, two of the question's, little-endian, then both.
+ghost use Prim.Native.Nat.{_+_, _<_, _≤_};
+ghost use mathlib.Core.Path.{_≡_};
+ghost use lib.ListN.{length};
+
+fn wide(byte: u8) -> usize
+    ensures { λ r. ⌜ r < 256 ⌝ }
+{
+    byte as usize
+}
+
+fn length_at(s: &[u8], at: usize) -> usize
+    requires { ⌜ at + 2 ≤ length (now s) ⌝ }
+    ensures { λ r. ⌜ r < 65536 ⌝ }
+{
+    wide(s[at]) + 256 * wide(s[at + 1])
+}
+
+fn print_next(number: u64) {
+    io::write_all(1, b" ");
+    io::print_decimal(1, number);
+}
+
+// The first words, as many as the count says.
+fn print_words(words: &[i64], count: u64) {
+    let mut i = 0;
+    while i < words.len() {
+        if count <= (i as u64) {
+            return;
+        }
+        io::write_all(1, b" ");
+        decimal::print_signed(1, words[i]);
+        i += 1;
+    }
+}
+
+fn answer(known: bool, tables: &[u8], question: &[u8], scratch: &mut [u64], words: &mut [i64]) {
+    if !known {
+        return;
+    }
+    let reply = engine::dislogha_answer_by_loops(tables, question, scratch, words);
+    print_next(reply.number);
+    print_next(reply.length);
+    print_words(words, reply.length);
+}
+
+fn ask(known: bool, tables: &[u8], question: &[u8], scratch: &mut [u64], words: &mut [i64]) {
+    let reply = engine::dislogha_check(tables, question, scratch);
+    print_next(reply.number);
+    answer(known, tables, question, scratch, words);
+    io::write_all(1, b"\n");
+}
+
+fn ask_all(s: &[u8], scratch: &mut [u64], words: &mut [i64]) {
+    let mut place: usize = 0;
+    let mut at = 0;
+    while s.len() - at >= 5 {
+        let start = at + 5;
+        let split = start + length_at(s, at + 1);
+        let end = split + length_at(s, at + 3);
+        if s.len() < end {
+            return;
+        }
+        io::print_decimal(1, place as u64);
+        ask(s[at] == 1, &s[start..split], &s[split..end], scratch, words);
+        place += 1;
+        at = end;
+    }
+}
+
+fn space() -> [u8; 262144]
+    ensures { λ r. ⌜ 262144 ≡ length r ⌝ }
+{
+    [0; 262144]
+}
+
+fn main() {
+    let path = b"cases";
+    let fd = os::open_read(path);
+    if fd < 0 {
+        os::fail(path);
+        return;
+    }
+    let mut cases = space();
+    let n = io::read_full(fd, &mut cases);
+    libc::close(fd);
+    let mut scratch = [0u64; 8192];
+    let mut words = [0i64; 4096];
+    ask_all(&cases[..n], &mut scratch, &mut words);
+}
