@@ -44,7 +44,9 @@ pub fn check(data: &[u8], question: &[u8], scratch: usize) -> Result<(u32, u64),
     refusal_or(accepted, |number| (number, 0))
 }
 
-/// The answer by loops, over the question as typed.
+/// The answer by loops, over the question as typed. The normal form must give the same words; it
+/// is also what an engine runs, so where only the normal form takes too long (a set is ranged over
+/// with its repeats) that is `Unknown` too.
 pub fn by_loops(
     data: &[u8],
     question: &[u8],
@@ -53,6 +55,10 @@ pub fn by_loops(
 ) -> Result<Answer, Unknown> {
     answered(data, question, scratch, answer_words, |accepted| {
         let words = meaning::answer_by_loops(&accepted.question, &accepted.tables)?;
+        let again = meaning::answer_by_loops(&accepted.form, &accepted.tables)?;
+        if again != words {
+            return Err(budget::FAULT);
+        }
         Ok((words, 0))
     })
 }

@@ -2,19 +2,12 @@
 
 use super::nodes::*;
 use super::random::Random;
-use super::typed::random_cell;
+use super::typed::list_of_cells;
 
 /// A chain of doublings and a question about its end, over a small list. Most chains are short,
 /// so that an evaluator can follow them; a few are nearly as long as the limits allow.
 pub fn random_doubling(random: &mut Random) -> (Vec<Stored>, Node) {
-    let rows = (0..random.below(4))
-        .map(|_| vec![random_cell(random)])
-        .collect();
-    let stored = Stored {
-        collection: LIST,
-        columns: 1,
-        rows,
-    };
+    let stored = list_of_cells(random, 3);
     let long = random.chance(6);
     let question = match random.below(9) {
         0 => numbers(random),

@@ -1,15 +1,9 @@
 //! Inputs for the calls of document 01: the same data and question for the same seed and index.
 
-mod breaks;
-mod doublings;
-mod limits;
-mod nodes;
-mod random;
-mod typed;
-
-use nodes::{data_bytes, Node, Stored};
-use random::Random;
-use typed::{random_tables, Size, Writer};
+use super::nodes::{data_bytes, Node, Stored};
+use super::random::Random;
+use super::typed::{random_tables, Size, Writer};
+use super::{breaks, chains, doublings, limits};
 
 /// What an input was made to be. What it is, only an evaluator can tell.
 #[derive(Clone, Copy, Debug, PartialEq, Eq, PartialOrd, Ord)]
@@ -27,11 +21,20 @@ pub enum Family {
     Bounds,
     Rows,
     Doubling,
+    Chain,
+}
+
+/// One input of the calls, with the family it belongs to.
+#[derive(Clone, Debug, PartialEq, Eq)]
+pub struct Input {
+    pub family: Family,
+    pub data: Vec<u8>,
+    pub question: Vec<u8>,
 }
 
 /// Families with their weights, of 1,000.
-const FAMILIES: [(Family, usize); 13] = [
-    (Family::WellTyped, 470),
+const FAMILIES: [(Family, usize); 14] = [
+    (Family::WellTyped, 430),
     (Family::ForbiddenGenerator, 40),
     (Family::BrokenMeaning, 120),
     (Family::BrokenRecord, 60),
@@ -44,23 +47,22 @@ const FAMILIES: [(Family, usize); 13] = [
     (Family::Bounds, 30),
     (Family::Rows, 5),
     (Family::Doubling, 50),
+    (Family::Chain, 40),
 ];
 
-/// Data and question of an index.
-pub fn generate(seed: u64, index: u64) -> (Vec<u8>, Vec<u8>) {
-    let (_, data, question) = generate_named(seed, index);
-    (data, question)
-}
-
-/// The same, with the family it belongs to.
-pub fn generate_named(seed: u64, index: u64) -> (Family, Vec<u8>, Vec<u8>) {
+/// The input of an index.
+pub fn generate(seed: u64, index: u64) -> Input {
     let mut random = Random::new(seed, index);
     let position = random.weighted(&FAMILIES.map(|(_, weight)| weight));
     let family = FAMILIES
         .get(position)
         .map_or(Family::WellTyped, |(family, _)| *family);
     let (data, question) = input_of(&mut random, family);
-    (family, data, question)
+    Input {
+        family,
+        data,
+        question,
+    }
 }
 
 fn input_of(random: &mut Random, family: Family) -> (Vec<u8>, Vec<u8>) {
@@ -90,9 +92,10 @@ fn input_of(random: &mut Random, family: Family) -> (Vec<u8>, Vec<u8>) {
         Family::Records => (data, perhaps_broken(random, limits::of_records)),
         Family::Bytes => (data, limits::of_bytes(random)),
         Family::Nodes => (data, limits::of_nodes(random).bytes()),
-        Family::Bounds => with_own_tables(limits::of_bounds(random)),
-        Family::Rows => with_own_tables(limits::of_rows(random)),
-        Family::Doubling => with_own_tables(doublings::random_doubling(random)),
+        Family::Bounds => perhaps_changed(random, limits::of_bounds),
+        Family::Rows => perhaps_changed(random, limits::of_rows),
+        Family::Doubling => perhaps_changed(random, doublings::random_doubling),
+        Family::Chain => perhaps_changed(random, chains::random_chain),
     }
 }
 
@@ -126,6 +129,14 @@ fn perhaps_broken(random: &mut Random, make: fn(&mut Random) -> Node) -> Vec<u8>
     bytes
 }
 
-fn with_own_tables((tables, question): (Vec<Stored>, Node)) -> (Vec<u8>, Vec<u8>) {
+/// A question over its own tables, sometimes with one name, type or generator changed.
+fn perhaps_changed(
+    random: &mut Random,
+    make: fn(&mut Random) -> (Vec<Stored>, Node),
+) -> (Vec<u8>, Vec<u8>) {
+    let (tables, mut question) = make(random);
+    if random.chance(10) {
+        breaks::break_meaning(random, &mut question);
+    }
     (data_bytes(&tables), question.bytes())
 }

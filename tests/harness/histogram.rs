@@ -3,26 +3,16 @@
 //!
 //! Arguments: seed (default 1), count of inputs (default 20,000).
 
-#[path = "../evaluator/mod.rs"]
-mod evaluator;
-#[path = "generate.rs"]
-mod generate;
-
 use std::collections::BTreeMap;
 use std::process::ExitCode;
 use std::time::Instant;
 
 use evaluator::{by_loops, by_plan, check, normal_form_holds, plan_lines, Unknown};
-use generate::{generate, generate_named, Family};
+use harness::arguments;
+use harness::generate::{generate, Family};
 
 fn main() -> ExitCode {
-    let argument = |position: usize, default: u64| {
-        std::env::args()
-            .nth(position)
-            .and_then(|text| text.parse().ok())
-            .unwrap_or(default)
-    };
-    let (seed, count) = (argument(1, 1), argument(2, 20_000));
+    let (seed, count) = arguments(20_000);
     let start = Instant::now();
     let mut histogram = Histogram::default();
     for index in 0..count {
@@ -55,22 +45,22 @@ struct Histogram {
 
 impl Histogram {
     fn add(&mut self, seed: u64, index: u64) {
-        let (family, data, question) = generate_named(seed, index);
-        if (data.clone(), question.clone()) != generate(seed, index) {
+        let input = generate(seed, index);
+        if input != generate(seed, index) {
             self.fault(index, "the generator is not deterministic");
         }
-        match check(&data, &question, 8192) {
+        match check(&input.data, &input.question, 8192) {
             Err(unknown) => self.give_up(index, "check", unknown),
             Ok((number, _)) => {
                 *self.numbers.entry(number).or_default() += 1;
                 *self
                     .families
-                    .entry(family)
+                    .entry(input.family)
                     .or_default()
                     .entry(number)
                     .or_default() += 1;
                 if number == 0 {
-                    self.answers(index, &data, &question);
+                    self.answers(index, &input.data, &input.question);
                 }
             }
         }

@@ -44,6 +44,18 @@ pub fn random_cell(random: &mut Random) -> i32 {
     }
 }
 
+/// A list of one column and at most so many rows.
+pub fn list_of_cells(random: &mut Random, most: usize) -> Stored {
+    let rows = (0..random.between(0, most))
+        .map(|_| vec![random_cell(random)])
+        .collect();
+    Stored {
+        collection: LIST,
+        columns: 1,
+        rows,
+    }
+}
+
 fn any_number(random: &mut Random) -> i32 {
     let [a, b, c, d, ..] = random.next().to_le_bytes();
     i32::from_le_bytes([a, b, c, d])

@@ -1,0 +1,151 @@
+// The engine's open calls for C++17: document 01's refusals, spans, and a wrapper for each call.
+//
+// A call reads and writes only what it is lent, keeps nothing between calls, and ends for every
+// input; nothing here allocates or throws. Several calls may run at once, each with a scratch of
+// its own.
+//
+// What the engine promises holds for buffers that do not overlap. A wrapper tests that first:
+// where a span that is written shares a byte with another one, it makes no call, changes nothing
+// and gives `buffers_overlap`. Data and question are only read, and may overlap each other.
+#ifndef DISLOGHA_H
+#define DISLOGHA_H
+
+#include <cstddef>
+#include <cstdint>
+
+extern "C" {
+
+// 0 and the length of what was written, or a refusal's number and length 0.
+struct dislogha_result {
+    std::uint64_t number;
+    std::uint64_t length;
+};
+
+// A slice is a pointer and a count of its elements; an empty one may have any pointer.
+dislogha_result dislogha_check(const std::uint8_t *data, std::size_t data_bytes,
+                               const std::uint8_t *question, std::size_t question_bytes,
+                               std::uint64_t *scratch, std::size_t scratch_words) noexcept;
+
+dislogha_result dislogha_answer_by_loops(const std::uint8_t *data, std::size_t data_bytes,
+                                         const std::uint8_t *question, std::size_t question_bytes,
+                                         std::uint64_t *scratch, std::size_t scratch_words,
+                                         std::int64_t *answer, std::size_t answer_words) noexcept;
+}
+
+namespace dislogha {
+
+// Words of scratch that a call asks for. They are 0 after every call that has them.
+constexpr std::size_t scratch_words = 8192;
+
+enum class Number : std::uint64_t {
+    answered = 0,
+
+    // From the wrappers alone, before a call: a span that is written overlaps another one.
+    buffers_overlap = 1,
+
+    // Whoever packs the data can cause:
+    // A record cut short or not kind 20.
+    not_a_table = 11,
+    // Collection, columns or rows outside their ranges, or a length that does not match.
+    table_out_of_range = 12,
+    // A ninth record.
+    too_many_tables = 13,
+
+    // Whoever types the question:
+    // Over 4,096 bytes.
+    question_too_long = 21,
+    // A record that breaks the byte rules, none at all, or bytes left over.
+    broken_record = 22,
+    // A 33rd level (the question is level 1) or a 257th record.
+    too_deep_or_too_many_records = 23,
+    // A name out of scope or bound twice.
+    name_does_not_hold = 24,
+    // A type, field or table that does not fit.
+    type_does_not_fit = 25,
+    // A generator its monoid may not have.
+    generator_not_allowed = 26,
+    // A normal form over 512 nodes, copies counted.
+    normal_form_too_large = 27,
+    // A number in the normal form with bound over 2^62.
+    number_out_of_bounds = 28,
+
+    // Whoever calls:
+    // Scratch under 8,192 words. Scratch stays untouched.
+    scratch_too_short = 31,
+    // The answer buffer has fewer than G words, G being the answer's length in normal form with
+    // each set written as a bag.
+    answer_too_short = 32,
+    // The plan call's byte buffer is shorter than the plan's lines.
+    lines_too_short = 33,
+};
+
+struct Result {
+    Number number;
+    std::uint64_t length;
+};
+
+// Elements that belong to the caller.
+template <class T> class Span {
+  public:
+    constexpr Span() noexcept : first_(nullptr), count_(0) {}
+    constexpr Span(T *first, std::size_t count) noexcept : first_(first), count_(count) {}
+    template <std::size_t N> constexpr Span(T (&array)[N]) noexcept : first_(array), count_(N) {}
+
+    constexpr T *first() const noexcept { return first_; }
+    constexpr std::size_t count() const noexcept { return count_; }
+
+  private:
+    T *first_;
+    std::size_t count_;
+};
+
+using Bytes = Span<const std::uint8_t>;
+using Words = Span<std::uint64_t>;
+using Answer = Span<std::int64_t>;
+
+// Whether two spans share a byte. An empty one shares none.
+template <class A, class B> bool overlap(Span<A> a, Span<B> b) noexcept {
+    const auto a_first = reinterpret_cast<std::uintptr_t>(a.first());
+    const auto b_first = reinterpret_cast<std::uintptr_t>(b.first());
+    const auto a_end = a_first + a.count() * sizeof(A);
+    const auto b_end = b_first + b.count() * sizeof(B);
+    return a.count() != 0 && b.count() != 0 && a_first < b_end && b_first < a_end;
+}
+
+// Whether a span that is written overlaps one of the others.
+template <class T, class... Others> bool overlaps(Span<T> written, Span<Others>... others) noexcept {
+    return (overlap(written, others) || ...);
+}
+
+inline Result result_of(dislogha_result result) noexcept {
+    return {static_cast<Number>(result.number), result.length};
+}
+
+// The checker: `answered` and length 0 where the question is accepted over the tables.
+inline Result check(Bytes data, Bytes question, Words scratch) noexcept {
+    if (overlaps(scratch, data, question)) {
+        return {Number::buffers_overlap, 0};
+    }
+    return result_of(dislogha_check(data.first(), data.count(), question.first(), question.count(),
+                                    scratch.first(), scratch.count()));
+}
+
+// A call that writes into a buffer, too.
+template <class Call, class T>
+Result call_with(Call call, Bytes data, Bytes question, Words scratch, Span<T> buffer) noexcept {
+    if (overlaps(scratch, data, question, buffer) || overlaps(buffer, data, question)) {
+        return {Number::buffers_overlap, 0};
+    }
+    return result_of(call(data.first(), data.count(), question.first(), question.count(),
+                          scratch.first(), scratch.count(), buffer.first(), buffer.count()));
+}
+
+// The answer by loops: `answered` and the count of its words, which stand at the front of the
+// answer buffer. The words from there up to G are 0, later ones as they were.
+inline Result answer_by_loops(Bytes data, Bytes question, Words scratch, Answer answer) noexcept {
+    return call_with(dislogha_answer_by_loops, data, question, scratch, answer);
+}
+
+} // namespace dislogha
+
+#endif

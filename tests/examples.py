@@ -1,0 +1,128 @@
+#!/usr/bin/env python3
+"""Writes tests/examples/cases and docs/EXAMPLES.md from the cases under tests/examples.
+
+With --check nothing is written; the exit code says whether both files are what would be written.
+"""
+import sys
+from pathlib import Path
+
+ROOT = Path(__file__).resolve().parent.parent
+sys.path.insert(0, str(ROOT / 'tests' / 'examples'))
+sys.dont_write_bytecode = True
+
+import edges  # noqa: E402
+import source_000  # noqa: E402
+import source_002  # noqa: E402
+import source_003  # noqa: E402
+import source_004  # noqa: E402
+
+SOURCES = [source_000, source_002, source_003, source_004, edges]
+
+OPENING = '''# Example queries
+
+Made by `tests/examples.py`; do not edit. `tests/harness/examples.rs` runs every case.
+
+The example queries of the source documents, recast over tables, and the cases of document 01's "At
+the edges". The words were worked out by hand from the paper and reckoned again in plain Python; no
+engine was asked.
+
+- Strings, objects and keys are numbers. An extent is a table; a set that is counted or summed is a
+  bag table, since a set may not stand in a sum (26).
+- A stored collection inside an object, `e.children`, is a comprehension over a second table whose
+  rows name their owner: `bag{ k | k <- Children, k.parent = e.id }`. A path through an object,
+  `e.dept.name`, is a generator over that object's table: `d <- Departments, d.dno = e.dept`.
+- A query that the paper leaves general (a predicate p, a function f) has one that fits the tables.
+- Grouping gives one row for each group, so figure 13's queries with group by are sets.
+
+Questions are in a small notation: `monoid{ head | qualifiers }` with `x <- term` for a generator,
+`let x = term` for a binding (the papers' ≡) and any other term for a condition; `(a, b)` is a
+record; `x.name` is the field of that column, `x.0` the first field. `a > b` is short for `b < a`,
+`a <= b` for `not b < a`, `a >= b` for `not a < b`, `a != b` for `not a = b`. The tables of a case
+are numbered in the order in which they are given. Each case's plan is in `tests/examples/cases`,
+written by hand too.
+
+A line of `tests/examples/cases` is one case, its fields separated by a tab: name, scratch words,
+data in hexadecimal, question in hexadecimal, the checker's number, G, the answer's words, the
+plan's lines with `\\n` for byte 10; `-` where there is nothing.
+'''
+
+
+def code(text):
+    return '`%s`' % text.replace('|', '\\|') if text else ''
+
+
+def row(cells):
+    return '| %s |\n' % ' | '.join(cells)
+
+
+def heading(cells):
+    return row(cells) + row(['---'] * len(cells))
+
+
+def rows_of(table):
+    shown = [str(tuple(cells)).replace(',)', ')') for cells in table.rows]
+    if len(shown) > 10:
+        return '%s, %s, .. %s: %d rows' % (shown[0], shown[1], shown[-1], len(shown))
+    return ', '.join(shown) or 'no rows'
+
+
+def tables_of(source):
+    """The tables of a source's cases, each once and in the order of their first use."""
+    tables = []
+    for case in source.CASES:
+        tables += [table for table in case.tables if table not in tables]
+    return tables
+
+
+def gives(case):
+    if case.number:
+        result = 'refused %d' % case.number
+    else:
+        result = ' '.join(str(word) for word in case.gives)
+        if case.G != len(case.gives):
+            result += '; G %d' % case.G
+    return result + ('. ' + ' '.join(case.says.split()) if case.says else '')
+
+
+def document():
+    text = OPENING
+    for source in SOURCES:
+        text += '\n## %s\n\n' % source.TITLE
+        text += heading(['Table', 'Collection', 'Columns', 'Rows'])
+        for table in tables_of(source):
+            text += row([code(table.name), table.collection, ', '.join(table.columns), rows_of(table)])
+        text += '\n' + heading(['Case', 'Where', 'In the paper', 'Tables', 'Question', 'Gives'])
+        for case in source.CASES:
+            where = case.place.replace('*', '\\*')
+            names = ', '.join(table.name for table in case.tables)
+            text += row([case.name, where, code(case.paper), names, code(case.ask), gives(case)])
+        if source.LEFT_OUT:
+            text += '\nNot recast:\n\n' + heading(['Where', 'Query', 'Why'])
+            for where, query, why in source.LEFT_OUT:
+                text += row([where, query.replace('|', '\\|'), why])
+    return text
+
+
+def cases():
+    lines = []
+    for source in SOURCES:
+        for case in source.CASES:
+            case.check()
+            lines.append(case.line())
+    names = [line.split('\t')[0] for line in lines]
+    if len(set(names)) != len(names):
+        raise ValueError('two cases have one name')
+    return ''.join(lines)
+
+
+def main():
+    wanted = {ROOT / 'tests' / 'examples' / 'cases': cases(), ROOT / 'docs' / 'EXAMPLES.md': document()}
+    for path, text in wanted.items():
+        if '--check' not in sys.argv:
+            path.write_text(text)
+        elif not path.exists() or path.read_text() != text:
+            sys.exit('%s is not what tests/examples.py writes' % path.relative_to(ROOT))
+
+
+if __name__ == '__main__':
+    main()

@@ -1,0 +1,32 @@
+"""A case: a question over tables, with what it must give, worked out by hand."""
+from notation import packed, question, words
+
+
+class Case:
+    def __init__(self, name, place, paper, tables, ask, plan='', gives=None, G=None,
+                 plain=None, refused=0, scratch=8192, says=''):
+        """`plan` has the lines behind "one"; `gives` are the answer's words by hand, `G` where it
+        is not their count; `plain` is the same query in plain Python, a second reckoning."""
+        self.name, self.place, self.paper, self.says = name, place, ' '.join(paper.split()), says
+        self.tables, self.ask = tables, ' '.join(ask.split())
+        self.number, self.scratch, self.gives, self.plain = refused, scratch, gives, plain
+        self.G = G if G is not None or gives is None else len(gives)
+        self.plan = ''.join(line.strip() + '\n' for line in ['one', *plan.strip().split('\n')])
+
+    def check(self):
+        """The words by hand against plain Python, where there is an answer."""
+        if self.number == 0 and self.plain and words(self.plain()) != self.gives:
+            raise ValueError('%s: by hand %s, in plain Python %s'
+                             % (self.name, self.gives, words(self.plain())))
+
+    def line(self):
+        """Name, scratch words, data, question, number, G, answer words, plan; `-` for nothing."""
+        answered = self.number == 0
+        fields = [
+            self.name, str(self.scratch), packed(self.tables).hex() or '-',
+            question(self.ask, self.tables).hex(), str(self.number),
+            str(self.G) if answered else '-',
+            ' '.join(str(word) for word in self.gives) if answered else '-',
+            self.plan.replace('\n', '\\n') if answered else '-',
+        ]
+        return '\t'.join(fields) + '\n'

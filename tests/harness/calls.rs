@@ -1,0 +1,42 @@
+//! The engine's open calls, as they are linked: a slice is a pointer and a count of elements.
+
+/// What every open call gives, by value.
+#[repr(C)]
+#[derive(Clone, Copy, Debug, PartialEq, Eq)]
+pub struct Outcome {
+    pub number: u64,
+    pub length: u64,
+}
+
+/// Declares an open call and lends slices to it: data and question, then what is written.
+macro_rules! open_call {
+    ($linked:ident as $name:ident: $($buffer:ident of $unit:ty),*) => {
+        #[link(name = "engine", kind = "static")]
+        extern "C" {
+            fn $linked(
+                data: *const u8,
+                data_bytes: usize,
+                question: *const u8,
+                question_bytes: usize,
+                $($buffer: *mut $unit, _: usize),*
+            ) -> Outcome;
+        }
+
+        pub fn $name(data: &[u8], question: &[u8], $($buffer: &mut [$unit]),*) -> Outcome {
+            // SAFETY: each pointer goes with the length of its own slice, and what is written
+            // overlaps nothing else.
+            unsafe {
+                $linked(
+                    data.as_ptr(),
+                    data.len(),
+                    question.as_ptr(),
+                    question.len(),
+                    $($buffer.as_mut_ptr(), $buffer.len()),*
+                )
+            }
+        }
+    };
+}
+
+open_call!(dislogha_check as check: scratch of u64);
+open_call!(dislogha_answer_by_loops as answer_by_loops: scratch of u64, answer of i64);

@@ -1,0 +1,63 @@
+//! Makes the files of the program `vectors` from recorded vectors: the cases that it reads, the
+//! lines that it must print, and the cases' names. Arguments: file of vectors, folder of the crate.
+
+use std::process::ExitCode;
+
+use harness::recorded::{self, Recorded};
+
+fn main() -> ExitCode {
+    match make() {
+        Ok(()) => ExitCode::SUCCESS,
+        Err(what) => {
+            eprintln!("{what}");
+            ExitCode::FAILURE
+        }
+    }
+}
+
+fn make() -> Result<(), String> {
+    let (vectors, arguments) = recorded::from_arguments()?;
+    let folder = arguments.first().ok_or("second argument: the crate")?;
+    let cases: Result<Vec<_>, String> = vectors.iter().map(case_of).collect();
+    write(folder, "data/cases", &cases?.concat())?;
+    let lines = (0..)
+        .zip(&vectors)
+        .map(|(place, vector)| line_of(place, vector));
+    write(folder, "stdout", lines.collect::<String>().as_bytes())?;
+    let names = vectors.iter().map(|vector| format!("{}\n", vector.name));
+    write(folder, "names", names.collect::<String>().as_bytes())
+}
+
+/// Whether the outcome by loops is known; where it is not, the loops are too long for any engine.
+fn known(vector: &Recorded) -> bool {
+    vector.check != 0 || vector.words.is_some()
+}
+
+/// One byte that says whether the answer is known, two lengths of two bytes, data, question.
+fn case_of(vector: &Recorded) -> Result<Vec<u8>, String> {
+    let mut bytes = vec![u8::from(known(vector))];
+    for part in [&vector.data, &vector.question] {
+        let length = u16::try_from(part.len()).map_err(|_| format!("{}: long", vector.name))?;
+        bytes.extend(length.to_le_bytes());
+    }
+    bytes.extend(&vector.data);
+    bytes.extend(&vector.question);
+    Ok(bytes)
+}
+
+/// The place and the check number; where it is known the number, length and words by loops.
+fn line_of(place: u64, vector: &Recorded) -> String {
+    let mut line = format!("{place} {}", vector.check);
+    if known(vector) {
+        let words = vector.words.as_deref().unwrap_or_default();
+        line.push_str(&format!(" {} {}", vector.check, words.len()));
+        line.extend(words.iter().map(|word| format!(" {word}")));
+    }
+    line.push('\n');
+    line
+}
+
+fn write(folder: &str, name: &str, bytes: &[u8]) -> Result<(), String> {
+    let path = format!("{folder}/{name}");
+    std::fs::write(&path, bytes).map_err(|error| format!("{path}: {error}"))
+}

@@ -1,0 +1,130 @@
+//! The example queries and the cases at the edges, as `tests/examples.py` writes them: the second
+//! evaluator and the engine, both held against what was worked out by hand. Argument: the file.
+
+use std::process::ExitCode;
+
+use evaluator::Unknown;
+use harness::compare::{hold, Reply, CHECK, LOOPS};
+use harness::generate::{Family, Input};
+use harness::recorded::bytes_of_hex;
+
+fn main() -> ExitCode {
+    let path = std::env::args().nth(1).unwrap_or_default();
+    let text = match std::fs::read_to_string(&path) {
+        Ok(text) => text,
+        Err(error) => {
+            eprintln!("argument: the file of cases ({path}: {error})");
+            return ExitCode::FAILURE;
+        }
+    };
+    let mut differences = 0;
+    for line in text.lines() {
+        let compared = match Example::of_line(line) {
+            Some(example) => example.compare().map_err(|what| (example.name, what)),
+            None => Err((line.to_string(), "no case".to_string())),
+        };
+        if let Err((name, what)) = compared {
+            println!("{name}: {what}");
+            differences += 1;
+        }
+    }
+    let count = text.lines().count();
+    println!("examples: {count} cases, {differences} differences");
+    if differences == 0 && count > 0 {
+        ExitCode::SUCCESS
+    } else {
+        ExitCode::FAILURE
+    }
+}
+
+/// A case with what it must give.
+struct Example {
+    name: String,
+    scratch: usize,
+    data: Vec<u8>,
+    question: Vec<u8>,
+    number: u32,
+    /// What is behind here is empty at a refusal.
+    greatest: usize,
+    words: Vec<i64>,
+    plan: String,
+}
+
+impl Example {
+    /// Fields separated by a tab; `-` stands for nothing.
+    fn of_line(line: &str) -> Option<Example> {
+        let mut fields = line.split('\t');
+        let mut next = || {
+            fields
+                .next()
+                .map(|field| if field == "-" { "" } else { field })
+        };
+        Some(Example {
+            name: next()?.to_string(),
+            scratch: next()?.parse().ok()?,
+            data: bytes_of_hex(next()?)?,
+            question: bytes_of_hex(next()?)?,
+            number: next()?.parse().ok()?,
+            greatest: next().map(|field| field.parse().unwrap_or(0))?,
+            words: words_of(next()?)?,
+            plan: next()?.replace("\\n", "\n"),
+        })
+    }
+
+    fn compare(&self) -> Result<(), String> {
+        let given_up = |unknown: Unknown| format!("evaluator: {}", unknown.0);
+        self.compare_evaluator().map_err(given_up)??;
+        hold(&CHECK, self.input(), self.reply(Vec::new()), self.scratch)
+            .map_err(|what| format!("check: {what}"))?;
+        let mut written = self.words.clone();
+        written.resize(self.greatest, 0);
+        hold(&LOOPS, self.input(), self.reply(written), self.scratch)
+            .map_err(|what| format!("loops: {what}"))
+    }
+
+    fn compare_evaluator(&self) -> Result<Result<(), String>, Unknown> {
+        let (data, question, scratch) = (&self.data[..], &self.question[..], self.scratch);
+        let checked = evaluator::check(data, question, scratch)?;
+        let loops = evaluator::by_loops(data, question, scratch, u64::MAX)?;
+        let plan = evaluator::by_plan(data, question, scratch, u64::MAX)?;
+        let (number, lines) = evaluator::plan_lines(data, question, scratch, usize::MAX)?;
+        let numbers = [checked.0, loops.number, plan.number, number];
+        let greatest = self.greatest as u64;
+        Ok(all_hold(&[
+            ("number", numbers == [self.number; 4]),
+            ("words by loops", loops.words == self.words),
+            ("words by plan", plan.words == self.words),
+            ("G", [loops.greatest, plan.greatest] == [greatest; 2]),
+            ("plan", lines == self.plan.as_bytes()),
+        ]))
+    }
+
+    fn input(&self) -> Input {
+        Input {
+            family: Family::WellTyped,
+            data: self.data.clone(),
+            question: self.question.clone(),
+        }
+    }
+
+    fn reply(&self, written: Vec<i64>) -> Reply<i64> {
+        Reply {
+            number: u64::from(self.number),
+            length: self.words.len().min(written.len()) as u64,
+            written,
+        }
+    }
+}
+
+fn words_of(text: &str) -> Option<Vec<i64>> {
+    text.split_whitespace()
+        .map(|word| word.parse().ok())
+        .collect()
+}
+
+fn all_hold(claims: &[(&str, bool)]) -> Result<(), String> {
+    match claims.iter().find(|(_, holds)| !holds) {
+        None => Ok(()),
+        Some((what, _)) => Err(format!("evaluator: another {what} than by hand")),
+    }
+}

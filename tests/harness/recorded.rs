@@ -1,0 +1,199 @@
+//! Recorded vectors: one flat JSON object a line.
+
+use std::collections::HashMap;
+
+/// A recorded input with what is known of its outcome.
+pub struct Recorded {
+    pub name: String,
+    pub data: Vec<u8>,
+    pub question: Vec<u8>,
+    pub check: u32,
+    pub plan: Option<String>,
+    pub greatest: Option<u64>,
+    pub length: Option<u64>,
+    pub words: Option<Vec<i64>>,
+}
+
+/// A case of the program `vectors`: its name, data and question.
+pub struct Case {
+    pub name: String,
+    pub data: Vec<u8>,
+    pub question: Vec<u8>,
+}
+
+/// The cases in the folder of the program `vectors`.
+pub fn cases_in(folder: &str) -> Result<Vec<Case>, String> {
+    let read = |name: &str| {
+        let path = format!("{folder}/{name}");
+        std::fs::read(&path).map_err(|error| format!("{path}: {error}"))
+    };
+    let names = String::from_utf8_lossy(&read("names")?).into_owned();
+    let bytes = read("data/cases")?;
+    let mut left: &[u8] = &bytes;
+    let mut take = |count: usize| {
+        let (part, rest) = left.split_at_checked(count).ok_or("a case is cut short")?;
+        left = rest;
+        Ok::<Vec<u8>, String>(part.to_vec())
+    };
+    let mut cases = Vec::new();
+    for name in names.lines() {
+        let header = take(5)?;
+        let length = |at: usize| usize::from(u16::from_le_bytes([header[at], header[at + 1]]));
+        cases.push(Case {
+            name: name.to_string(),
+            data: take(length(1))?,
+            question: take(length(3))?,
+        });
+    }
+    Ok(cases)
+}
+
+/// The vectors of the file that the first argument names, and the arguments behind it.
+pub fn from_arguments() -> Result<(Vec<Recorded>, Vec<String>), String> {
+    let mut arguments = std::env::args().skip(1);
+    let path = arguments.next().ok_or("argument: a file of vectors")?;
+    let text = std::fs::read_to_string(&path).map_err(|error| format!("{path}: {error}"))?;
+    let lines = text.lines().filter(|line| !line.trim().is_empty());
+    let vectors = lines.map(|line| Recorded::of_line(line).ok_or(format!("no vector: {line}")));
+    Ok((vectors.collect::<Result<_, String>>()?, arguments.collect()))
+}
+
+impl Recorded {
+    fn of_line(line: &str) -> Option<Recorded> {
+        let fields = read_object(line)?;
+        let unsigned = |key: &str| fields.get(key).and_then(Json::unsigned);
+        Some(Recorded {
+            name: fields.get("name")?.text()?.to_string(),
+            data: bytes_of_hex(fields.get("data")?.text()?)?,
+            question: bytes_of_hex(fields.get("question")?.text()?)?,
+            check: u32::try_from(unsigned("check")?).ok()?,
+            plan: fields.get("plan").and_then(Json::text).map(str::to_string),
+            greatest: unsigned("G"),
+            length: unsigned("length"),
+            words: fields.get("words").and_then(Json::words),
+        })
+    }
+}
+
+pub fn bytes_of_hex(text: &str) -> Option<Vec<u8>> {
+    let digits: Option<Vec<u32>> = text.chars().map(|digit| digit.to_digit(16)).collect();
+    let pairs = digits?;
+    let byte = |pair: &[u32]| match pair {
+        [high, low] => u8::try_from(high.checked_mul(16)?.checked_add(*low)?).ok(),
+        _ => None,
+    };
+    pairs.chunks(2).map(byte).collect()
+}
+
+/// As much of JSON as the vectors use: flat objects of texts, whole numbers and lists of them.
+enum Json {
+    Text(String),
+    Number(i128),
+    Numbers(Vec<i128>),
+}
+
+impl Json {
+    fn text(&self) -> Option<&str> {
+        match self {
+            Json::Text(text) => Some(text),
+            _ => None,
+        }
+    }
+
+    fn unsigned(&self) -> Option<u64> {
+        match self {
+            Json::Number(number) => u64::try_from(*number).ok(),
+            _ => None,
+        }
+    }
+
+    fn words(&self) -> Option<Vec<i64>> {
+        match self {
+            Json::Numbers(numbers) => numbers
+                .iter()
+                .map(|number| i64::try_from(*number).ok())
+                .collect(),
+            _ => None,
+        }
+    }
+}
+
+fn read_object(line: &str) -> Option<HashMap<String, Json>> {
+    let mut reader = JsonReader { left: line };
+    let mut fields = HashMap::new();
+    reader.expect("{")?;
+    loop {
+        let key = reader.text()?;
+        reader.expect(":")?;
+        fields.insert(key, reader.value()?);
+        if reader.expect(",").is_none() {
+            reader.expect("}")?;
+            return Some(fields);
+        }
+    }
+}
+
+struct JsonReader<'a> {
+    left: &'a str,
+}
+
+impl JsonReader<'_> {
+    fn expect(&mut self, token: &str) -> Option<()> {
+        self.left = self.left.trim_start().strip_prefix(token)?;
+        Some(())
+    }
+
+    fn value(&mut self) -> Option<Json> {
+        let start = self.left.trim_start();
+        if start.starts_with('"') {
+            return self.text().map(Json::Text);
+        }
+        if start.starts_with('[') {
+            return self.numbers().map(Json::Numbers);
+        }
+        self.number().map(Json::Number)
+    }
+
+    fn text(&mut self) -> Option<String> {
+        self.expect("\"")?;
+        let mut text = String::new();
+        let mut characters = self.left.chars();
+        loop {
+            match characters.next()? {
+                '"' => break,
+                '\\' => match characters.next()? {
+                    'n' => text.push('\n'),
+                    other => text.push(other),
+                },
+                other => text.push(other),
+            }
+        }
+        self.left = characters.as_str();
+        Some(text)
+    }
+
+    fn number(&mut self) -> Option<i128> {
+        let start = self.left.trim_start();
+        let end = start
+            .find(|c: char| c != '-' && !c.is_ascii_digit())
+            .unwrap_or(start.len());
+        let number = start.get(..end)?.parse().ok()?;
+        self.left = start.get(end..)?;
+        Some(number)
+    }
+
+    fn numbers(&mut self) -> Option<Vec<i128>> {
+        self.expect("[")?;
+        let mut numbers = Vec::new();
+        if self.expect("]").is_some() {
+            return Some(numbers);
+        }
+        loop {
+            numbers.push(self.number()?);
+            if self.expect(",").is_none() {
+                self.expect("]")?;
+                return Some(numbers);
+            }
+        }
+    }
+}
