@@ -3,17 +3,17 @@
 use mathlib.Core.Path.{_≡_, refl, sym, ap, ap₂, subst, _∙_}
 use mathlib.Core.List.{List, [], _∷_, _++_, map}
 use mathlib.Core.Bool.{Bool, true, false, _&&_, and-eq-true-iff}
-use Prim.Native.Nat.{ℕ, zero, suc, _+_, _≤_, _<_, min}
+use Prim.Native.Nat.{ℕ, suc, _+_, _≤_}
 use native.Mathlib.Omega.{arith}
 use lib.Dec.{eqb}
 use lib.ListN.{length, length-append}
 use lib.IntN.{ℤ, pos}
-use Rattle.calculus.specs.Lists.{bindL, guard, upd}
+use Rattle.calculus.specs.Lists.{guard, upd}
 use Rattle.calculus.specs.Syntax.{Monoid, of, sum, max, some, all, Bin, plus, minus, times, equal, less, and, or}
-use Rattle.calculus.specs.Value.{Value, Values, vnil, vcons, num, truth, rec, coll, count, fromList, junk, asInt, fieldOf, binV, notV, rowsOf}
+use Rattle.calculus.specs.Value.{Value, Values, vnil, vcons, num, truth, rec, coll, count, fromList, junk, fieldOf, binV, notV, rowsOf}
 use Rattle.calculus.specs.Monoid.{raw}
 use Rattle.calculus.specs.Meaning.{Env}
-use Rattle.calculus.proofs.Lists.{All, all-bind, all-zip}
+use Rattle.calculus.proofs.Lists.{All, all-bind}
 use Rattle.calculus.proofs.Folds.{raw-of}
 use Rattle.calculus.proofs.WellFormed.{Row, row-field}
 use Rattle.encoding.specs.Record.{Bytes}
@@ -23,7 +23,7 @@ use Rattle.monoid.proofs.Laws.{Made, fold-made}
 use Rattle.environment.specs.Env.{envOf, tablesIn, Held}
 use Rattle.environment.proofs.Laws.{each-row, table-each}
 use Rattle.scalar.specs.Contract.{valueOf, headsOf}
-use Rattle.outcome.specs.Written.{words, wordsL, truthWord}
+use Rattle.outcome.specs.Written.{words, wordsL}
 use Rattle.laying.specs.Laying.{big, cutWords, cutWordsL}
 use Rattle.collect.specs.Contract.{filled, someF, filledF}
 

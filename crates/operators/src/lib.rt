@@ -2,7 +2,6 @@
 ghost use mathlib.Core.Path.{_≡_};
 ghost use Prim.Native.Nat.{_≤_, _^_};
 ghost use lib.IntN.{natAbs};
-ghost use lib.Dec.{eqb};
 ghost use Rattle.form.specs.Tree.{binOf};
 ghost use Rattle.monoid.specs.Word.{monoidOf};
 ghost use Rattle.operators.specs.Sorts.{codeOf, readWord, sortOf, operandSort, resultSort, truthWord, negateWord, operateWord, operateBound};
