@@ -10,11 +10,15 @@ use borrow.Author.Tests.{lt-ltb, le-ltb}
 use Rattle.calculus.specs.Value.{Value}
 use Rattle.encoding.specs.Record.{Bytes, Result, refused, got, andThen}
 use Rattle.outcome.specs.Accepted.{Accepted, examine}
-use Rattle.outcome.specs.Outcome.{Outcome, Answer, scratchWords, cleared, settled, withScratch, written, answered, checked}
+use Rattle.outcome.specs.Outcome.{Outcome, Answer, scratchWords, cleared, settled, withScratch, written, answered, checked, printed, planLines}
 use Rattle.prepared.specs.Gives.{Gives, Settles, Spares}
 use Rattle.prepared.specs.Answering.{Asked, numberOf, lengthOf}
 use Rattle.prepared.specs.Answering as An
 use Rattle.prepared.specs.declared.Answer.{Answer as Ended}
+use Rattle.lines.specs.Printed.{Prints}
+use Rattle.lines.specs.Printed as Pr
+use Rattle.lines.specs.declared.Printed.{Printed}
+use Rattle.lines.proofs.Settled.{settles-printed}
 use Rattle.front.specs.Loaded.{Apart}
 use Rattle.front.specs.Prepares.{Accepts, PreparedBy, Prepares}
 use Rattle.front.specs.declared.Checked.the-variants as Checked
@@ -149,3 +153,21 @@ module _ {d l : Bytes} {s t : List ℕ} {x : Begun} (B : Begins d l s t x) where
         let A = subst (An.Answers value d t b u b′) q A₀ in
         settled-by (written value b) b e (record { long = A .long; above = λ j h. A .above j (omega arith) })
         (λ Y. A .is l (Y .accepted) (Y .read) (Y .prepared)) R
+
+  -- ---- the plan's lines
+  module _ {b : List ℕ} where
+    pub lines-scant : x ≡ Begun.Scant → Gives (planLines d l s b) 31 0 b t
+    unfolding planLines
+    lines-scant e = scant-by (printed b) b e
+
+    pub lines-refused : {k : ℕ} → x ≡ Begun.Refused k → {u : List ℕ} {r : Reply} → Replies t u k 0 r → Gives (planLines d l s b) (r .number) (r .length) b u
+    unfolding planLines
+    lines-refused e R = refused-by (printed b) b e R
+
+    pub lines-given : x ≡ Begun.Accepted → {b′ : List ℕ} {u v : List ℕ} {y z : Printed} {r : Reply} → length u ≡ length t → Prints t b u b′ y → y ≡ z → Replies u v (Pr.numberOf z) (Pr.lengthOf z) r → Gives (planLines d l s b) (r .number) (r .length) b′ v
+    unfolding planLines
+    lines-given e {b′} {u} {z = z} m A₀ q R =
+        let A = subst (Prints t b u b′) q A₀ in
+        let Y : Accepts d l t = accepts e .1 .is in
+        settled-by (printed b) b e (record { long = m; above = λ j h. A .behind d (Y .accepted) (Y .prepared) j (omega arith) })
+        (λ Z. settles-printed z (printed b (Z .accepted)) (A .is d (Z .accepted) (Z .prepared))) R

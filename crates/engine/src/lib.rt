@@ -2,10 +2,11 @@
 ghost use mathlib.Core.List.{[]};
 ghost use Prim.Native.Nat.{ℕ, _≤_};
 ghost use lib.ListN.{length};
-ghost use Rattle.outcome.specs.Outcome.{byLoops, checked};
+ghost use Rattle.outcome.specs.Outcome.{byLoops, checked, planLines};
 ghost use Rattle.prepared.specs.Gives.{Gives};
 ghost use Rattle.engine.specs.Replies.{Begins, Replies};
 use front::Checked;
+use lines::Printed;
 use prepared::Answer;
 
 // "An answer is 0 and its length ..; a refusal its number and length 0."
@@ -81,6 +82,29 @@ pub extern "C" fn dislogha_answer_by_loops(
         Begun::Accepted => match loops::answer(scratch, tables, answer) {
             Answer::Short => finish(scratch, 32, 0),
             Answer::Length(n) => finish(scratch, 0, n as u64),
+        },
+    }
+}
+
+// "One more call writes the plan's lines .. into a lent byte buffer; its length is in bytes."
+#[no_mangle]
+pub extern "C" fn dislogha_plan_lines(
+    tables: &[u8],
+    question: &[u8],
+    scratch: &mut [u64],
+    text: &mut [u8],
+) -> Reply
+    ensures { λ r. ⌜ Gives (planLines (now (tables .entry)) (now (question .entry)) (now (scratch .entry)) (now (text .entry))) (r .number) (r .length) (now (text .exit)) (now (scratch .exit)) ⌝ }
+{
+    match begin(tables, question, scratch) {
+        Begun::Scant => Reply {
+            number: 31,
+            length: 0,
+        },
+        Begun::Refused(k) => finish(scratch, k, 0),
+        Begun::Accepted => match lines::plan_lines(scratch, text) {
+            Printed::Short => finish(scratch, 33, 0),
+            Printed::Length(n) => finish(scratch, 0, n as u64),
         },
     }
 }

@@ -1,5 +1,6 @@
 // Asks the engine about each recorded case, and prints a line for each: its place, what the checker
-// says, and where the answer is known the number, the length and the words by loops.
+// says, and where the answer is known the number, the length and the words by loops; then the lines
+// of its plan.
 // A case is one byte that says whether its answer is known (1) or too long for any engine (0), two
 // bytes of data's length, two of the question's, little-endian, then both.
 ghost use Prim.Native.Nat.{_+_, _<_, _≤_};
@@ -47,11 +48,30 @@ fn answer(known: bool, tables: &[u8], question: &[u8], scratch: &mut [u64], word
     print_words(words, reply.length);
 }
 
+// The first bytes.
+fn print_front(text: &[u8], count: usize)
+    requires { ⌜ count ≤ length (now text) ⌝ }
+{
+    io::write_all(1, &text[0..count]);
+}
+
+// The plan's lines; none where it is refused.
+fn plan(tables: &[u8], question: &[u8], scratch: &mut [u64]) {
+    let mut text = [0u8; 16384];
+    let reply = engine::dislogha_plan_lines(tables, question, scratch, &mut text);
+    let count = reply.length as usize;
+    if 16384 < count {
+        return;
+    }
+    print_front(&text, count);
+}
+
 fn ask(known: bool, tables: &[u8], question: &[u8], scratch: &mut [u64], words: &mut [i64]) {
     let reply = engine::dislogha_check(tables, question, scratch);
     print_next(reply.number);
     answer(known, tables, question, scratch, words);
     io::write_all(1, b"\n");
+    plan(tables, question, scratch);
 }
 
 fn ask_all(s: &[u8], scratch: &mut [u64], words: &mut [i64]) {
