@@ -1,0 +1,1 @@
+// What the words of a running plan stand for: definitions and laws only.

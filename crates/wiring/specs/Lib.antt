@@ -1,0 +1,2 @@
+-- The shape that the spots of a normal form have.
+pub mod Shape

@@ -1,0 +1,1 @@
+// Linked and marked words are wired: laws only.
