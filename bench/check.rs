@@ -4,19 +4,17 @@
 
 use std::hint::black_box;
 use std::process::ExitCode;
-use std::time::{Duration, Instant};
+use std::time::Duration;
 
 use harness::calls::check;
 use harness::generate::generate;
 use harness::listing::listing;
 use harness::recorded::{cases_in, Case};
+use harness::timing::{fastest, fastest_of};
 
 /// Words that each call clears, and the most that a check uses before (docs/DECISIONS.md).
 const SCRATCH: usize = 8192;
 const USED: usize = 2048;
-
-/// How long one case is measured.
-const TIME: Duration = Duration::from_millis(20);
 
 /// Inputs that are made, and how many of them are shown.
 const MADE: u64 = 20_000;
@@ -73,23 +71,4 @@ fn longest_made() -> Vec<Case> {
         }
     };
     times.into_iter().rev().take(SHOWN).map(case_of).collect()
-}
-
-/// Nanoseconds of the fastest run: others may be using the machine.
-fn fastest<T>(mut run: impl FnMut() -> T) -> f64 {
-    let begin = Instant::now();
-    let mut best = Duration::MAX;
-    while begin.elapsed() < TIME {
-        best = best.min(fastest_of(1, &mut run));
-    }
-    best.as_secs_f64() * 1e9
-}
-
-fn fastest_of<T>(runs: usize, mut run: impl FnMut() -> T) -> Duration {
-    let mut timed = || {
-        let start = Instant::now();
-        black_box(run());
-        start.elapsed()
-    };
-    (0..runs).map(|_| timed()).min().unwrap_or(Duration::MAX)
 }

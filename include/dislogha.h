@@ -30,6 +30,11 @@ dislogha_result dislogha_answer_by_loops(const std::uint8_t *data, std::size_t d
                                          const std::uint8_t *question, std::size_t question_bytes,
                                          std::uint64_t *scratch, std::size_t scratch_words,
                                          std::int64_t *answer, std::size_t answer_words) noexcept;
+
+dislogha_result dislogha_plan_lines(const std::uint8_t *data, std::size_t data_bytes,
+                                    const std::uint8_t *question, std::size_t question_bytes,
+                                    std::uint64_t *scratch, std::size_t scratch_words,
+                                    std::uint8_t *lines, std::size_t lines_bytes) noexcept;
 }
 
 namespace dislogha {
@@ -102,6 +107,7 @@ template <class T> class Span {
 using Bytes = Span<const std::uint8_t>;
 using Words = Span<std::uint64_t>;
 using Answer = Span<std::int64_t>;
+using Text = Span<std::uint8_t>;
 
 // Whether two spans share a byte. An empty one shares none.
 template <class A, class B> bool overlap(Span<A> a, Span<B> b) noexcept {
@@ -144,6 +150,12 @@ Result call_with(Call call, Bytes data, Bytes question, Words scratch, Span<T> b
 // answer buffer. The words from there up to G are 0, later ones as they were.
 inline Result answer_by_loops(Bytes data, Bytes question, Words scratch, Answer answer) noexcept {
     return call_with(dislogha_answer_by_loops, data, question, scratch, answer);
+}
+
+// The plan's lines, byte 10 after each: `answered` and the count of their bytes, which stand at the
+// front of the buffer. Later bytes are as they were.
+inline Result plan_lines(Bytes data, Bytes question, Words scratch, Text lines) noexcept {
+    return call_with(dislogha_plan_lines, data, question, scratch, lines);
 }
 
 } // namespace dislogha

@@ -4,6 +4,7 @@
 #include <algorithm>
 #include <cstdio>
 #include <cstdlib>
+#include <string>
 #include <vector>
 
 #include "dislogha.h"
@@ -81,25 +82,42 @@ void check_scratch() {
     expect(is(none, Number::scratch_too_short, 0), "nothing at all may be lent");
 }
 
+using AnswerCall = Result (*)(Bytes, Bytes, Words, Answer) noexcept;
+
 // "answer 2 1 110 2 0", in a buffer that has a word more than the answer.
-void answer_listing() {
+void answer_listing(AnswerCall answer_by) {
     std::vector<std::uint64_t> scratch(dislogha::scratch_words, rubbish);
     std::vector<std::int64_t> answer(6, -7);
-    const auto lent = Answer(answer.data(), answer.size());
-    const auto answered =
-        dislogha::answer_by_loops(bytes(tables), bytes(question), words(scratch), lent);
+    const auto answer_in = [&](Answer lent) {
+        return answer_by(bytes(tables), bytes(question), words(scratch), lent);
+    };
+    const auto answered = answer_in(Answer(answer.data(), answer.size()));
     expect(is(answered, Number::answered, 5), "the listing has five words");
     expect(answer == std::vector<std::int64_t>{2, 1, 110, 2, 0, -7}, "the listing's words");
     expect(cleared(scratch), "scratch is cleared after an answer");
 
-    const auto short_one = Answer(answer.data(), 4);
-    const auto refused =
-        dislogha::answer_by_loops(bytes(tables), bytes(question), words(scratch), short_one);
+    const auto refused = answer_in(Answer(answer.data(), 4));
     expect(is(refused, Number::answer_too_short, 0), "four words are too few");
-    const auto inside = Answer(reinterpret_cast<std::int64_t *>(scratch.data()) + 8, 5);
-    const auto not_called =
-        dislogha::answer_by_loops(bytes(tables), bytes(question), words(scratch), inside);
+    const auto inside = reinterpret_cast<std::int64_t *>(scratch.data()) + 8;
+    const auto not_called = answer_in(Answer(inside, 5));
     expect(is(not_called, Number::buffers_overlap, 0), "an answer inside scratch is not written");
+}
+
+void print_listing() {
+    const std::string plan = "one\n"
+                             "join 0 true\n"
+                             "outer 1 (= (. 0 $1) (. 0 $0))\n"
+                             "nest 1 sum (. 1 $1) true\n"
+                             "reduce bag (rec (. 0 $0) $1) true\n";
+    std::vector<std::uint64_t> scratch(dislogha::scratch_words, rubbish);
+    std::vector<std::uint8_t> lines(plan.size());
+    const auto lines_in = [&](std::size_t count) {
+        const auto lent = dislogha::Text(lines.data(), count);
+        return dislogha::plan_lines(bytes(tables), bytes(question), words(scratch), lent);
+    };
+    expect(is(lines_in(plan.size()), Number::answered, plan.size()), "the plan is written");
+    expect(std::string(lines.begin(), lines.end()) == plan, "the plan's lines");
+    expect(is(lines_in(plan.size() - 1), Number::lines_too_short, 0), "a byte less is too few");
 }
 
 void check_overlap() {
@@ -117,7 +135,8 @@ void check_overlap() {
 
 int main() {
     check_listing();
-    answer_listing();
+    answer_listing(dislogha::answer_by_loops);
+    print_listing();
     check_scratch();
     check_overlap();
     std::puts("cpp: ok");

@@ -40,3 +40,4 @@ macro_rules! open_call {
 
 open_call!(dislogha_check as check: scratch of u64);
 open_call!(dislogha_answer_by_loops as answer_by_loops: scratch of u64, answer of i64);
+open_call!(dislogha_plan_lines as plan_lines: scratch of u64, lines of u8);

@@ -45,7 +45,8 @@ fn case_of(vector: &Recorded) -> Result<Vec<u8>, String> {
     Ok(bytes)
 }
 
-/// The place and the check number; where it is known the number, length and words by loops.
+/// The place and the check number; where it is known the number, length and words by loops. Then
+/// the plan's lines of an accepted question.
 fn line_of(place: u64, vector: &Recorded) -> String {
     let mut line = format!("{place} {}", vector.check);
     if known(vector) {
@@ -54,6 +55,7 @@ fn line_of(place: u64, vector: &Recorded) -> String {
         line.extend(words.iter().map(|word| format!(" {word}")));
     }
     line.push('\n');
+    line.push_str(vector.plan.as_deref().unwrap_or_default());
     line
 }
 

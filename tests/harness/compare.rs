@@ -57,6 +57,12 @@ pub const LOOPS: Call<i64> = Call {
     made: calls::answer_by_loops,
 };
 
+pub const LINES: Call<u8> = Call {
+    name: "lines",
+    too_short: Some(33),
+    made: calls::plan_lines,
+};
+
 /// The reply of a call that answers in words.
 pub fn reply_of_answer(answer: Answer) -> Result<Reply<i64>, Unknown> {
     if answer.greatest > MOST_WORDS {

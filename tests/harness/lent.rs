@@ -21,6 +21,12 @@ impl Unit for i64 {
     }
 }
 
+impl Unit for u8 {
+    fn of_rubbish(rubbish: u64) -> u8 {
+        rubbish.to_le_bytes()[7]
+    }
+}
+
 /// A buffer of which a front part is lent.
 pub struct Lent<T> {
     units: Vec<T>,

@@ -13,6 +13,7 @@ pub mod listing;
 mod nodes;
 mod random;
 pub mod recorded;
+pub mod timing;
 mod typed;
 
 /// The seed (1 by default) and the count of inputs, both from the command line.
