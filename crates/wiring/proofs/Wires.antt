@@ -1,19 +1,17 @@
 -- Linked words that say a program are wired.
 use native.Mathlib.Omega.{arith}
-use mathlib.Core.Path.{_≡_, refl, sym, ap, subst, _∙_}
+use mathlib.Core.Path.{_≡_, refl, _∙_}
 use mathlib.Core.List.{List, [], _∷_, _++_}
-use Prim.Native.Nat.{ℕ, suc, _+_, _≤_, _<_}
-use Rattle.calculus.specs.Syntax.{Monoid}
+use Prim.Native.Nat.{ℕ, _+_, _≤_, _<_}
 use Rattle.calculus.proofs.Lists.{All}
-use Rattle.normal_form.specs.Form.{Form, Forms, Clauses, NormalForm, asForm, num, truth, row, cell, rec, bin, negate, comp, fnil, fcons, done, gen, cond}
+use Rattle.normal_form.specs.Form.{Form, Forms, Clauses, NormalForm, num, truth, row, cell, rec, bin, negate, comp, fnil, fcons, done, gen, cond}
 use Rattle.form.specs.Packing.{places}
-use Rattle.form.specs.Flat.{size, sizeF, sizeC}
+use Rattle.form.specs.Flat.{size, sizeC}
 use Rattle.machine.specs.Program.{Program, programOf}
 use Rattle.machine.specs.Program as Pr
 use Rattle.links.specs.Spots.{Spots, end, loop, inner, loopCode, endCode, compOf, loopsAt, gensAt, orUnit, inners, innersF, innersC, spotsOf, loopsIn, endsIn}
-use Rattle.planner.proofs.Marked.{Marked}
 use Rattle.links.specs.Links.{Linked}
-use Rattle.links.proofs.Whole.{Whole}
+use Rattle.links.proofs.Planned.{Planned}
 use Rattle.links.specs.Alike.{Alike}
 use Rattle.tracking.specs.Wired.{Starts, Looped, Wired}
 use Rattle.wiring.specs.Shape.{Shaped, Within}
@@ -34,7 +32,7 @@ all-front : {A : Type 0} (P : A → Type 0) (l k : List A) → All P (l ++ k) �
 all-front P [] k h = tt
 all-front P (x ∷ l) k h = (h .0, all-front P l k (h .1))
 
-all-behind : {A : Type 0} (P : A → Type 0) (l k : List A) → All P (l ++ k) → All P k
+pub all-behind : {A : Type 0} (P : A → Type 0) (l k : List A) → All P (l ++ k) → All P k
 all-behind P [] k h = h
 all-behind P (x ∷ l) k h = all-behind P l k (h .1)
 
@@ -129,8 +127,8 @@ below-more : {m n : ℕ} (l : List ℕ) → m ≤ n → All (λ i. i < m) l → 
 below-more [] p a = tt
 below-more (x ∷ l) p a = (omega (arith, p, a .0), below-more l p (a .1))
 
--- The words that linking leaves are wired as the program of their normal form.
-pub wired-whole : (f : NormalForm) (s t : List ℕ) (r : ℕ) → size (asForm f) ≤ places → Whole f s t r → Marked s 0 (asForm f) (λ g. 0) 0 → Wired t 1 (programOf f) (spotsOf (f .clauses) (f .head) 0)
-wired-whole f s t r n W m =
+-- The words that planning and linking leave are wired as the program of their normal form.
+pub wired-planned : (f : NormalForm) (s t : List ℕ) (r : ℕ) → Planned f s t r → Wired t 1 (programOf f) (spotsOf (f .clauses) (f .head) 0)
+wired-planned f s t r W =
     let p : Spots = spotsOf (f .clauses) (f .head) 0 in
-    wired-of t 1 (programOf f) p (W .linked) (W .alike m) (spots-shaped (f .clauses) (f .head) .0) (within-of p (below-more (loopsIn p) n (W .apart .loops-within)) (below-more (endsIn p) n (W .apart .ends-within)))
+    wired-of t 1 (programOf f) p (W .linked) (W .alike) (spots-shaped (f .clauses) (f .head) .0) (within-of p (below-more (loopsIn p) (W .few) (W .apart .loops-within)) (below-more (endsIn p) (W .few) (W .apart .ends-within)))

@@ -1,2 +1,3 @@
--- The shape that the spots of a normal form have.
+-- The shape that the spots of a normal form have, and the bounds of its heads.
 pub mod Shape
+pub mod Bounds
