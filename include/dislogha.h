@@ -1,8 +1,8 @@
 // The engine's open calls for C++17: document 01's refusals, spans, and a wrapper for each call.
 //
 // A call reads and writes only what it is lent, keeps nothing between calls, and ends for every
-// input; nothing here allocates or throws. Several calls may run at once, each with a scratch of
-// its own.
+// input; nothing here allocates or throws. Several calls may run at once, each with a scratch and a
+// buffer of its own.
 //
 // What the engine promises holds for buffers that do not overlap. A wrapper tests that first:
 // where a span that is written shares a byte with another one, it makes no call, changes nothing

@@ -4,7 +4,7 @@
 use std::process::ExitCode;
 
 use evaluator::Unknown;
-use harness::compare::{hold, Reply, CHECK, LOOPS};
+use harness::compare::{hold, Reply, CHECK, LINES, LOOPS};
 use harness::generate::{Family, Input};
 use harness::recorded::bytes_of_hex;
 
@@ -79,7 +79,13 @@ impl Example {
         let mut written = self.words.clone();
         written.resize(self.greatest, 0);
         hold(&LOOPS, self.input(), self.reply(written), self.scratch)
-            .map_err(|what| format!("loops: {what}"))
+            .map_err(|what| format!("loops: {what}"))?;
+        let lines = Reply {
+            number: u64::from(self.number),
+            length: self.plan.len() as u64,
+            written: self.plan.clone().into_bytes(),
+        };
+        hold(&LINES, self.input(), lines, self.scratch).map_err(|what| format!("lines: {what}"))
     }
 
     fn compare_evaluator(&self) -> Result<Result<(), String>, Unknown> {
