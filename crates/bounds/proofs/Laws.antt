@@ -3,14 +3,14 @@
 use mathlib.Core.Path.{_≡_, refl, sym, ap, ap₂, subst, _∙_}
 use mathlib.Core.Bool.{Bool, true, false, _&&_, and-true, and-assoc}
 use mathlib.Core.List.{List}
-use Prim.Native.Nat.{ℕ, zero, suc, _+_, _-_, _*_, _/_, _^_, _≤_, _<_}
+use Prim.Native.Nat.{ℕ, zero, suc, _+_, _*_, _/_, _^_, _≤_, _<_}
 use native.Mathlib.Nat.{mul-le-mul-left, mul-le-mul, mul-assoc, mul-comm, pow-suc, zero-mul}
 use native.Mathlib.Omega.{arith, div-fact, mod-fact}
-use borrow.Author.Tests.{ltb-true, leb-true, leb-false, le-leb, lt-leb}
+use borrow.Author.Tests.{leb-true, leb-false, le-leb, lt-leb}
 use lib.Dec.{T, leb}
 use lib.ListN.{length}
-use lib.IntN.{ℤ, pos, negsuc, natAbs, _-ℤ_}
-use lib.Signed.{mag, ltZ, nonNeg}
+use lib.IntN.{ℤ, pos, natAbs, _-ℤ_}
+use lib.Signed.{ltZ, nonNeg}
 use mir.Syntax.{w64}
 use mir.Val.{SFits, Fits, toZ, ofZ}
 use mir.Facts.{toZ-ofZ, sfits-lit}
@@ -18,7 +18,7 @@ use Rattle.calculus.specs.Syntax.{of, sum, max, some, all, Bin, plus, minus, ti
 use Rattle.calculus.specs.Syntax as Sy
 use Rattle.normal_form.specs.Form.{Form, Clauses, NormalForm, asForm}
 use Rattle.normal_form.specs.Bound.{ownGens, binBound, compBound, bound, small, within, withinF, withinC, numbersFit}
-use Rattle.signed.proofs.Word.{sub-ok, sub-is, lt-is, by-test}
+use Rattle.signed.proofs.Word.{sub-ok, sub-is, lt-is, mag-abs, negated, natural, by-test}
 use Rattle.monoid.specs.declared.Monoid.{Monoid}
 use Rattle.monoid.specs.Word.{monoidOf}
 use Rattle.form.specs.declared.Op.{Op}
@@ -34,7 +34,7 @@ use Rattle.form.specs.Flat as Fl
 use Rattle.form.proofs.ReadBack.{read-back}
 use Rattle.form.proofs.Laws.{next-past, formNode, clausesNode, headNode, form-is, clauses-is, head-is, forms-end, forms-more}
 use Rattle.bounds.specs.declared.Size.{Size}
-use Rattle.bounds.specs.Size.{cut, perHead, perGenerator, Checked, SizeOf, SizeOfC, FormSize, ClausesSize, FormsFit, Verdict}
+use Rattle.bounds.specs.Size.{cut, perHead, perGenerator, Checked, SizeOf, SizeOfC, Unbounded, FormSize, ClausesSize, FormsFit, Verdict}
 
 -- ---- cut bounds
 abbrev top : ℕ
@@ -99,18 +99,6 @@ generator-bound some g a = refl
 generator-bound all g a = refl
 
 -- ---- the magnitude of a number
-mag-abs : (z : ℤ) → mag z ≤ natAbs z
-mag-abs (pos n) = omega arith
-mag-abs (negsuc n) = omega arith
-
-negated : (z : ℤ) → ltZ z (pos 0) ≡ true → pos 0 -ℤ z ≡ pos (natAbs z)
-negated (pos n) e = absurd (omega (arith, ltb-true n 0 e))
-negated (negsuc n) e = ap pos (omega arith)
-
-kept : (z : ℤ) → ltZ z (pos 0) ≡ false → z ≡ pos (natAbs z)
-kept (pos n) e = refl
-kept (negsuc n) e = absurd (let y : _≡_ {A = ℕ} 0 1 = cc in omega arith)
-
 module _ {z : ℤ} (fz : SFits w64 z) (p : natAbs z < 2 ^ 50) where
   pub negative-ok : SFits w64 (toZ w64 (ofZ w64 (pos 0)) -ℤ toZ w64 (ofZ w64 z))
   negative-ok = sub-ok (sfits-lit {z = pos 0} tt) fz (omega (arith, mag-abs z))
@@ -126,7 +114,7 @@ module _ {z : ℤ} (fz : SFits w64 z) (p : natAbs z < 2 ^ 50) where
     negative-is = ap natAbs turned
 
   pub positive-cast : ltZ (toZ w64 (ofZ w64 z)) (toZ w64 (ofZ w64 (pos 0))) ≡ false → T (nonNeg (toZ w64 (ofZ w64 z))) × Fits w64 (natAbs (toZ w64 (ofZ w64 z)))
-  positive-cast l = rw (toZ-ofZ fz ∙ kept z (lt-is fz (sfits-lit {z = pos 0} tt) l)) (tt, omega arith)
+  positive-cast l = rw (toZ-ofZ fz ∙ natural z (lt-is fz (sfits-lit {z = pos 0} tt) l)) (tt, omega arith)
 
 pub small-number : {s : List ℕ} {i : ℕ} {z z′ : ℤ} → Looks s i (Number z) → z′ ≡ z → natAbs z′ < 2 ^ 50
 small-number H e = rw e (H .inside)
@@ -157,34 +145,34 @@ module _ {s : List ℕ} {i : ℕ} {r : Size} where
   size-number {z} H e q C = sized H (λ f l. checked-size (formNode f s i (Number z)) C (q ∙ ap natAbs e ∙ omega (arith, H .inside)) (sym (and-true (leb (natAbs z) (2 ^ 62)))))
 
   -- what is no number, and holds none
-  module _ (p : r .bound ≡ 0) (q : r .fits ≡ true) where
+  module _ (U : Unbounded true r) where
     pub size-truth : {b : Bool} → Looks s i (Truth b) → FormSize s i r
     unfolding bound within
-    size-truth H = sized H (λ f l. record { bound-is = p; fits-is = q })
+    size-truth H = sized H (λ f l. record { bound-is = U .bound-is; fits-is = U .fits-is })
 
     pub size-row : {g : ℕ} → Looks s i (Row g) → FormSize s i r
     unfolding bound within
-    size-row H = sized H (λ f l. record { bound-is = p; fits-is = q })
+    size-row H = sized H (λ f l. record { bound-is = U .bound-is; fits-is = U .fits-is })
 
     pub size-generator : {g k : ℕ} → Looks s i (Generator g k) → FormSize s i r
     unfolding bound within
-    size-generator H = sized H (λ f l. record { bound-is = p; fits-is = q })
+    size-generator H = sized H (λ f l. record { bound-is = U .bound-is; fits-is = U .fits-is })
 
     pub size-condition : {j : ℕ} → Looks s i (Condition j) → FormSize s i r
     unfolding bound within
-    size-condition H = sized H (λ f l. record { bound-is = p; fits-is = q })
+    size-condition H = sized H (λ f l. record { bound-is = U .bound-is; fits-is = U .fits-is })
 
     pub size-nothing : Looks s i Nothing → FormSize s i r
     unfolding bound within
-    size-nothing H = sized H (λ f l. record { bound-is = p; fits-is = q })
+    size-nothing H = sized H (λ f l. record { bound-is = U .bound-is; fits-is = U .fits-is })
 
-  pub size-cell : {c g : ℕ} → Looks s i (Cell c g) → r .bound ≡ 2 ^ 31 → r .fits ≡ true → FormSize s i r
+  pub size-cell : {c g : ℕ} → Looks s i (Cell c g) → Checked (2 ^ 31) true r → FormSize s i r
   unfolding bound within
-  size-cell H p q = sized H (λ f l. record { bound-is = p; fits-is = q })
+  size-cell {c} {g} H C = sized H (λ f l. checked-size (formNode f s i (Cell c g)) C (omega arith) refl)
 
-  pub size-record : {e : ℕ} {w : Bool} → Looks s i (Record e) → FormsFit s (i + 1) e w → r .bound ≡ 0 → r .fits ≡ w → FormSize s i r
+  pub size-record : {e : ℕ} {w : Bool} → Looks s i (Record e) → FormsFit s (i + 1) e w → Unbounded w r → FormSize s i r
   unfolding bound within
-  size-record H W p q = sized H (λ f l. record { bound-is = p; fits-is = q ∙ W .is f (omega (arith, H .inside .0, H .inside .1)) })
+  size-record H W U = sized H (λ f l. record { bound-is = U .bound-is; fits-is = U .fits-is ∙ W .is f (omega (arith, H .inside .0, H .inside .1)) })
 
   pub size-binary : {o : Op} {j b : ℕ} {u : Bool} {x y : Size} → Looks s i (Binary o j) → FormSize s (i + 1) x → FormSize s j y →
       b ≡ cut (binBound (binOf o) (x .bound) (y .bound)) → u ≡ (x .fits && y .fits) → Checked b u r → FormSize s i r
@@ -196,9 +184,9 @@ module _ {s : List ℕ} {i : ℕ} {r : Size} where
       (p ∙ ap₂ (λ a b. cut (binBound (binOf o) a b)) (A .bound-is) (B .bound-is) ∙ cut-bin (binOf o) (bound (formTree f s (i + 1))) (bound (formTree f s j)))
       (ap (λ v. small (formNode f s i (Binary o j)) && v) (sym (q ∙ ap₂ _&&_ (A .fits-is) (B .fits-is)))))
 
-  pub size-negation : {x : Size} → Looks s i Negation → FormSize s (i + 1) x → r .bound ≡ 0 → r .fits ≡ x .fits → FormSize s i r
+  pub size-negation : {x : Size} → Looks s i Negation → FormSize s (i + 1) x → Unbounded (x .fits) r → FormSize s i r
   unfolding bound within
-  size-negation H X p q = sized H (λ f l. record { bound-is = p; fits-is = q ∙ X .is f (omega (arith, H .inside)) .fits-is })
+  size-negation H X U = sized H (λ f l. record { bound-is = U .bound-is; fits-is = U .fits-is ∙ X .is f (omega (arith, H .inside)) .fits-is })
 
   pub size-comprehension : {m : Monoid} {x : Size} → Looks s i (Comprehension m) → ClausesSize s (i + 1) m x → Checked (x .bound) (x .fits) r → FormSize s i r
   unfolding bound within

@@ -36,6 +36,11 @@ pub record Checked (b : ℕ) (t : Bool) (r : Size) : Type 0 where
   pub bound-is : r .bound ≡ b
   pub fits-is : r .fits ≡ (leb b (2 ^ 62) && t)
 
+-- what is no number, likewise
+pub record Unbounded (t : Bool) (r : Size) : Type 0 where
+  pub bound-is : r .bound ≡ 0
+  pub fits-is : r .fits ≡ t
+
 -- the size of a form; of clauses and the head behind them, in a comprehension of m
 pub record SizeOf (t : Form) (r : Size) : Type 0 where
   pub bound-is : r .bound ≡ cut (bound t)

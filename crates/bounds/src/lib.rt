@@ -7,7 +7,7 @@ ghost use Rattle.normal_form.specs.Bound.{binBound};
 ghost use Rattle.monoid.specs.Word.{monoidOf};
 ghost use Rattle.form.specs.Packing.{places};
 ghost use Rattle.form.specs.Tree.{binOf};
-ghost use Rattle.bounds.specs.Size.{cut, perGenerator, perHead, Checked, FormSize, ClausesSize, FormsFit, Verdict};
+ghost use Rattle.bounds.specs.Size.{cut, perGenerator, perHead, Checked, Unbounded, FormSize, ClausesSize, FormsFit, Verdict};
 use form::Clause;
 use form::Node;
 use form::Op;
@@ -114,27 +114,25 @@ fn checked(bound: u64, inside: bool) -> Size
     }
 }
 
+// What is no number has bound 0; `inside` says whether the numbers in it fit.
+fn unbounded(inside: bool) -> Size
+    ensures { λ r. ⌜ Unbounded inside r ⌝ }
+{
+    Size {
+        bound: 0,
+        fits: inside,
+    }
+}
+
 pub fn form_size(s: &[u64], i: usize) -> Size
     ensures { λ r. ⌜ FormSize (now (s .entry)) i r ⌝ }
 {
     match look(s, i) {
         Node::Number(z) => checked(magnitude(z), true),
-        Node::Truth(b) => Size {
-            bound: 0,
-            fits: true,
-        },
-        Node::Row(g) => Size {
-            bound: 0,
-            fits: true,
-        },
-        Node::Cell(c, g) => Size {
-            bound: 2147483648,
-            fits: true,
-        },
-        Node::Record(e) => Size {
-            bound: 0,
-            fits: record_fits(s, i + 1, e),
-        },
+        Node::Truth(b) => unbounded(true),
+        Node::Row(g) => unbounded(true),
+        Node::Cell(c, g) => checked(2147483648, true),
+        Node::Record(e) => unbounded(record_fits(s, i + 1, e)),
         Node::Binary(o, j) => {
             let a = form_size(s, i + 1);
             let b = form_size(s, j);
@@ -142,27 +140,15 @@ pub fn form_size(s: &[u64], i: usize) -> Size
         }
         Node::Negation => {
             let a = form_size(s, i + 1);
-            Size {
-                bound: 0,
-                fits: a.fits,
-            }
+            unbounded(a.fits)
         }
         Node::Comprehension(m) => {
             let a = clauses_size(s, i + 1, m);
             checked(a.bound, a.fits)
         }
-        Node::Generator(g, k) => Size {
-            bound: 0,
-            fits: true,
-        },
-        Node::Condition(j) => Size {
-            bound: 0,
-            fits: true,
-        },
-        Node::Nothing => Size {
-            bound: 0,
-            fits: true,
-        },
+        Node::Generator(g, k) => unbounded(true),
+        Node::Condition(j) => unbounded(true),
+        Node::Nothing => unbounded(true),
     }
 }
 

@@ -71,7 +71,7 @@ ahead-cut w p (suc n) l m =
     (λ e. let h = ltb-false p (length w) e in omega (arith, ahead-out w p n h, ap (times n (behind w)) (behind-out w p h)))
 
 -- ---- tally
-clash : {P : Type 0} → true ≡ false → P
+pub clash : {P : Type 0} → true ≡ false → P
 clash e = let z : _≡_ {A = ℕ} 0 1 = cc in absurd (omega arith)
 
 negative : (z : ℤ) → ltZ z (pos 0) ≡ true → 0 ≡ natOf z

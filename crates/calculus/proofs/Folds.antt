@@ -263,10 +263,6 @@ pub raw-of : (c : Collection) (l : List Value) → raw (of c) l ≡ coll (fromLi
 unfolding raw
 raw-of c l = fold-of (λ d v m. v ∷ m) c l ∙ ap (λ m. coll (fromList m)) (foldr-cons l)
 
-pub raw-elems : (c : Collection) (l : List Value) → elems (raw (of c) l) ≡ l
-unfolding elems
-raw-elems c l = ap elems (raw-of c l) ∙ to-from l
-
 -- The raw and the canonical value of a sum, max, some and all are the same.
 pub raw-canonical : (m : Monoid) → ((c : Collection) → m ≢ of c) → (l : List Value) → raw m l ≡ canonical m l
 unfolding raw canonical foldBy

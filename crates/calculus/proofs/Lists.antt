@@ -89,6 +89,19 @@ pub all-append : {A : Type 0} (P : A → Type 0) (l m : List A) → All P l → 
 all-append P [] m h k = k
 all-append P (a ∷ l) m h k = (h .0, all-append P l m (h .1) k)
 
+pub all-front : {A : Type 0} (P : A → Type 0) (l m : List A) → All P (l ++ m) → All P l
+all-front P [] m h = tt
+all-front P (a ∷ l) m h = (h .0, all-front P l m (h .1))
+
+pub all-behind : {A : Type 0} (P : A → Type 0) (l m : List A) → All P (l ++ m) → All P m
+all-behind P [] m h = h
+all-behind P (a ∷ l) m h = all-behind P l m (h .1)
+
+pub all-guard : {A : Type 0} (P : A → Type 0) (b : Bool) (l : List A) → All P l → All P (guard b l)
+unfolding guard
+all-guard P true l h = h
+all-guard P false l h = tt
+
 pub all-bind : {A B : Type 0} (P : A → Type 0) (Q : B → Type 0) (f : A → List B) (l : List A) → All P l → ((a : A) → P a → All Q (f a)) → All Q (bindL l f)
 unfolding bindL
 all-bind P Q f [] h k = tt

@@ -1,6 +1,6 @@
 -- The starred cases of "At the edges", as rows of one table. Each crate above shows its own side of all of them.
 use mathlib.Core.List.{List, [], _∷_}
-use mathlib.Core.Bool.{Bool, true, false}
+use mathlib.Core.Bool.{true, false}
 use Prim.Native.Nat.{ℕ}
 use lib.IntN.{ℤ, pos, negsuc}
 use Rattle.calculus.specs.Syntax.{Collection, bag, set, Monoid, of, sum, max, all, equal, Term, num, truth, name, field, rec, bin, comp, table, tnil, tcons, qnil, gen, cond, Question}

@@ -1,7 +1,6 @@
 -- The meaning of a question: the monoid comprehension calculus as document 01 fixes it. The fold is a parameter:
 -- `canonical` gives the value, `raw` leaves every collection as the loops meet it, repeats of sets included.
 use mathlib.Core.List.{List, [], _∷_}
-use mathlib.Core.Bool.{Bool}
 use Prim.Native.Nat.{ℕ}
 use Rattle.calculus.specs.Lists.{bindL, guard, upd}
 use Rattle.calculus.specs.Syntax.{Term, Terms, Quals, num, truth, name, field, rec, bin, negate, comp, table, tnil, tcons, qnil, gen, bind, cond, of, Question, asTerm}

@@ -1,6 +1,6 @@
 -- "Each monoid's start and its combining step belong to the monoid's own type."
 use mathlib.Core.List.{List, [], _∷_}
-use mathlib.Core.Bool.{Bool, true, false, _&&_, _||_}
+use mathlib.Core.Bool.{true, false, _&&_, _||_}
 use lib.IntN.{ℤ, pos, _+ℤ_}
 use lib.Signed.{ltZ}
 use Rattle.calculus.specs.Lists.{pick}

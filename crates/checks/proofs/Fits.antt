@@ -1,7 +1,7 @@
 -- The rule of refusal 26: a generator that may stand in a monoid sees its collection as the list of heads that made it.
 use mathlib.Core.Path.{_≡_, refl, sym, ap, _∙_, subst}
 use mathlib.Core.List.{List}
-use mathlib.Core.Bool.{true, false, true≢false}
+use mathlib.Core.Bool.{true, true≢false}
 use Rattle.calculus.specs.Lists.{bindL}
 use Rattle.calculus.specs.Syntax.{Collection, list, bag, set, Monoid, of, sum, max, some, all}
 use Rattle.calculus.specs.Value.{Value, elems}

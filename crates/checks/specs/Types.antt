@@ -1,5 +1,4 @@
 -- Types. "25: a type, field or table that does not fit. 26: a generator its monoid may not have."
-use mathlib.Core.List.{List, [], _∷_}
 use mathlib.Core.Bool.{Bool, true, false}
 use Prim.Native.Nat.{ℕ, zero, suc}
 use lib.Dec.{ltb}

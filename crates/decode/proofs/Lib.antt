@@ -5,5 +5,6 @@ pub mod Same
 pub mod Chain
 pub mod Holds
 pub mod Levels
+pub mod Depths
 pub mod Binders
 pub mod Example

@@ -1,13 +1,14 @@
 // A node of the question from its words in scratch.
 ghost use mathlib.Core.Path.{_≡_};
-ghost use Prim.Native.Nat.{ℕ, _-_, _<_, _≤_};
+ghost use Prim.Native.Nat.{_-_, _<_};
 ghost use lib.ListN.{getD};
 ghost use Rattle.encoding.specs.Reader.{kinds, unknown};
 ghost use Rattle.monoid.specs.Word.{monoidOf};
-ghost use Rattle.question.specs.Tree.{numberOf, monoidAt, startAt};
-ghost use Rattle.decode.specs.Decode.{depthAt, binderWord, nameBy};
+ghost use Rattle.question.specs.Tree.{numberOf, monoidAt};
+ghost use Rattle.decode.specs.Decode.{depthAt, binderWord};
 ghost use Rattle.decode.specs.Look.{kindNamed, Looks, Named, Raised, Picks, BoundBy};
 use monoid::Monoid;
+use question::start_at;
 
 pub enum Op {
     Plus,
@@ -122,14 +123,6 @@ pub fn prior(e: usize) -> usize
     ensures { λ r. ⌜ r ≡ e - 1 ⌝ }
 {
     if e == 0 { 0 } else { e - 1 }
-}
-
-// Where the subtree of node i begins: there the node before it ends.
-pub fn start_at(s: &[u64], i: usize) -> usize
-    ensures { λ r. ⌜ (r ≡ startAt (now (s .entry)) i) × (r ≤ i) ⌝ }
-{
-    let b = question::start(question::node_word(s, i)) as usize;
-    if b < i { b } else { i }
 }
 
 pub fn depth_at(s: &[u64], i: usize) -> usize

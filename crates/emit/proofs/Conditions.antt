@@ -25,7 +25,7 @@ use Rattle.resolve.specs.declared.Form.{Form}
 use Rattle.resolve.specs.declared.Form.the-variants.{Number, Truth, Row, Cell, Record, Two, Not, Comp, Table, Bad}
 use Rattle.resolve.specs.declared.Place.{Place}
 use Rattle.resolve.proofs.Form as form
-use Rattle.resolve.proofs.Laws.{unranged}
+use Rattle.resolve.proofs.Laws.{one-more, unranged}
 use Rattle.emit.specs.declared.State.{State}
 use Rattle.emit.specs.declared.Split.{Split}
 use Rattle.emit.specs.Shape.{Single, Splits, IsComp}
@@ -34,7 +34,7 @@ use Rattle.emit.specs.Wrote as Wr
 use Rattle.emit.specs.Start.{collections, semS, placeS, flagIn, copyEnv, copyS, Copies, Room, StartsAt, ConditionAt, ConditionOf, WholeOf, CopyOf}
 use Rattle.emit.proofs.Done.{laid-kept, laidC, laidQ, movedC, movedQ, room-left, table-source, both-done, yields-done, whole-done, spliced-done, never-source}
 use Rattle.emit.proofs.Terms.{formS, form-is, childS, form-at, node-inside, node-level, child-starts, again, later-starts, condition-before, room-condition, room-at, room-less}
-use Rattle.emit.proofs.Copies.{headS, words-append, one-more}
+use Rattle.emit.proofs.Copies.{headS, words-append}
 
 -- ---- as a generator's term
 abbrev SourceOf : List ℕ → Place → Bool → State → Type 0

@@ -34,6 +34,7 @@ use Rattle.decode.proofs.Node as node
 use Rattle.resolve.specs.Place.{envOf}
 use Rattle.resolve.specs.declared.Form.the-variants.{Number, Truth, Record, Two, Not, Comp, Table, Bad}
 use Rattle.resolve.specs.declared.Place.{Place}
+use Rattle.resolve.proofs.Laws.{one-more}
 use Rattle.emit.specs.declared.State.{State}
 use Rattle.emit.specs.Shape.{IsComp}
 use Rattle.emit.specs.Wrote.{put, stateOf, behind, Closes, Emitted, EmittedN, EmittedQ}
@@ -44,9 +45,6 @@ use Rattle.emit.proofs.Terms.{form-is, form-at, node-inside, node-level
 
 pub words-append : (w q : Clauses) → wordsC (w ⊕ q) ≡ wordsC w + wordsC q
 words-append w q = ap (λ (a : Counts). a .long) (counts-append w q)
-
-pub one-more : (d : ℕ) → d + 1 ≡ suc d
-one-more d = omega arith
 
 -- ---- a copy of a comprehension
 -- its head

@@ -1,31 +1,24 @@
 -- The words that were laid are those of the form, and scratch holds them.
 use mathlib.Core.Path.{_≡_, refl, sym, ap, ap₂, subst, _∙_}
 use mathlib.Core.Logic.{⊎-elim}
-use mathlib.Core.Bool.{true}
 use mathlib.Core.List.{List, [], _∷_, _++_}
 use Prim.Native.Nat.{ℕ, suc, _+_, _*_, _≤_}
 use native.Mathlib.Omega.{arith}
 use lib.ListN.{length, getD, length-set}
 use lib.Seq.{getD-set-same}
-use Rattle.calculus.specs.Syntax.{Question, asTerm}
-use Rattle.checks.specs.Scope.{namesHold}
-use Rattle.normal_form.specs.Form.{Form, Forms, Clauses, num, truth, row, cell, rec, bin, negate, comp, fnil, fcons, done, gen, cond, asForm}
-use Rattle.normal_form.specs.Normal.{quote, normal}
+use Rattle.normal_form.specs.Form.{Form, Forms, Clauses, num, truth, row, cell, rec, bin, negate, comp, fnil, fcons, done, gen, cond}
+use Rattle.normal_form.specs.Normal.{quote}
 use Rattle.normal_form.specs.Size.{nodes}
 use Rattle.nodes.specs.Flat.{outside}
-use Rattle.nodes.specs.Tree.{noNames, Placed}
-use Rattle.nodes.specs.Tree as Tr
-use Rattle.nodes.specs.Saturated.{left}
 use Rattle.nodes.specs.Word.{Word, words, wordsF, wordsC}
 use Rattle.nodes.specs.Word as Wo
 use Rattle.nodes.specs.Emit.{puts}
 use Rattle.nodes.specs.Emit as No
 use Rattle.nodes.proofs.Counts.{sizes, flat-length}
 use Rattle.nodes.proofs.Local.{sem-local}
-use Rattle.nodes.proofs.Saturated.{written}
 use Rattle.form.specs.Packing.{formAt, places, pack}
 use Rattle.form.specs.Flat.{size, sizeF, sizeC, flat, flatF, flatC, opArg, monoidArg, Holds}
-use Rattle.decode.specs.Decode.{depthAt, nodesOf}
+use Rattle.decode.specs.Decode.{nodesOf}
 use Rattle.decode.proofs.PostOrder.{post-order}
 use Rattle.resolve.specs.Place.{envOf, offsets}
 use Rattle.emit.specs.declared.State.{State}
@@ -144,9 +137,3 @@ module _ (s : List ℕ) (i : ℕ) {t : Form} (e : formOf s i ≡ t) where
 
   pub form-held : {s′ : List ℕ} {r : ℕ} → WritesForm s i s′ r → Holds s′ 0 (flat t) × (r ≡ size t)
   form-held {s′} W = (subst (λ u. Holds s′ 0 (flat u)) e (W .held), W .number ∙ ap size e)
-
--- Where the table holds a question whose names hold, with offsets that are right up to 513, and its normal form has at most
--- 512 nodes, that is the normal form.
-pub form-normal : (s : List ℕ) (i : ℕ) (q : Question) → Placed left (collections s) (nodesOf s) (depthAt s) (offsets s) → Tr.Holds (nodesOf s) (depthAt s) (asTerm q) i 0 noNames → namesHold q ≡ true
-    → nodes (asForm (normal (collections s) q)) ≤ places → formOf s i ≡ asForm (normal (collections s) q)
-form-normal s i q O H h l = written (collections s) (nodesOf s) (post-order s) (depthAt s) (offsets s) O q i outside H h l

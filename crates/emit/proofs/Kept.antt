@@ -1,18 +1,19 @@
 -- Writing words of the normal form leaves what the scratch says of the question as it is.
 use mathlib.Core.Path.{_≡_, refl, sym, ap, ap₂, subst, fun-ext, _∙_}
 use mathlib.Core.Bool.{Bool, true, false}
-use mathlib.Core.List.{List, [], _∷_}
+use mathlib.Core.List.{List}
 use Prim.Native.Nat.{ℕ, zero, suc, _+_, _*_, _<_, min}
 use native.Mathlib.Omega.{arith}
 use borrow.Author.Tests.{ltb-true}
 use lib.Dec.{ltb}
 use lib.ListN.{getD}
 use Rattle.calculus.specs.Lists.{pick}
-use Rattle.calculus.specs.Syntax.{Collection, list, bag, set}
+use Rattle.calculus.specs.Syntax.{Collection, list}
+use Rattle.encoding.specs.Data.{collectionOf}
 use Rattle.tables.specs.Description.{collectionIn}
 use Rattle.normal_form.specs.Normal.{nothing, ranges}
 use Rattle.normal_form.specs.Size.{nodesC}
-use Rattle.nodes.specs.Node.{Node, Nodes, nnum, ntruth, nname, nfield, nrec, nbin, nnegate, ncomp, ntable, ngen, nbind, ncond, nbad, Below, Inside}
+use Rattle.nodes.specs.Node.{Node, Nodes, nnum, ntruth, nname, nfield, nrec, nbin, nnegate, ncomp, ntable, ngen, nbind, ncond, nbad}
 use Rattle.nodes.specs.Flat.{Env, Offsets, At, boundOf, qualOf, semOf, semAt, sem}
 use Rattle.nodes.specs.Saturated.{limit}
 use Rattle.question.specs.Layout.{bindersAt}
@@ -21,8 +22,9 @@ use Rattle.form.specs.Packing.{formAt}
 use Rattle.sizes.specs.declared.Count.{Count}
 use Rattle.sizes.specs.Packing.{wordAt, secondPair, thirdPair, conditionCount, stored}
 use Rattle.decode.specs.Decode.{most, depthAt, childrenOf, qualifiersOf, nodesOf, nodeBy}
-use Rattle.decode.specs.Levels.{AllAt, Level}
+use Rattle.decode.specs.Levels.{Level}
 use Rattle.decode.proofs.PostOrder.{post-order}
+use Rattle.decode.proofs.Depths.{level-same}
 use Rattle.decode.proofs.Same.{depth-same, children-same, qualifiers-same, nodes-same}
 use Rattle.question.specs.Tree.{kindAt}
 use Rattle.monoid.specs.Word.{monoidOf}
@@ -35,12 +37,6 @@ use Rattle.emit.specs.Start.{mostTables, collections, semS, Ready}
 -- the words before those of the normal form are the same
 pub record Kept (s s′ : List ℕ) : Type 0 where
   pub same : (j : ℕ) → j < formAt → getD s′ j 0 ≡ getD s j 0
-
-pub kept-self : {s : List ℕ} → Kept s s
-kept-self = record { same = λ j h. refl }
-
-pub kept-on : {s s′ s″ : List ℕ} → Kept s s′ → Kept s′ s″ → Kept s s″
-kept-on A B = record { same = λ j h. B .same j h ∙ A .same j h }
 
 -- ---- offsets matter at generators alone
 module _ (K : ℕ → Collection) (N : Nodes) (off off′ : Offsets) (O : (x c : ℕ) → N x ≡ ngen c → off x ≡ off′ x) where
@@ -93,28 +89,6 @@ gen-inside s x c e = go (ltb x most) refl e
     go true t p = ltb-true x most t
     go false t p = let z : _≡_ {A = ℕ} 0 1 = cc in absurd (omega arith)
 
--- ---- depths
-module _ {dep dep′ : ℕ → ℕ} (E : (j : ℕ) → j < most → dep′ j ≡ dep j) {i : ℕ} (h : i < most) where
-  all-kept : (D : ℕ) (cs : List ℕ) → Below i cs → AllAt dep D cs → AllAt dep′ D cs
-  unfolding Below AllAt
-  all-kept D [] b a = tt
-  all-kept D (c ∷ cs) b a = (E c (omega (arith, b .0)) ∙ a .0, all-kept D cs (b .1) (a .1))
-
-  level-kept : (D : ℕ) (y : Node) → Inside i y → Level dep D y → Level dep′ D y
-  level-kept D (nnum z) p l = tt
-  level-kept D (ntruth b) p l = tt
-  level-kept D (nname x d) p l = E x (omega (arith, p)) ∙ l
-  level-kept D (nfield k c) p l = E c (omega (arith, p)) ∙ l
-  level-kept D (nrec cs) p l = all-kept D cs p l
-  level-kept D (nbin o a b) p l = (E a (omega (arith, p .0)) ∙ l .0, E b (omega (arith, p .1)) ∙ l .1)
-  level-kept D (nnegate c) p l = E c (omega (arith, p)) ∙ l
-  level-kept D (ncomp m cs k) p l = (all-kept (suc D) cs (p .0) (l .0), E k (omega (arith, p .1)) ∙ l .1)
-  level-kept D (ntable k) p l = tt
-  level-kept D (ngen c) p l = E c (omega (arith, p)) ∙ l
-  level-kept D (nbind c) p l = E c (omega (arith, p)) ∙ l
-  level-kept D (ncond c) p l = E c (omega (arith, p)) ∙ l
-  level-kept D nbad p l = tt
-
 -- ---- what the scratch says
 module _ {s s′ : List ℕ} (H : Kept s s′) where
   node-words : (j : ℕ) → j < most → nodeWord s′ j ≡ nodeWord s j
@@ -158,7 +132,7 @@ module _ {s s′ : List ℕ} (H : Kept s s′) where
   collections-kept = fun-ext λ k. go k (ltb k mostTables) refl
     where
       by : ℕ → ℕ → ℕ → Collection
-      by k a b = pick (ltb k a) (getD (list ∷ list ∷ bag ∷ set ∷ []) (collectionIn b) list) list
+      by k a b = pick (ltb k a) (collectionOf (collectionIn b)) list
 
       go : (k : ℕ) (b : Bool) → ltb k mostTables ≡ b → pick b (by k (getD s′ 0 0) (getD s′ (1 + k) 0)) list ≡ pick b (by k (getD s 0 0) (getD s (1 + k) 0)) list
       go k true t = ap₂ (by k) (H .same 0 (omega arith)) (H .same (1 + k) (omega (arith, ltb-true k mostTables t)))
@@ -186,7 +160,7 @@ module _ {s s′ : List ℕ} (H : Kept s s′) where
       record {
         few = f;
         levelled = λ i h. subst (Level (depthAt s′) (depthAt s′ i)) (sym (ap (λ (N : Nodes). N i) nodes-kept))
-            (level-kept depth-kept (omega arith) (depthAt s′ i) (nodesOf s i) (post-order s i) (subst (λ (D : ℕ). Level (depthAt s) D (nodesOf s i)) (sym (depth-kept i (omega arith))) (R .levelled i h)));
+            (level-same (depthAt s) (depthAt s′) i (λ j p. sym (depth-kept j (omega arith))) (depthAt s′ i) (nodesOf s i) (post-order s i) (subst (λ (D : ℕ). Level (depthAt s) D (nodesOf s i)) (sym (depth-kept i (omega arith))) (R .levelled i h)));
         measured = λ x h v z e n.
             ap (λ (A : At). nodesC (qualOf A (depthAt s′ x) e v n (nodesOf s′ x))) sem-kept
             ∙ ap₂ (λ (D : ℕ) (N : Nodes). nodesC (qualOf (semS s) D e v n (N x))) (depth-kept x (omega arith)) nodes-kept

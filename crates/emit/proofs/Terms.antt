@@ -12,7 +12,7 @@ use Rattle.normal_form.specs.Normal.{Sem, Sems, scons, quote, quotes, condition
 use Rattle.nodes.specs.Node.{Node, Inside}
 use Rattle.nodes.specs.Flat.{Env, At, semsOf, levels}
 use Rattle.nodes.specs.Word.{words, wordsF, wordsC}
-use Rattle.nodes.proofs.Emit.{quote-binary}
+use Rattle.normal_form.proofs.Fixed.{quote-binary}
 use Rattle.monoid.specs.declared.Monoid.{Monoid}
 use Rattle.form.specs.Packing.{places}
 use Rattle.form.specs.Flat.{opArg}

@@ -1,4 +1,4 @@
--- Which forms have nodes below them, and how each stands as a condition.
+-- How each form stands as a condition.
 use mathlib.Core.Path.{_≡_}
 use mathlib.Core.Bool.{Bool, true, false}
 use Prim.Native.Nat.{ℕ}
@@ -12,19 +12,6 @@ use Rattle.resolve.specs.declared.Form.{Form}
 use Rattle.resolve.specs.declared.Form.the-variants.{Number, Truth, Row, Cell, Record, Two, Not, Comp, Table, Bad}
 use Rattle.emit.specs.declared.Split.{Split}
 use Rattle.emit.specs.declared.Split.the-variants.{And, Some, One}
-
--- no node is below it
-abbrev pub Simple : Form → Type 0
-Simple (Number z) = Unit {0}
-Simple (Truth b) = Unit {0}
-Simple (Row g) = Unit {0}
-Simple (Cell k g) = Unit {0}
-Simple Record = ⊥
-Simple (Two o a b) = ⊥
-Simple (Not c) = ⊥
-Simple (Comp m k) = ⊥
-Simple (Table k) = Unit {0}
-Simple Bad = Unit {0}
 
 -- one condition: neither an "and" nor a comprehension that gives way
 abbrev pub Single : Form → Bool → Type 0

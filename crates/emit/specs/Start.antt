@@ -1,12 +1,13 @@
 -- What a writer starts from: what the scratch says of the question, and room for what is written.
 use mathlib.Core.Path.{_≡_}
 use mathlib.Core.Bool.{Bool, _||_}
-use mathlib.Core.List.{List, [], _∷_}
+use mathlib.Core.List.{List}
 use Prim.Native.Nat.{ℕ, suc, _+_, _<_, _≤_}
 use lib.Dec.{ltb}
 use lib.ListN.{getD, drop}
 use Rattle.calculus.specs.Lists.{pick}
-use Rattle.calculus.specs.Syntax.{Collection, list, bag, set, of}
+use Rattle.calculus.specs.Syntax.{Collection, list, of}
+use Rattle.encoding.specs.Data.{collectionOf}
 use Rattle.tables.specs.Description.{collectionIn}
 use Rattle.normal_form.specs.Form.{Clauses}
 use Rattle.normal_form.specs.Form as Nf
@@ -32,7 +33,7 @@ mostTables = 8
 
 -- the collection of each table by its description: word 0 is the number of tables, word 1 + k describes table k
 unfoldable pub collections : List ℕ → ℕ → Collection
-collections s k = pick (ltb k mostTables) (pick (ltb k (getD s 0 0)) (getD (list ∷ list ∷ bag ∷ set ∷ []) (collectionIn (getD s (1 + k) 0)) list) list) list
+collections s k = pick (ltb k mostTables) (pick (ltb k (getD s 0 0)) (collectionOf (collectionIn (getD s (1 + k) 0))) list) list
 
 -- ---- what the scratch says of the question
 -- what a node comes to, and a place

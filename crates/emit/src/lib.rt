@@ -294,8 +294,8 @@ fn copied(s: &mut [u64], h: Place, m: Monoid, v: bool, st: State) -> State
     ensures { λ r. ⌜ EmittedQ (nodesOf (now (s .entry))) (semS (now (s .entry))) (qualifiersOf (now (s .entry)) (h .node)) (suc (h .depth)) (copyEnv h m v (st .next)) (flagIn v m) (now (s .entry)) st (now (s .exit)) r ⌝ }
 {
     let i = h.node;
-    let lo = decode::start_at(s, i);
-    let e = decode::start_at(s, decode::prior(i));
+    let lo = question::start_at(s, i);
+    let e = question::start_at(s, decode::prior(i));
     qualifiers(
         s,
         lo,
@@ -324,7 +324,7 @@ fn qualifiers(
         return st;
     }
     let x = e - 1;
-    let b = decode::start_at(s, x);
+    let b = question::start_at(s, x);
     let q = qualifiers(s, lo, b, depth, env, v, st);
     qualifier(s, x, depth, env, v, q)
 }
@@ -382,7 +382,7 @@ fn both(s: &mut [u64], h: Place, a: usize, b: usize, v: bool, st: State) -> Stat
     condition(s, b, h.depth, e, v, q)
 }
 
-// "a condition that is a "some" comprehension gives way to its qualifiers and then its head"
+// "a condition that is a "some" comprehension .. gives way to its qualifiers and then its head as a condition"
 fn yielding(s: &mut [u64], h: Place, k: usize, st: State) -> State
     requires { ⌜ ConditionOf (now s) h true st × (h .form ≡ Comp Monoid.Some k) ⌝ }
     ensures { λ r. ⌜ EmittedC (placeS (now (s .entry)) h) true (now (s .entry)) st (now (s .exit)) r ⌝ }

@@ -1,6 +1,6 @@
 -- What every question that is read has, where each kind of record keeps it.
 use mathlib.Core.Path.{_≡_, refl, sym, subst}
-use mathlib.Core.List.{List, [], _∷_}
+use mathlib.Core.List.{[], _∷_}
 use mathlib.Core.Bool.{Bool, true, false, _&&_}
 use Prim.Native.Nat.{ℕ, zero, suc, _-_, _^_, _<_}
 use native.Mathlib.Omega.{arith}
@@ -10,7 +10,7 @@ use lib.IntN.{ℤ, pos, negsuc}
 use lib.Signed.{mag}
 use borrow.Author.Tests.{ltb-true, ltb-false}
 use Rattle.calculus.specs.Syntax.{Monoid, Bin, Term, Terms, Quals, Question, num, truth, name, field, rec, bin, negate, comp, table, tnil, tcons, qnil, gen, bind, cond}
-use Rattle.encoding.specs.Record.{Bytes, Result, refused, got, andThen, require, two, four, signed, kindOf, contentOf, behind, isWhole}
+use Rattle.encoding.specs.Record.{Bytes, Result, refused, got, andThen, require, two, four, signed, kindOf, contentOf}
 use Rattle.encoding.specs.Reader.{Kind, kinds, number, truthK, nameK, fieldK, record′, not, tableK, comprehension, generator, binding, condition, unknown, two-terms, monoids, Part, term, generates, binds, holds, Step, Read, Reader, noMore, asTerm, oneTerm, filled, terms, inFront, onPart, parts, comprehends, named, content, atRecord, readPart, readQuestion}
 
 -- what a reading gives, where it gives something

@@ -1,12 +1,11 @@
 -- Reading refuses by no number but its own: data by 11, 12 and 13, a question by 21, 22 and 23.
-use mathlib.Core.List.{List, [], _∷_}
-use mathlib.Core.Bool.{Bool, true, false, _&&_}
+use mathlib.Core.List.{[], _∷_}
+use mathlib.Core.Bool.{Bool, true, false}
 use Prim.Native.Nat.{ℕ, zero, suc}
-use lib.Dec.{eqb, leb}
-use lib.ListN.{length, getD, drop}
-use Rattle.calculus.specs.Syntax.{Monoid, Term, Terms, Question, tnil, tcons}
-use Rattle.encoding.specs.Record.{Bytes, Result, refused, got, andThen, require, kindOf, contentOf, behind, isWhole}
-use Rattle.encoding.specs.Data.{tablesFrom, readData, fits}
+use lib.ListN.{getD, drop}
+use Rattle.calculus.specs.Syntax.{Monoid, Term, Question, tnil}
+use Rattle.encoding.specs.Record.{Bytes, Result, refused, got, andThen, require, kindOf, contentOf, behind}
+use Rattle.encoding.specs.Data.{tablesFrom, readData}
 use Rattle.encoding.specs.Reader.{Kind, number, truthK, nameK, fieldK, record′, not, tableK, comprehension, generator, binding, condition, unknown, two-terms, monoids, Part, term, generates, binds, holds, Step, Read, Reader, noMore, asTerm, oneTerm, filled, terms, inFront, onPart, parts, comprehends, named, content, atRecord, readPart, readQuestion}
 
 -- a result that, where it is a refusal, is one by a number of P

@@ -8,8 +8,8 @@ use lib.ListN.{length, getD, drop}
 use Rattle.calculus.specs.Syntax.{list, bag, set, Monoid, of, sum, max, some, all, Bin, plus, minus, times, equal, less, and, or, Term, Terms, Quals, num, truth, name, field, rec, bin, negate, comp, table, tnil, tcons, qnil, gen, bind, cond, Question}
 use Rattle.encoding.specs.Record.{Bytes, Result, refused, got, andThen, require, byte, two, four, signed, kindOf, contentOf, behind, isWhole}
 
--- "Kinds: 1 number ..; 2 truth ..; 3 name ..; 4 field ..; 5 record ..; 6 plus .. 12 or ..; 13 not ..; 15 table ..",
--- "Qualifiers: 16 generator, 17 binding, 18 condition"
+-- "Kinds: 1 number ..; 2 truth ..; 3 name ..; 4 field ..; 5 record ..; 6 plus, 7 minus, 8 times, 9 equal, 10 less, 11 and, 12 or
+-- ..; 13 not ..; 15 table .. Kind 14 is one byte of monoid, .. Qualifiers: 16 generator .., 17 binding .., 18 condition .."
 pub data Kind : Type 0 where
   number truthK nameK fieldK record′ not tableK comprehension generator binding condition unknown : Kind
   two-terms : Bin → Kind

@@ -7,8 +7,7 @@ use Prim.Native.Nat.{ℕ, zero, suc, _+_, _-_, _/_, _%_, _^_, _≤_, _<_}
 use native.Mathlib.Omega.{arith}
 use borrow.Author.Tests.{le-leb, lt-leb}
 use lib.Dec.{ltb, eqb}
-use lib.ListN.{length, set, List·getD-eq-default}
-use lib.Seq.{getD-set-same, getD-set-other}
+use lib.ListN.{List·getD-eq-default}
 use lib.IntN.{ℤ, pos, negsuc, natAbs, _-ℤ_}
 use mir.Syntax.{w64}
 use mir.Val.{SFits, toZ, ofZ}
@@ -23,7 +22,7 @@ use Rattle.form.specs.declared.Op.the-variants.{Plus}
 use Rattle.form.specs.declared.Node.{Node}
 use Rattle.form.specs.declared.Node.the-variants.{Number, Truth, Row, Cell, Record, Binary, Negation, Comprehension, Generator, Condition, Nothing}
 use Rattle.form.specs.declared.Clause.{Clause}
-use Rattle.form.specs.Packing.{formAt, places, wordAt, kindOf, belowOf, argOf, pack, next, numberOf, operators, opAt, monoids, monoidAt, kinds, nodeOf, nodeAt}
+use Rattle.form.specs.Packing.{places, wordAt, kindOf, belowOf, argOf, pack, next, numberOf, operators, opAt, monoids, monoidAt, kinds, nodeOf, nodeAt}
 use Rattle.form.specs.Tree.{formBy, clauseOf, clausesBy, headBy, formTree, formsTree, clausesTree, headTree}
 use Rattle.form.specs.Look.{Inside, Looks, InsideC, LooksC}
 
@@ -37,13 +36,6 @@ module _ (k b a : ℕ) (hk : k < 16) (hb : b < 1024) where
 
   pub arg-pack : argOf (pack k b a) ≡ a
   arg-pack = omega arith
-
--- a word that was put is read back, and no other word changes
-pub word-same : (s : List ℕ) (i w : ℕ) → formAt + i < length s → wordAt (set s (formAt + i) w) i ≡ w
-word-same s i w p = getD-set-same s (formAt + i) w 0 p
-
-pub word-other : (s : List ℕ) (i j w : ℕ) → (j ≡ i → ⊥) → wordAt (set s (formAt + i) w) j ≡ wordAt s j
-word-other s i j w n = getD-set-other s (formAt + i) (formAt + j) w 0 (λ e. n (omega arith))
 
 -- ---- places
 module _ (s : List ℕ) (i : ℕ) where

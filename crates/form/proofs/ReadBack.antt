@@ -1,15 +1,13 @@
 -- Where scratch holds the words of a form, the form is read there. The words are no more than the nodes that refusal 27
 -- counts.
-use mathlib.Core.Path.{_≡_, refl, sym, ap, ap₂, subst, _∙_}
+use mathlib.Core.Path.{_≡_, refl, ap, ap₂, subst, _∙_}
 use mathlib.Core.Bool.{Bool, true, false}
 use mathlib.Core.List.{List, [], _∷_, _++_}
 use Prim.Native.Nat.{ℕ, zero, suc, pred, min, _+_, _-_, _*_, _%_, _^_, _≤_, _<_}
 use native.Mathlib.Omega.{arith}
 use borrow.Author.Tests.{lt-ltb, le-ltb, le-leb, lt-leb}
 use lib.Dec.{leb, eqb}
-use lib.ListN.{length, getD, take, drop, length-append}
-use lib.ListN as Li
-use lib.Seq.{getD-take, getD-drop}
+use lib.ListN.{length, length-append}
 use lib.IntN.{ℤ, pos, negsuc}
 use lib.Signed.{mag}
 use Rattle.calculus.specs.Lists.{pick}
@@ -20,10 +18,10 @@ use Rattle.monoid.specs.Word as Mw
 use Rattle.form.specs.declared.Node.{Node}
 use Rattle.form.specs.declared.Node.the-variants.{Number, Truth, Row, Cell, Record, Binary, Negation, Comprehension, Generator, Condition}
 use Rattle.form.specs.declared.Clause.the-variants as Cl
-use Rattle.form.specs.Packing.{formAt, places, wordAt, kindOf, belowOf, argOf, pack, next, numberOf, opAt, monoidAt, nodeOf, nodeAt}
+use Rattle.form.specs.Packing.{places, wordAt, kindOf, belowOf, argOf, pack, next, numberOf, opAt, monoidAt, nodeOf, nodeAt}
 use Rattle.form.specs.Tree.{binOf, clauseOf, formTree, formsTree, clausesTree, headTree, left}
 use Rattle.form.specs.Flat.{size, sizeF, sizeC, numberArg, opArg, monoidArg, flat, flatF, flatC, Fits, FitsF, FitsC, Holds}
-use Rattle.form.proofs.Laws.{kind-pack, below-pack, arg-pack, word-other, formNode, clausesNode, headNode}
+use Rattle.form.proofs.Laws.{kind-pack, below-pack, arg-pack, formNode, clausesNode, headNode}
 
 -- ---- how many words
 mutual
@@ -103,18 +101,6 @@ module _ (s : List ℕ) where
   pub holds-kept : (r : List ℕ) (l : List ℕ) (i : ℕ) → ((j : ℕ) → i ≤ j → j < i + length l → wordAt r j ≡ wordAt s j) → Holds s i l → Holds r i l
   holds-kept r [] i k h = tt
   holds-kept r (w ∷ l) i k h = (k i (omega arith) (omega arith) ∙ h .0, holds-kept r l (i + 1) (λ j p q. k j (omega arith) (omega arith)) (h .1))
-
-  -- a word put elsewhere
-  pub holds-put : (l : List ℕ) (i j w : ℕ) → (i ≤ j → j < i + length l → ⊥) → Holds s i l → Holds (Li.set s (formAt + j) w) i l
-  holds-put l i j w n = holds-kept (Li.set s (formAt + j) w) l i (λ k p q. word-other s j k w (λ e. n (omega arith) (omega arith)))
-
-  -- the same by take and drop
-  pub holds-part : (l : List ℕ) (i : ℕ) → take (length l) (drop (formAt + i) s) ≡ l → Holds s i l
-  holds-part l i e = go l i (λ k p. ap (λ x. getD s x 0) (omega arith) ∙ sym (getD-drop (formAt + i) s k 0) ∙ sym (getD-take (length l) (drop (formAt + i) s) k 0 p) ∙ ap (λ (x : List ℕ). getD x k 0) e)
-    where
-      go : (m : List ℕ) (j : ℕ) → ((k : ℕ) → k < length m → wordAt s (j + k) ≡ getD m k 0) → Holds s j m
-      go [] j h = tt
-      go (w ∷ m) j h = (ap (wordAt s) (omega arith) ∙ h 0 (omega arith), go m (j + 1) (λ k p. ap (wordAt s) (omega arith) ∙ h (suc k) (omega arith)))
 
 -- ---- arguments read back
 number-back : (z : ℤ) → mag z < 2 ^ 31 → numberOf (numberArg z) ≡ z

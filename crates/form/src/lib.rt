@@ -1,4 +1,5 @@
-// The words of a normal form in scratch: `look` is their only reader, `put_word` their only writer.
+// The words of a normal form in scratch: `word` is their only reader, `put_word` their only writer. `look` says which node a
+// word is.
 ghost use mathlib.Core.Path.{_≡_};
 ghost use Prim.Native.Nat.{_+_, _%_, _<_, _^_};
 ghost use lib.ListN.{set};

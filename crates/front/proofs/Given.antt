@@ -1,7 +1,7 @@
 -- What every question that is read has: at most 32 comprehensions inside one another, names below 256, constants within 32
 -- bits signed, and records of at most 8 terms.
 use mathlib.Core.Path.{_≡_}
-use Prim.Native.Nat.{ℕ, suc, _^_, _≤_, _<_}
+use Prim.Native.Nat.{ℕ, _^_, _≤_, _<_}
 use native.Mathlib.Omega.{arith}
 use lib.Signed.{mag}
 use Rattle.calculus.specs.Syntax.{Term, Terms, Quals, Question, asTerm, num, truth, name, field, rec, bin, negate, comp, table, tnil, tcons, qnil, gen, bind, cond}

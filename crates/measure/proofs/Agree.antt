@@ -12,7 +12,7 @@ use Rattle.normal_form.specs.Form as Nf
 use Rattle.normal_form.specs.Normal.{Sem, Sems, fields, nested, plain, scons, nothing, quote, idempotent, condition, ranges, part, binary}
 use Rattle.nodes.specs.Node.{Node, Nodes, nnum, ntruth, nname, nfield, nrec, nbin, nnegate, ncomp, ntable, ngen, nbind, ncond, nbad, Below, Inside, PostOrder}
 use Rattle.nodes.specs.Flat.{Env, enter, outside, Offsets, At, boundOf, qualOf, clausesOf, semsOf, levels, semOf, semAt, sem}
-use Rattle.measure.specs.Measure.{formCount, clausesCount, unplaced, termOf, conditionOf, spliceOf, qualifierOf}
+use Rattle.measure.specs.Measure.{clausesCount, unplaced, qualifierOf}
 
 -- readings that are the same for the nodes before i
 abbrev Same : ℕ → At → At → Type 0
@@ -96,20 +96,8 @@ module _ (K : ℕ → Collection) (N M : Nodes) (P : PostOrder N) (l : ℕ) (sam
   unfolding sem
   node-agree i D e k = ap (λ (a : ℕ → Env → Sem). a D e) (at-agree (suc i) i k)
 
--- And each writes as much.
+-- And a qualifier writes as much.
 module _ (K : ℕ → Collection) (N M : Nodes) (P : PostOrder N) (l : ℕ) (same : (j : ℕ) → j < l → N j ≡ M j) where
-  pub term-agree : (D i : ℕ) → i < l → termOf K N D i ≡ termOf K M D i
-  unfolding termOf
-  term-agree D i k = ap (λ d. formCount (quote d 0)) (node-agree K N M P l same unplaced i D outside k)
-
-  pub condition-agree : (D i : ℕ) (v : Bool) → i < l → conditionOf K N D i v ≡ conditionOf K M D i v
-  unfolding conditionOf
-  condition-agree D i v k = ap (λ d. clausesCount (condition d v 0)) (node-agree K N M P l same unplaced i D outside k)
-
-  pub splice-agree : (D i : ℕ) (v : Bool) → i < l → spliceOf K N D i v ≡ spliceOf K M D i v
-  unfolding spliceOf
-  splice-agree D i v k = ap (λ d. clausesCount (ranges d v 0 .clauses)) (node-agree K N M P l same unplaced i D outside k)
-
   pub qualifier-agree : (D x : ℕ) (v : Bool) → x < l → qualifierOf K N D x v ≡ qualifierOf K M D x v
   unfolding qualifierOf
   qualifier-agree D x v k = ap clausesCount

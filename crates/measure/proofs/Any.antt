@@ -5,7 +5,7 @@ use mathlib.Core.Bool.{Bool}
 use Prim.Native.Nat.{ℕ, suc, _+_, _≤_}
 use native.Mathlib.Omega.{arith}
 use Rattle.calculus.specs.Syntax.{Collection}
-use Rattle.normal_form.specs.Form.{Clauses, done, gen, cond, _⊕_, gens, gensC}
+use Rattle.normal_form.specs.Form.{Clauses, _⊕_, gens, gensC}
 use Rattle.normal_form.specs.Normal.{quote, condition, ranges}
 use Rattle.normal_form.specs.Size.{nodes, nodesC}
 use Rattle.nodes.specs.Node.{Nodes, PostOrder}
@@ -26,12 +26,6 @@ these a g = record { size = a; gens = g }
 
 pub same-count : {a b g h : ℕ} → a ≡ b → g ≡ h → these a g ≡ these b h
 same-count p q = ap₂ these p q
-
-empty : (w : Clauses) → nodesC w ≡ 0 → w ≡ done
-unfolding nodes
-empty done h = refl
-empty (gen g k w) h = absurd (omega (arith, h))
-empty (cond t w) h = absurd (omega (arith, h))
 
 module _ (K : ℕ → Collection) (N : Nodes) (P : PostOrder N) where
   pub term-any : (off : Offsets) (i D : ℕ) (e : Env) (n : ℕ) → formCount (quote (sem K N off i D e) n) ≡ termOf K N D i
@@ -55,10 +49,6 @@ module _ (K : ℕ → Collection) (N : Nodes) (P : PostOrder N) where
       ap kept (alike-countsC blind (qualOf A D e v n (N x)) (qualOf B D outside v 0 (N x))
       (qual-near blind A B x D e outside v n 0 (N x)
       (λ c p a u u′ E. at-near K N P blind off unplaced (λ y b d k j q r. refl) (suc c) x c (omega arith) p a u u′ E) (λ d k. (refl, refl)) refl (P x)))
-
-  -- A qualifier that is counted 0 writes nothing: it may be passed over.
-  pub qualifier-empty : (off : Offsets) (x D : ℕ) (e : Env) (v : Bool) (n : ℕ) → qualifierOf K N D x v .size ≡ 0 → qualOf (sem K N off) D e v n (N x) ≡ done
-  qualifier-empty off x D e v n h = empty (qualOf (sem K N off) D e v n (N x)) (omega (arith, h, ap (λ (c : Count). c .size) (qualifier-any off x D e v n)))
 
 -- Sums counted to 513.
 pub sum-assoc : (a b c : Count) → beside (beside a b) c ≡ beside a (beside b c)

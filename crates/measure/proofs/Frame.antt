@@ -8,38 +8,17 @@ use lib.Dec.{eqb, ltb}
 use lib.ListN.{getD}
 use Rattle.calculus.specs.Lists.{pick}
 use Rattle.calculus.specs.Syntax.{Collection}
-use Rattle.nodes.specs.Node.{Node, Nodes, nnum, ntruth, nname, nfield, nrec, nbin, nnegate, ncomp, ntable, ngen, nbind, ncond, nbad, Below, Inside}
+use Rattle.nodes.specs.Node.{Node, Nodes, nnum, ntruth, nname, nfield, nrec, nbin, nnegate, ncomp, ntable, ngen, nbind, ncond, nbad, Inside}
 use Rattle.question.specs.Layout.{nodesAt, bindersAt, sizesAt}
 use Rattle.question.specs.Tree.{startAt}
 use Rattle.sizes.specs.declared.Count.{Count}
 use Rattle.decode.specs.Decode.{most, depthAt, nodesOf}
-use Rattle.decode.specs.Levels.{AllAt, Level}
+use Rattle.decode.specs.Levels.{Level}
 use Rattle.decode.proofs.PostOrder.{post-order}
+use Rattle.decode.proofs.Depths.{level-same}
 use Rattle.decode.proofs.Same.{start-same, depth-same, nodes-same}
 use Rattle.measure.specs.Arranged.{qualifies, ends, rowUpto, row, ahead, TermAt, TermsAt, Aligned, Arranged}
 use Rattle.measure.specs.Kept.{Writes, Adds, Measured}
-
--- depths that are the same for the nodes before i
-module _ (dep dep′ : ℕ → ℕ) (i : ℕ) (h : (j : ℕ) → j < i → dep j ≡ dep′ j) where
-  all-same : (D : ℕ) (cs : List ℕ) → Below i cs → AllAt dep D cs → AllAt dep′ D cs
-  unfolding Below AllAt
-  all-same D [] b a = tt
-  all-same D (c ∷ cs) b a = (sym (h c (b .0)) ∙ a .0, all-same D cs (b .1) (a .1))
-
-  level-same : (D : ℕ) (y : Node) → Inside i y → Level dep D y → Level dep′ D y
-  level-same D (nnum z) p a = a
-  level-same D (ntruth b) p a = a
-  level-same D (nname x d) p a = sym (h x p) ∙ a
-  level-same D (nfield k c) p a = sym (h c p) ∙ a
-  level-same D (nrec cs) p a = all-same D cs p a
-  level-same D (nbin o b c) p a = (sym (h b (p .0)) ∙ a .0, sym (h c (p .1)) ∙ a .1)
-  level-same D (nnegate c) p a = sym (h c p) ∙ a
-  level-same D (ncomp m cs k) p a = (all-same (suc D) cs (p .0) (a .0), sym (h k (p .1)) ∙ a .1)
-  level-same D (ntable k) p a = a
-  level-same D (ngen c) p a = sym (h c p) ∙ a
-  level-same D (nbind c) p a = sym (h c p) ∙ a
-  level-same D (ncond c) p a = sym (h c p) ∙ a
-  level-same D nbad p a = a
 
 module _ (s r : List ℕ) (front : (j : ℕ) → j < sizesAt → getD r j 0 ≡ getD s j 0) where
   words : (j : ℕ) → j < most → getD r (nodesAt + j) 0 ≡ getD s (nodesAt + j) 0

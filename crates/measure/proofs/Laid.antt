@@ -5,18 +5,9 @@ use mathlib.Core.Bool.{true, false}
 use Prim.Native.Nat.{ℕ, _+_, _-_, _<_, _≤_}
 use native.Mathlib.Omega.{arith}
 use lib.Dec.{leb, ltb}
-use lib.ListN.{length}
 use borrow.Author.Tests.{ltb-true, ltb-false, lt-ltb, eq-eqb, ne-eqb}
 use Rattle.calculus.specs.Lists.{pick}
-use Rattle.calculus.specs.Syntax.{Term, Terms, Quals, num, truth, name, field, rec, bin, negate, comp, table, tnil, tcons, qnil, gen, bind, cond, Collection, Question, asTerm}
-use Rattle.checks.specs.Scope.{namesHold}
-use Rattle.normal_form.specs.Form.{asForm}
-use Rattle.normal_form.specs.Normal.{quote, normal}
-use Rattle.normal_form.specs.Size as Si
-use Rattle.normal_form.specs.Size.{sizeFits}
-use Rattle.nodes.specs.Flat.{Env, levels, sem}
-use Rattle.nodes.specs.Saturated.{saturated}
-use Rattle.sizes.specs.Packing.{place, termCount, stored}
+use Rattle.calculus.specs.Syntax.{Term, Terms, Quals, num, truth, name, field, rec, bin, negate, comp, table, tnil, tcons, qnil, gen, bind, cond}
 use Rattle.signed.proofs.Word.{by-test}
 use Rattle.encoding.specs.Reader.{Kind, comprehension}
 use Rattle.question.specs.Tree.{monoidAt, argAt, startAt}
@@ -26,13 +17,10 @@ use Rattle.nodes.specs.Node as No
 use Rattle.decode.specs.Decode.{most, depthAt, binderWord, childrenOf, chain, qualifiersOf, above, nameBy, nodeBy, nodesOf}
 use Rattle.decode.proofs.PostOrder.{by-pick}
 use Rattle.decode.proofs.Chain.{chain-none, chain-more}
-use Rattle.decode.proofs.Holds.{node-is, up, node-at, lastsL, children-are, laid-holds}
-use Rattle.decode.proofs.Levels.{laid-levelled, last-depth}
-use Rattle.decode.specs.Tree.{BindersRight, nesting}
+use Rattle.decode.proofs.Holds.{node-is, up, node-at, lastsL, children-are}
+use Rattle.decode.proofs.Levels.{laid-levelled}
 use Rattle.measure.specs.Arranged.{qualifies, ends, row, TermAt, TermsAt, Aligned, Arranged}
-use Rattle.measure.specs.Kept.{Measures}
 use Rattle.measure.proofs.Outs.{row-none, row-more}
-use Rattle.measure.proofs.Result.{measured-fits, measured-written}
 
 -- ---- the last node of a tree is a term of its depth
 qualifies-above : (i : ℕ) (n : No.Node) → qualifies n ≡ false → qualifies (above i n) ≡ false
@@ -233,22 +221,3 @@ laid-arranged s t L h = record {
   levelled = laid-levelled s t L h;
   aligned = λ i l. aligned t s 0 0 L (omega arith) (λ p. absurd (omega arith)) i (omega arith) (omega arith);
 }
-
--- So after measuring a question that lies in the words, whose names hold and whose binders' words are right, its last node
--- tells whether its normal form is too large, and where it is not, that node comes to it.
-module _ {s r : List ℕ} (q : Question) (M : Measures s (nodes (asTerm q)) r) (L : Laid s 0 0 (asTerm q)) (few : nodes (asTerm q) ≤ most) (room : place (nodes (asTerm q)) 0 ≤ length s)
-    (deep : nesting (asTerm q) ≤ levels) (hold : namesHold q ≡ true) (B : BindersRight s q) (K : ℕ → Collection) where
-  root : ℕ
-  root = nodes (asTerm q) - 1
-
-  root-below : root < nodes (asTerm q)
-  unfolding root
-  root-below = omega (arith, some-nodes (asTerm q))
-
-  pub question-fits : leb (termCount r (nodes (asTerm q) - 1) .size) 512 ≡ sizeFits (normal K q)
-  unfolding root
-  question-fits = measured-fits M (laid-arranged s (asTerm q) L few) few room K q root root-below (laid-holds s q L few deep hold B) (last-depth s (asTerm q) L)
-
-  pub question-written : (e : Env) → Si.nodes (asForm (normal K q)) ≤ 512 → quote (sem K (nodesOf r) (saturated (stored r)) (nodes (asTerm q) - 1) 0 e) 0 ≡ asForm (normal K q)
-  unfolding root
-  question-written e m = measured-written M (laid-arranged s (asTerm q) L few) few room K q root root-below (laid-holds s q L few deep hold B) e hold m

@@ -22,7 +22,6 @@ use Rattle.decode.proofs.Node as node
 use Rattle.decode.proofs.PostOrder.{by-pick}
 use Rattle.decode.specs.declared.Node.{Node}
 use Rattle.decode.specs.declared.Node.the-variants.{Number, Truth, Name, Field, Record, Two, Not, Comp, Table, Gen, Bind, Cond, Bad}
-use Rattle.decode.specs.declared.Found.{Found}
 use Rattle.decode.specs.declared.Found.the-variants.{At, Nothing}
 use Rattle.decode.specs.Decode.{depthAt, siblings, childrenOf, nodesOf}
 use Rattle.decode.specs.Look.{nodeNamed, Looks, nth, Picks}
@@ -180,9 +179,6 @@ stored-is s i w p q = q ∙ ap (λ (a : List ℕ). set a (place i 1) (pack (w .s
 pub record Summed (s : List ℕ) (i : ℕ) (t : Count) (k : ℕ) : Type 0 where
   pub is : t ≡ total (termCount s) none (take k (childrenOf s i))
   pub within : k ≤ length (childrenOf s i)
-
-pub picked : {s : List ℕ} {i k : ℕ} {r n : Found} → Picks s i k r → r ≡ n → Picks s i k n
-picked {s} {i} {k} H e = subst (Picks s i k) e H
 
 take-at : (k c : ℕ) (cs : List ℕ) → At c ≡ nth k cs → (suc k ≤ length cs) × (take (suc k) cs ≡ take k cs ++ (c ∷ []))
 unfolding nth

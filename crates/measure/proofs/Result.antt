@@ -12,7 +12,7 @@ use Rattle.calculus.specs.Lists.{pick, upd}
 use Rattle.calculus.specs.Syntax.{Collection, Term, Terms, Quals, num, truth, name, field, rec, bin, negate, comp, table, tnil, tcons, qnil, gen, bind, cond, Question, asTerm}
 use Rattle.checks.specs.Scope.{namesHold}
 use Rattle.normal_form.specs.Form.{asForm}
-use Rattle.normal_form.specs.Normal.{Sem, quote, condition, ranges, normal}
+use Rattle.normal_form.specs.Normal.{quote, normal}
 use Rattle.normal_form.specs.Size.{nodes, sizeFits}
 use Rattle.nodes.specs.Node.{Node, Nodes, nnum, ntruth, nname, nfield, nrec, nbin, nnegate, ncomp, ntable, ngen, nbind, ncond, nbad, Below, Inside, PostOrder, qualifiers}
 use Rattle.nodes.specs.Flat.{Env, Offsets, qualOf, sem}
@@ -21,14 +21,14 @@ use Rattle.nodes.specs.Saturated.{left, saturated}
 use Rattle.nodes.proofs.Saturated.{written}
 use Rattle.question.specs.Tree.{startAt}
 use Rattle.sizes.specs.declared.Count.{Count}
-use Rattle.sizes.specs.Packing.{place, termCount, conditionCount, splicedCount, stored}
+use Rattle.sizes.specs.Packing.{place, termCount, conditionCount, stored}
 use Rattle.decode.specs.Decode.{most, depthAt, nodesOf}
 use Rattle.decode.specs.Levels.{AllAt}
 use Rattle.decode.proofs.PostOrder.{by-pick, post-order}
-use Rattle.measure.specs.Measure.{formCount, clausesCount, beside, none, termOf, qualifierOf, total, allOf, OffsetsQ}
-use Rattle.measure.specs.Arranged.{qualifies, ends, row, TermAt, Aligned, Arranged}
+use Rattle.measure.specs.Measure.{clausesCount, beside, none, termOf, qualifierOf, total, allOf, OffsetsQ}
+use Rattle.measure.specs.Arranged.{qualifies, ends, row, Aligned, Arranged}
 use Rattle.measure.specs.Kept.{Kept, Measures}
-use Rattle.measure.proofs.Any.{term-any, condition-any, splice-any, qualifier-any}
+use Rattle.measure.proofs.Any.{qualifier-any}
 use Rattle.measure.proofs.Agree.{node-agree, qualifier-agree}
 use Rattle.measure.proofs.Placed.{placed, root-fits}
 use Rattle.measure.proofs.Outs.{ends-at, row-none, row-more}
@@ -210,18 +210,6 @@ module _ {s r : List ℕ} {n : ℕ} (M : Measures s n r) (A : Arranged s n) (few
 
   -- What the scratch keeps is how much is written, counted to 513, in any environment, under any offsets, from any number on.
   module _ (K : ℕ → Collection) (i : ℕ) (l : i < n) (off : Offsets) (e : Env) where
-    abbrev comes : Sem
-    comes = sem K (nodesOf r) off i (depthAt r i) e
-
-    pub kept-term : TermAt r i → (x : ℕ) → formCount (quote comes x) ≡ termCount r i
-    kept-term h x = term-any K (nodesOf r) (post-order r) off i (depthAt r i) e x ∙ measured-kept K i l .term h .term
-
-    pub kept-condition : TermAt r i → (v : Bool) (x : ℕ) → clausesCount (condition comes v x) ≡ conditionCount r i v
-    kept-condition h v x = condition-any K (nodesOf r) (post-order r) off i (depthAt r i) e v x ∙ measured-kept K i l .term h .condition v
-
-    pub kept-splice : TermAt r i → (v : Bool) (x : ℕ) → clausesCount (ranges comes v x .clauses) ≡ splicedCount r i v
-    kept-splice h v x = splice-any K (nodesOf r) (post-order r) off i (depthAt r i) e v x ∙ measured-kept K i l .term h .splice v
-
     pub kept-qualifier : qualifies (nodesOf r i) ≡ true → (v : Bool) (x : ℕ) → clausesCount (qualOf (sem K (nodesOf r) off) (depthAt r i) e v x (nodesOf r i)) ≡ conditionCount r i v
     kept-qualifier h v x = qualifier-any K (nodesOf r) (post-order r) off i (depthAt r i) e v x ∙ measured-kept K i l .qualifier h .writes v
 

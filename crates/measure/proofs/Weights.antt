@@ -8,12 +8,13 @@ use lib.Dec.{ltb, ltb→lt, lt→ltb}
 use lib.Dec as De
 use lib.IntN.{ℤ, pos}
 use Rattle.calculus.specs.Lists.{pick}
-use Rattle.calculus.specs.Syntax.{Collection, Monoid, of, Bin, plus, minus, times, equal, less, and, or}
+use Rattle.calculus.specs.Syntax.{Collection, Monoid, Bin, plus, minus, times, equal, less, and, or}
 use Rattle.normal_form.specs.Form.{Form, gens, gensF, gensC}
 use Rattle.normal_form.specs.Form as Nf
 use Rattle.normal_form.specs.Normal.{Sem, row, fields, both, plain, nothing, quote, quotes, idempotent, givesWay, one, condition, ranges, binary}
 use Rattle.normal_form.specs.Size.{nodes, nodesF, nodesC}
 use Rattle.normal_form.proofs.Writing.{condition-cases}
+use Rattle.normal_form.proofs.Fixed.{quote-binary}
 use Rattle.nodes.specs.Node.{Node, Nodes, nnum, ntruth, nrec, nbin, nnegate, ncomp, ntable, ngen, nbind, ncond, nbad, PostOrder}
 use Rattle.nodes.specs.Flat.{Env, enter, outside, Offsets, At, qualOf, clausesOf, semsOf, compOf, levels, semOf, sem}
 use Rattle.nodes.proofs.Local.{sem-is}
@@ -53,16 +54,6 @@ row-weighs g = scalar (row g) leaf refl (λ v. refl) (λ v. refl)
 plain-weighs : (f : ℕ → Form) (t : Count) → formCount (f 0) ≡ t → Costs (plain f) t (λ v. above t) (λ v. never)
 unfolding quote condition ranges
 plain-weighs f t p = scalar (plain f) t p (λ v. refl) (λ v. refl)
-
-quote-two : (o : Bin) (a b : Sem) (n : ℕ) → quote (binary o a b) n ≡ Nf.bin o (quote a n) (quote b (n + gens (quote a n)))
-unfolding quote binary
-quote-two plus a b n = refl
-quote-two minus a b n = refl
-quote-two times a b n = refl
-quote-two equal a b n = refl
-quote-two less a b n = refl
-quote-two and a b n = refl
-quote-two or a b n = refl
 
 -- a node above two
 two-above : (a b g h : ℕ) → count (1 + (a + b)) (g + h) ≡ above (beside (count a g) (count b h))
@@ -108,7 +99,7 @@ module _ (K : ℕ → Collection) (N : Nodes) (P : PostOrder N) where
   two-term D o a b =
       let s = quote (before a D outside) 0 in
       let t = quote (before b D outside) (0 + gens s) in
-      ap formCount (quote-two o (before a D outside) (before b D outside) 0) ∙ two-above (nodes s) (nodes t) (gens s) (gens t)
+      ap formCount (quote-binary o (before a D outside) (before b D outside) 0) ∙ two-above (nodes s) (nodes t) (gens s) (gens t)
       ∙ ap₂ (λ x y. above (beside x y)) (term-any K N P unplaced a D outside 0) (term-any K N P unplaced b D outside (0 + gens s))
 
   and-condition : (D a b : ℕ) (v : Bool) → clausesCount (condition (both (before a D outside) (before b D outside)) v 0) ≡ beside (conditionOf K N D a v) (conditionOf K N D b v)

@@ -20,7 +20,7 @@ use Rattle.resolve.specs.Place.{Heads}
 use Rattle.measure.specs.declared.Ways.{Ways}
 use Rattle.measure.specs.declared.Weight.{Weight}
 use Rattle.measure.specs.Measure.{count, beside, above, none, leaf, never}
-use Rattle.measure.specs.Arranged.{ends, row, Arranged}
+use Rattle.measure.specs.Arranged.{ends, Arranged}
 use Rattle.measure.specs.Kept.{Measured, Kept}
 
 -- a count for each flag

@@ -250,7 +250,7 @@ fn comp(s: &[u64], i: usize, m: Monoid, h: usize) -> Weight
     if 32 <= decode::depth_at(s, i) {
         return scalar(Count { size: 1, gens: 0 });
     }
-    let a = row(s, decode::depth_at(s, h), decode::start_at(s, h));
+    let a = row(s, decode::depth_at(s, h), question::start_at(s, h));
     let q = own(m, a);
     let t = raise(side(q, sizes::term_count(s, h)));
     let c = raise(t);
@@ -273,7 +273,7 @@ fn comp(s: &[u64], i: usize, m: Monoid, h: usize) -> Weight
 fn qualifier(s: &[u64], i: usize, w: Ways) -> Weight
     ensures { λ r. ⌜ r ≡ qualifierWeight (rowWays (now (s .entry)) (depthAt (now (s .entry)) i) (startAt (now (s .entry)) i)) w ⌝ }
 {
-    let b = row(s, decode::depth_at(s, i), decode::start_at(s, i));
+    let b = row(s, decode::depth_at(s, i), question::start_at(s, i));
     Weight {
         term: Count { size: 0, gens: 0 },
         condition: w,

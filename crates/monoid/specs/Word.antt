@@ -1,6 +1,6 @@
 -- What the engine keeps of a monoid's value while it runs: one word, the first of the value's written form. That is the
 -- number itself, the truth as 0 or 1, or a collection's count.
-use mathlib.Core.Bool.{Bool, true, false}
+use mathlib.Core.Bool.{true, false}
 use Prim.Native.Nat.{ℕ}
 use lib.IntN.{ℤ, pos, _+ℤ_}
 use Rattle.calculus.specs.Lists.{pick}

@@ -1,6 +1,6 @@
 // The monoid's own type: its start and its combining step on words. Loops, nest and reduce use these.
 ghost use mathlib.Core.Path.{_≡_};
-ghost use Prim.Native.Nat.{ℕ, _<_, _^_};
+ghost use Prim.Native.Nat.{_<_, _^_};
 ghost use lib.Signed.{mag};
 ghost use Rattle.monoid.specs.Word.{monoidOf, numberOf, zeroWord, mergeWord};
 

@@ -2,36 +2,21 @@
 use mathlib.Core.Path.{_≡_, refl, sym, ap, ap₂, _∙_}
 use mathlib.Core.Bool.{Bool, true, false, _||_}
 use mathlib.Core.List.{List, [], _∷_, _++_}
-use Prim.Native.Nat.{ℕ, suc, _+_, _≤_}
+use Prim.Native.Nat.{ℕ, suc, _+_}
 use native.Mathlib.Omega.{arith}
 use lib.IntN.{ℤ}
-use Rattle.calculus.specs.Syntax.{Collection, Monoid, of, Bin, plus, minus, times, equal, less, and, or, Question, asTerm}
-use Rattle.checks.specs.Scope.{namesHold}
-use Rattle.normal_form.specs.Form.{Form, Forms, Clauses, fcons, done, _⊕_, gens, gensF, gensC, asForm}
+use Rattle.calculus.specs.Syntax.{Collection, Monoid, of, Bin, plus, minus, times, equal, less, and, or}
+use Rattle.normal_form.specs.Form.{Form, Forms, Clauses, fcons, done, _⊕_, gens, gensF, gensC}
 use Rattle.normal_form.specs.Form as Nf
-use Rattle.normal_form.specs.Normal.{Sem, Sems, row, fields, both, nested, plain, snil, scons, quote, quotes, idempotent, givesWay, one, condition, ranges, binary, normal}
-use Rattle.normal_form.specs.Size.{nodes}
+use Rattle.normal_form.specs.Normal.{Sem, Sems, row, fields, both, nested, plain, snil, scons, quote, quotes, idempotent, givesWay, one, condition, ranges, binary}
 use Rattle.normal_form.proofs.Writing.{gens-append, next-number, ⊕-assoc, condition-gives-way, condition-stays}
 use Rattle.normal_form.proofs.Embed.{NotAnd}
-use Rattle.nodes.specs.Node.{Node, Nodes, nbind, PostOrder}
-use Rattle.nodes.specs.Flat.{Env, enter, Offsets, At, qualOf, clausesOf, compOf, sem}
-use Rattle.nodes.specs.Tree.{noNames, Holds, Placed}
-use Rattle.nodes.specs.Saturated.{left}
+use Rattle.normal_form.proofs.Fixed.{quote-binary}
+use Rattle.nodes.specs.Node.{Node, Nodes}
+use Rattle.nodes.specs.Flat.{Env, enter, At, qualOf, clausesOf, compOf}
 use Rattle.nodes.specs.Word.{Word, word, wnum, wtruth, wrow, wcell, wrec, wnegate, wcond, wbin, wcomp, wgen, words, wordsF, wordsC, flat, flatF, flatC}
 use Rattle.nodes.specs.Emit.{State, state, puts, mark, markGen, tell, tellF, tellC, Emits, EmitsF, EmitsC, EmitsG, EmitsN, EmitsQ}
 use Rattle.nodes.proofs.Counts.{flat-append}
-use Rattle.nodes.proofs.Saturated.{written}
-
--- The two operands of any operator stand one behind the other.
-pub quote-binary : (o : Bin) (a b : Sem) (n : ℕ) → quote (binary o a b) n ≡ Nf.bin o (quote a n) (quote b (n + gens (quote a n)))
-unfolding quote binary
-quote-binary plus a b n = refl
-quote-binary minus a b n = refl
-quote-binary times a b n = refl
-quote-binary equal a b n = refl
-quote-binary less a b n = refl
-quote-binary and a b n = refl
-quote-binary or a b n = refl
 
 -- What stays one condition: neither an "and" nor a comprehension that gives way.
 abbrev pub Whole : Sem → Bool → Type 0
@@ -207,10 +192,6 @@ module _ {B : Type 0} (put : Word → B → B) where
       g ∙ ap (λ x. tellC put (condition (h v (s .next)) v (x .next)) x) f ∙ sym (tell-append w (condition (h v (s .next)) v (s .next + gensC w)) s)
       ∙ ap (λ a. tellC put a s) (sym (condition-gives-way m q h v (s .next) e))
 
-  pub emit-else : (d : Sem) (v : Bool) (s p r : State B) → Whole d v → p ≡ mark put (word wcond (words (quote d (s .next)))) s → Emits put d p r → EmitsC put d v s r
-  emit-else d v s p r w e f =
-      f ∙ ap (λ x. tell put (quote d (x .next)) x) e ∙ sym (tell-one (quote d (s .next)) s) ∙ ap (λ a. tellC put a s) (sym (condition-whole d v w (s .next)))
-
   -- As a generator's term: a comprehension gives way to its qualifiers, a table is its own generator, all else never runs.
   pub emit-spliced : (m : Monoid) (q : Bool → ℕ → Clauses) (h : Bool → ℕ → Sem) (v : Bool) (s r : State B) → r ≡ tellC put (q v (s .next)) s → EmitsG put (nested m q h) v s r
   unfolding ranges
@@ -220,20 +201,11 @@ module _ {B : Type 0} (put : Word → B → B) where
   unfolding ranges flat puts gens
   emit-over-table c k v s r e = e ∙ ap (state (put (word (wgen (s .next) k) 0) (s .buffer))) (omega arith)
 
-  pub emit-never : (d : Sem) (v : Bool) (s p r : State B) → Never d → p ≡ mark put (word wcond 1) s → r ≡ mark put (word (wtruth false) 0) p → EmitsG put d v s r
-  unfolding words quote
-  emit-never d v s p r w e f =
-      emit-truth false p r f ∙ ap (λ x. tell put (Nf.truth false) x) e ∙ sym (tell-one (Nf.truth false) s) ∙ ap (λ a. tellC put a s) (sym (ranges-never d v (s .next) w))
-
   -- Qualifiers: none, one, and some behind others. A generator's or condition's node is EmitsG or EmitsC of its term; a
   -- binding writes nothing.
   pub emit-none : (N : Nodes) (A : At) (D : ℕ) (e : Env) (v : Bool) (s : State B) → EmitsQ put N A [] D e v s s
   unfolding clausesOf flat puts gens
   emit-none N A D e v s = sym (no-more s)
-
-  pub emit-bind : (A : At) (c D : ℕ) (e : Env) (v : Bool) (s : State B) → EmitsN put A (nbind c) D e v s s
-  unfolding flat puts gens
-  emit-bind A c D e v s = sym (no-more s)
 
   pub emit-one : (N : Nodes) (A : At) (c : ℕ) (y : Node) (D : ℕ) (e : Env) (v : Bool) (s r : State B) → N c ≡ y → EmitsN put A y D e v s r → EmitsQ put N A (c ∷ []) D e v s r
   unfolding clausesOf
@@ -246,9 +218,3 @@ module _ {B : Type 0} (put : Word → B → B) where
       let w = clausesOf N A D e v (s .next) cs in
       g ∙ ap (λ x. tellC put (clausesOf N A D e v (x .next) ds) x) f ∙ sym (tell-append w (clausesOf N A D e v (s .next + gensC w) ds) s)
       ∙ ap (λ a. tellC put a s) (sym (clauses-append N A D e v (s .next) cs ds))
-
-  -- The whole: what the root of a table that holds a question writes, with offsets that are right up to 513, is the words
-  -- of the normal form.
-  pub emit-root : (K : ℕ → Collection) (N : Nodes) → PostOrder N → (dep : ℕ → ℕ) (off : Offsets) → Placed left K N dep off → (q : Question) (i : ℕ) (e : Env) → Holds N dep (asTerm q) i 0 noNames
-      → namesHold q ≡ true → nodes (asForm (normal K q)) ≤ 512 → (o : B) (r : State B) → Emits put (sem K N off i 0 e) (state o 0) r → r .buffer ≡ puts put (flat (asForm (normal K q))) o
-  emit-root K N P dep off O q i e H h l o r f = ap (λ (x : State B). x .buffer) f ∙ ap (λ t. puts put (flat t) o) (written K N P dep off O q i e H h l)

@@ -18,7 +18,7 @@ use Rattle.nodes.specs.Tree.{Slots, slot, noNames, firstOf, restOf, behi
 use Rattle.nodes.proofs.Counts.{Counts, counts}
 use Rattle.nodes.proofs.Renumber.{renumber, renumberC}
 use Rattle.nodes.proofs.Near.{View, seen, Close, AlikeC, Near, NearL, alike-counts, alike-countsC, afterC, append-near, quote-near, condition-near, ranges-clauses, ranges-head, plain-near, part-near, binary-near, negate-near, fields-near, nested-near, table-near}
-use Rattle.nodes.proofs.Local.{alike-equal, agree-enter, at-enter, bound-local}
+use Rattle.nodes.proofs.Local.{agree-enter, at-enter, bound-local}
 use Rattle.nodes.proofs.Static.{qual-count}
 
 module _ (K : ℕ → Collection) (N : Nodes) (P : PostOrder N) (dep : ℕ → ℕ) (off : Offsets) (ρ : ℕ → ℕ) (more : (n j k : ℕ) → ρ n ≡ ρ j → ρ (n + k) ≡ ρ (j + k)) (O : Placed ρ K N dep off) where
@@ -206,11 +206,6 @@ module _ (K : ℕ → Collection) (N : Nodes) (P : PostOrder N) (dep : ℕ → �
       let t = asTerm q in
       quote-near view (semAt K N off (suc i) i 0 e) (norm K t nowhere) (norm-at t i 0 noNames H nowhere e (λ x d s. absurd (omega (arith, s))) (suc i) (omega arith)) 0 0 refl
       ∙ sym (ap (renumber ρ) (normal-is-quote K q))
-
--- Where the offsets are exact, it writes just the normal form.
-pub root-exact : (K : ℕ → Collection) (N : Nodes) → PostOrder N → (dep : ℕ → ℕ) (off : Offsets) → Placed (λ n. n) K N dep off → (q : Question) (i : ℕ) (e : Env) → Holds N dep (asTerm q) i 0 noNames
-    → quote (sem K N off i 0 e) 0 ≡ asForm (normal K q)
-root-exact K N P dep off O q i e H = alike-equal (quote (sem K N off i 0 e) 0) (asForm (normal K q)) (root K N P dep off (λ n. n) (λ n j k p. ap (λ a. a + k) p) O q i e H)
 
 -- Under any offsets it has as many generators, nodes and words.
 unseen : (K : ℕ → Collection) (N : Nodes) (dep : ℕ → ℕ) (off : Offsets) (cs : List ℕ) (g : Bool → ℕ) → PlacedQ (λ n. 0) K N dep off cs g

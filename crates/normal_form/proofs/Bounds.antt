@@ -16,21 +16,13 @@ use Rattle.calculus.specs.Syntax.{Monoid, of, sum, max, some, all, Bin, plus, m
 use Rattle.calculus.specs.Value.{Value, junk, asInt, asBool, fieldOf, binV, notV, Tables, columnsOf, rowsOf}
 use Rattle.calculus.specs.Monoid.{start, Entry, step, Fold, foldBy}
 use Rattle.calculus.specs.Meaning.{Env}
-use Rattle.calculus.proofs.Lists.{All, all-bind}
+use Rattle.calculus.proofs.Lists.{All, all-bind, all-front, all-behind, all-guard}
 use Rattle.calculus.proofs.Magnitude.{abs-plus, abs-minus, abs-times, abs-greater}
 use Rattle.calculus.proofs.WellFormed.{Row, cell-small, row-no-number, WellFormed, rows-at-most, rows-well-formed}
 use Rattle.normal_form.specs.Form.{Form, Forms, Clauses, NormalForm, asForm, num, truth, row, cell, rec, bin, negate, comp, fnil, fcons, done, gen, cond, value, loops}
 use Rattle.normal_form.specs.Bound.{ownGens, binBound, compBound, bound, within, withinF, withinC, numbersFit}
 
 -- ---- lists
-all-front : {A : Type 0} (P : A → Type 0) (l m : List A) → All P (l ++ m) → All P l
-all-front P [] m h = tt
-all-front P (a ∷ l) m h = (h .0, all-front P l m (h .1))
-
-all-behind : {A : Type 0} (P : A → Type 0) (l m : List A) → All P (l ++ m) → All P m
-all-behind P [] m h = h
-all-behind P (a ∷ l) m h = all-behind P l m (h .1)
-
 -- Each element gives at most n, so a list of them gives at most its length times n.
 pub bind-length : {A B : Type 0} (f : A → List B) (n : ℕ) → ((a : A) → length (f a) ≤ n) → (l : List A) → length (bindL l f) ≤ length l * n
 unfolding bindL
@@ -41,11 +33,6 @@ guard-length : {A : Type 0} (b : Bool) (l : List A) → length (guard b l) ≤ l
 unfolding guard
 guard-length true l = le-refl (length l)
 guard-length false l = omega arith
-
-all-guard : {A : Type 0} (P : A → Type 0) (b : Bool) (l : List A) → All P l → All P (guard b l)
-unfolding guard
-all-guard P true l h = h
-all-guard P false l h = tt
 
 -- ---- what generators stand for
 -- no number itself, its fields within four signed bytes: a row of a well formed table, or nothing yet

@@ -26,7 +26,8 @@ upd-row g n e = fun-ext (λ y. go y (eqb g y) refl)
     go y true p = rw (p, upd) (ap row (sym e ∙ eqb→eq g y (rw p tt)))
     go y false p = rw (p, upd)
 
-quote-binary : (o : Bin) (d e : Sem) (n : ℕ) → quote (binary o d e) n ≡ Nf.bin o (quote d n) (quote e (n + gens (quote d n)))
+-- The two operands of any operator stand one behind the other.
+pub quote-binary : (o : Bin) (d e : Sem) (n : ℕ) → quote (binary o d e) n ≡ Nf.bin o (quote d n) (quote e (n + gens (quote d n)))
 unfolding quote binary
 quote-binary plus d e n = refl
 quote-binary minus d e n = refl

@@ -5,7 +5,7 @@
 use mathlib.Core.Bool.{Bool, true, false, _||_}
 use Prim.Native.Nat.{ℕ, zero, suc, _+_}
 use lib.IntN.{pos}
-use Rattle.calculus.specs.Lists.{pick, upd}
+use Rattle.calculus.specs.Lists.{upd}
 use Rattle.calculus.specs.Syntax.{Collection, list, bag, set, Monoid, of, sum, max, some, all, Bin, plus, minus, times, equal, less, and, or, Term, Terms, Quals, num, truth, name, field, rec, bin, negate, comp, table, tnil, tcons, qnil, gen, bind, cond, Question}
 use Rattle.normal_form.specs.Form.{Form, Forms, Clauses, fnil, fcons, done, _⊕_, gens, gensC, NormalForm}
 use Rattle.normal_form.specs.Form as Nf

@@ -21,7 +21,7 @@ use Rattle.plan.specs.Operators.{planValue}
 use Rattle.plan.proofs.Numbering.{unnesting-numbered}
 use Rattle.outcome.specs.Written.{words}
 use Rattle.outcome.specs.Accepted.{Accepted, examine}
-use Rattle.outcome.specs.Outcome.{Outcome, Answer, scratchWords, settled, withScratch, G, written, answered, byLoops, byPlan}
+use Rattle.outcome.specs.Outcome.{Outcome, Answer, scratchWords, settled, withScratch, G, written, answered, looped, byLoops, planned, byPlan}
 use Rattle.outcome.proofs.Checks.{got-is, passed, Passed, examined, numbers, examine-only}
 
 -- For an accepted question over well formed tables, the plan's value under the operators' own definitions equals the value
@@ -44,12 +44,6 @@ pub same-outcome : (d l : Bytes) (s : List ℕ) (b : List ℤ) → byPlan d l s 
 unfolding byPlan byLoops answered written
 same-outcome d l s b = ap (withScratch s b) (after (examine d l) (written planned b) (written looped b) (λ a e.
     ap (λ v. require 32 (leb (G a) (length b)) (got (record { size = length (words v); front = words v ++ replicate (G a - length (words v)) (pos 0) }))) (same-value a (examined d l a e))))
-  where
-    planned : Accepted → Value
-    planned a = planValue canonical (a .tables) (planOf (a .form))
-
-    looped : Accepted → Value
-    looped a = meaning canonical (a .tables) (a .question)
 
 -- "Demand 3's answer words are the first G of the answer buffer; a refusal has none."
 unfoldable pub wordsOf : Result Accepted → ℕ

@@ -1,6 +1,5 @@
 -- The starred cases together: number, value as typed, the normal form's value, the plan's value, written words and G.
 use mathlib.Core.Path.{_≡_, refl}
-use mathlib.Core.List.{List, [], _∷_}
 use Rattle.calculus.specs.Value.{kindOf}
 use Rattle.calculus.specs.Monoid.{canonical}
 use Rattle.calculus.specs.Meaning.{meaning}

@@ -61,7 +61,7 @@ examined d l a e =
     let q = handed (readQuestion l) (λ q. judge (t .0) q) a (t .1 .1) in
     judged (t .0) (q .0) a (q .1 .1)
 
--- "Nothing is refused but by a number in document 01": the checks' numbers
+-- The checks refuse by no other number than these of document 01.
 abbrev pub numbers : List ℕ
 numbers = 11 ∷ 12 ∷ 13 ∷ 21 ∷ 22 ∷ 23 ∷ 24 ∷ 25 ∷ 26 ∷ 27 ∷ 28 ∷ []
 

@@ -1,5 +1,5 @@
 -- The checks one by one: which of them decides, in document 01's order.
-use mathlib.Core.Path.{_≡_, refl, ap, _∙_}
+use mathlib.Core.Path.{_≡_, ap, _∙_}
 use mathlib.Core.Bool.{Bool, true, false}
 use Prim.Native.Nat.{ℕ}
 use Rattle.calculus.specs.Syntax.{Question}

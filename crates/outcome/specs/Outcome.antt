@@ -1,6 +1,6 @@
 -- The outcome of each open call, from what was lent to it.
-use mathlib.Core.List.{List, [], _∷_, _++_}
-use mathlib.Core.Bool.{Bool, true, false}
+use mathlib.Core.List.{List, [], _++_}
+use mathlib.Core.Bool.{true, false}
 use Prim.Native.Nat.{ℕ, _-_}
 use lib.Dec.{ltb, leb}
 use lib.ListN.{length, drop, replicate}
@@ -65,12 +65,18 @@ unfoldable pub checked : Bytes → Bytes → List ℕ → Outcome ℕ
 checked d l s = withScratch s [] (andThen (examine d l) (λ a. got (record { size = 0; front = [] })))
 
 -- answering by loops: the value of the question as typed
+abbrev pub looped : Accepted → Value
+looped a = meaning canonical (a .tables) (a .question)
+
 unfoldable pub byLoops : Bytes → Bytes → List ℕ → List ℤ → Outcome ℤ
-byLoops = answered (λ a. meaning canonical (a .tables) (a .question))
+byLoops = answered looped
 
 -- answering by plan: the value of the plan under the operators' definitions
+abbrev pub planned : Accepted → Value
+planned a = planValue canonical (a .tables) (planOf (a .form))
+
 unfoldable pub byPlan : Bytes → Bytes → List ℕ → List ℤ → Outcome ℤ
-byPlan = answered (λ a. planValue canonical (a .tables) (planOf (a .form)))
+byPlan = answered planned
 
 -- "One more call writes the plan's lines .. into a lent byte buffer; its length is in bytes." "33: the plan call's byte
 -- buffer is shorter than the plan's lines. Bytes behind the lines never change."

@@ -1,6 +1,5 @@
 -- The starred cases: the values of their plans, and the printed plan of the listing.
 use mathlib.Core.Path.{_≡_, refl}
-use mathlib.Core.List.{List, [], _∷_, _++_}
 use Rattle.calculus.specs.Lists.{bindL, guard, pick, upd}
 use Rattle.calculus.specs.Value.{nth, fieldOf, asInt, asBool, elems, eqZ, binV, count, kindOf, rowsOf}
 use Rattle.calculus.specs.Order.{then, compareZ, compareV, leV, insert, put}

@@ -10,7 +10,7 @@ use Rattle.calculus.specs.Lists.{bindL, guard, pick}
 use Rattle.calculus.specs.Value.{Value, Tables}
 use Rattle.calculus.specs.Monoid.{Fold}
 use Rattle.calculus.specs.Meaning.{Env}
-use Rattle.calculus.proofs.Lists.{bind-bind, bind-one, bind-guard, guard-swap, guard-bind, All, Some, all-append, all-bind, all-imp, some-bind, bind-all}
+use Rattle.calculus.proofs.Lists.{bind-bind, bind-one, bind-guard, guard-swap, guard-bind, All, Some, all-append, all-guard, all-bind, all-imp, some-bind, bind-all}
 use Rattle.normal_form.specs.Form.{Form}
 use Rattle.plan.specs.Plan.{PTerm, Source, Op}
 use Rattle.plan.specs.Operators.{Place, row, pad, Row, Stream, meets, whole, sourceRows, numbered, matches, kept, matchesOrPad, number, same, apply, exec}
@@ -45,11 +45,6 @@ pub record Local (T : Tables) (f : Source → PTerm → Row → Stream) : Type 0
       ≡ guard (whole r) (bindL (numbered 0 (sourceRows T t)) (λ p. guard (meets c (r ++ p ∷ [])) (K (r ++ p ∷ []))))
 
 -- join
-all-guard : {A : Type 0} (P : A → Type 0) (b : Bool) (l : List A) → All P l → All P (guard b l)
-unfolding guard
-all-guard P true l h = h
-all-guard P false l h = tt
-
 bind-numbered : {B : Type 0} (n : ℕ) (l : List Value) (f : Place → List B) (g : Value → List B) → ((i : ℕ) (v : Value) → f (row i v) ≡ g v) → bindL (numbered n l) f ≡ bindL l g
 unfolding numbered bindL
 bind-numbered n [] f g h = refl

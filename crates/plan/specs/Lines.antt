@@ -2,12 +2,12 @@
 use mathlib.Core.List.{List, [], _∷_, _++_}
 use mathlib.Core.Bool.{Bool, true, false}
 use Prim.Native.Nat.{ℕ, zero, suc, _+_, _/_, _%_}
-use Prim.Native.Char.{Char, code}
+use Prim.Native.Char.{code}
 use Prim.Native.String.{String}
 use Prim.Native.String as S
 use lib.Dec.{ltb}
 use lib.IntN.{ℤ, pos, negsuc}
-use Rattle.calculus.specs.Syntax.{Collection, list, bag, set, Monoid, of, sum, max, some, all, Bin, plus, minus, times, equal, less, and, or}
+use Rattle.calculus.specs.Syntax.{list, bag, set, Monoid, of, sum, max, some, all, Bin, plus, minus, times, equal, less, and, or}
 use Rattle.plan.specs.Plan.{PTerm, PTerms, pnum, ptruth, place, pfield, prec, pbin, pnegate, pnil, pcons, Source, table, unit, Op, join, outer, nest, Plan, plan}
 
 unfoldable pub ascii : String → List ℕ

@@ -1,11 +1,11 @@
 -- "This is the question's plan, and the only one the engine makes or prints for it."
 use mathlib.Core.List.{List, [], _∷_, _++_}
 use mathlib.Core.Bool.{Bool, true, false, _&&_, _||_, not}
-use Prim.Native.Nat.{ℕ, zero, suc}
+use Prim.Native.Nat.{ℕ, suc}
 use lib.Dec.{eqb}
 use lib.IntN.{pos}
 use Rattle.calculus.specs.Lists.{pick, upd}
-use Rattle.calculus.specs.Syntax.{Monoid, and}
+use Rattle.calculus.specs.Syntax.{and}
 use Rattle.normal_form.specs.Form.{Form, Forms, Clauses, NormalForm, num, truth, row, cell, rec, bin, negate, comp, fnil, fcons, done, gen, cond}
 use Rattle.plan.specs.Plan.{PTerm, PTerms, pnum, ptruth, place, pfield, prec, pbin, pnegate, pnil, pcons, Source, table, unit, Op, join, outer, nest, Plan, plan}
 

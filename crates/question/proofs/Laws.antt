@@ -246,7 +246,7 @@ unfolding pick
 truth-bit true e = rw e
 truth-bit false e = rw e
 
-three : {A B C D : Type 0} (f : A → B → C → D) {a a′ : A} {b b′ : B} {c c′ : C} → a ≡ a′ → b ≡ b′ → c ≡ c′ → f a b c ≡ f a′ b′ c′
+pub three : {A B C D : Type 0} (f : A → B → C → D) {a a′ : A} {b b′ : B} {c c′ : C} → a ≡ a′ → b ≡ b′ → c ≡ c′ → f a b c ≡ f a′ b′ c′
 three f p q r = cc
 
 next : (a n m : ℕ) → a + (n + 1 + m) ≡ a + n + 1 + m

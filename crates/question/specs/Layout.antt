@@ -1,7 +1,8 @@
 -- Which scratch words hold what. Everything lies below word 2,048.
 use Prim.Native.Nat.{ℕ}
 
--- word 0: how many tables; words 1 to 8: their descriptions
+-- Word 0 is how many tables there are, words 1 to 8 their descriptions (tables/specs/Reading).
+
 -- a word for each node of the question, at most 256, in post-order
 abbrev pub nodesAt : ℕ
 nodesAt = 16
@@ -18,6 +19,4 @@ shapesAt = 528
 abbrev pub sizesAt : ℕ
 sizesAt = 784
 
--- the words of the normal form, at most 512
-abbrev pub formAt : ℕ
-formAt = 1296
+-- The words of the normal form begin behind them, at word 1,296 (form/specs/Packing).

@@ -2,15 +2,15 @@
 -- a child c ends where c's subtree begins. Every word is read as something, so this is total; `e` is the place behind a
 -- node. Where a tree lies in the words (Laid), fuel of twice e is enough.
 use mathlib.Core.List.{List, [], _∷_}
-use mathlib.Core.Bool.{Bool, true, false}
-use Prim.Native.Nat.{ℕ, zero, suc, _+_, _-_, min}
+use mathlib.Core.Bool.{true, false}
+use Prim.Native.Nat.{ℕ, zero, suc, _-_, min}
 use lib.Dec.{leb, ltb, eqb}
 use lib.ListN.{getD}
 use lib.IntN.{ℤ, pos, negsuc}
 use Rattle.calculus.specs.Lists.{pick}
-use Rattle.calculus.specs.Syntax.{Monoid, of, list, bag, set, sum, max, some, all, Bin, plus, minus, times, equal, less, and, or, Term, Terms, Quals, num, truth, name, field, rec, bin, negate, comp, table, tnil, tcons, qnil, gen, bind, cond}
+use Rattle.calculus.specs.Syntax.{Monoid, of, list, bag, set, sum, max, some, all, Term, Terms, Quals, num, truth, name, field, rec, bin, negate, comp, table, tnil, tcons, qnil, gen, bind, cond}
 use Rattle.encoding.specs.Reader.{Kind, kinds, unknown, number, truthK, nameK, fieldK, record′, not, tableK, comprehension, generator, binding, condition, two-terms}
-use Rattle.question.specs.Packing.{kindOf, argOf, startOf, depthOf, nodeWord}
+use Rattle.question.specs.Packing.{kindOf, argOf, startOf, nodeWord}
 
 -- a number is kept as its distance from -2^31
 abbrev pub numberOf : ℕ → ℤ

@@ -1,9 +1,10 @@
 // The nodes of a question in scratch: the only readers and writers of a node's word.
 ghost use mathlib.Core.Path.{_≡_};
-ghost use Prim.Native.Nat.{_+_, _<_};
+ghost use Prim.Native.Nat.{_+_, _≤_, _<_};
 ghost use lib.ListN.{set};
 ghost use Rattle.question.specs.Layout.{nodesAt};
 ghost use Rattle.question.specs.Packing.{kindOf, argOf, startOf, depthOf, pack, nodeWord};
+ghost use Rattle.question.specs.Tree.{startAt};
 
 // Where the node words begin.
 const NODES: usize = 16;
@@ -41,6 +42,14 @@ pub fn depth(w: u64) -> u64
     ensures { λ r. ⌜ r ≡ depthOf w ⌝ }
 {
     w / 140737488355328 % 64
+}
+
+// Where the subtree of node i begins, which is where the node before it ends; i where the word says a later node.
+pub fn start_at(s: &[u64], i: usize) -> usize
+    ensures { λ r. ⌜ (r ≡ startAt (now (s .entry)) i) × (r ≤ i) ⌝ }
+{
+    let b = start(node_word(s, i)) as usize;
+    if b < i { b } else { i }
 }
 
 // A node's word of its parts.

@@ -2,7 +2,7 @@
 use mathlib.Core.Path.{_≡_, refl, sym, ap, subst, _∙_}
 use mathlib.Core.List.{List, [], _∷_}
 use mathlib.Core.Bool.{Bool, true, false}
-use Prim.Native.Nat.{ℕ, zero, suc, _+_, _-_, _*_, _≤_, _<_}
+use Prim.Native.Nat.{ℕ, zero, suc, _+_, _-_, _≤_, _<_}
 use native.Mathlib.Omega.{arith}
 use native.Mathlib.Nat.{add-zero, add-assoc}
 use lib.ListN.{length, getD, drop, length-drop, drop-of-length-le, List·getD-eq-default}
@@ -11,14 +11,14 @@ use borrow.Author.Tests.{eq-eqb, ne-eqb, le-leb, lt-leb}
 use Rattle.calculus.specs.Syntax.{Monoid, Quals, qnil, gen, bind, cond, Question, asTerm}
 use Rattle.encoding.specs.Record.{Bytes, Result, refused, got, andThen, require, byte, lengthOf, kindOf, behind, isWhole}
 use Rattle.encoding.specs.Reader as E
-use Rattle.encoding.specs.Reader.{comprehension, Part, term, generates, binds, holds, Reader, yields, noMore, filled, inFront, onPart, monoids, comprehends, content, atRecord, readPart, readQuestion}
+use Rattle.encoding.specs.Reader.{Part, term, generates, binds, holds, Reader, yields, noMore, filled, inFront, onPart, monoids, comprehends, atRecord, readPart, readQuestion}
 use Rattle.question.specs.Packing.{argOf}
 use Rattle.question.specs.Tree.{monoidAt, treeAt}
 use Rattle.question.specs.Laid.{nodes, nodesQ, Laid, LaidQ}
 use Rattle.question.proofs.Laws.{some-nodes, node-same, laid-tree}
 use Rattle.reader.specs.Scratch.{Kept, Room, Finishing, Finished}
 use Rattle.reader.specs.Front.{Whole, Began, ByteAt}
-use Rattle.reader.specs.Reads.{qualifies, nodesP, LaidP, rounds, FrontFound, TermsRead, ItemBy, ItemRead, PartsFound, PartsBy, PartsRead, ComprehensionFound, ComprehensionBy, ComprehensionRead, QuestionBy, QuestionRead}
+use Rattle.reader.specs.Reads.{qualifies, nodesP, LaidP, rounds, FrontFound, TermsRead, ItemBy, ItemRead, PartsFound, PartsBy, PartsRead, ComprehensionFound, ComprehensionBy, ComprehensionRead, QuestionRead}
 use Rattle.reader.specs.declared.Place.{Place}
 use Rattle.reader.specs.declared.Filled.{Filled}
 use Rattle.reader.specs.declared.Filled.the-variants as Filled
@@ -339,18 +339,3 @@ finishing-parts p {l} {s′ = s′} M P e h =
     let F = subst (PartsBy l s′ (insideOf p)) e (P .is) in
     let n = F .end in
     record { words = omega (arith, P .kept .long, M .words); kind = omega arith; arg = omega arith; start = omega arith; below = omega (arith, F .spent, M .nodes); deep = omega (arith, M .deep) }
-
--- ---- the answer is a refusal exactly where the definition refuses, by its number; else it is the number of the nodes
-refused-only : (x : Result Question) (s : List ℕ) {k : ℕ} (r : Read) → QuestionBy x s r → x ≡ refused k → r ≡ Answer.Refused k
-refused-only x s (Answer.Question n) H e = absurd (let g = H .is in let z : _≡_ {A = ℕ} 0 1 = cc in omega arith)
-refused-only x s (Answer.Refused j) H e = ap Answer.Refused (cc)
-
-pub refused-exactly : {l : Bytes} {s s′ : List ℕ} {r : Read} (k : ℕ) → QuestionRead l s s′ r → (readQuestion l ≡ refused k → r ≡ Answer.Refused k) × (r ≡ Answer.Refused k → readQuestion l ≡ refused k)
-refused-exactly {l} {s′ = s′} {r} k Q = (λ e. refused-only (readQuestion l) s′ r (Q .is) e, λ e. subst (QuestionBy (readQuestion l) s′) e (Q .is))
-
-got-only : (x : Result Question) (s : List ℕ) {q : Question} (r : Read) → QuestionBy x s r → x ≡ got q → (n : ℕ) × (r ≡ Answer.Question n) × ((f : ℕ) → 2 * n < f → treeAt f s n ≡ asTerm q)
-got-only x s (Answer.Question n) H e = (n, refl, λ f h. H .tree f h ∙ ap asTerm (cc (H .is)))
-got-only x s (Answer.Refused j) H e = absurd (let z : _≡_ {A = ℕ} 0 1 = cc in omega arith)
-
-pub got-exactly : {l : Bytes} {s s′ : List ℕ} {r : Read} {q : Question} → QuestionRead l s s′ r → readQuestion l ≡ got q → (n : ℕ) × (r ≡ Answer.Question n) × ((f : ℕ) → 2 * n < f → treeAt f s′ n ≡ asTerm q)
-got-exactly {l} {s′ = s′} {r} Q e = got-only (readQuestion l) s′ r (Q .is) e

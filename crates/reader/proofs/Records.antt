@@ -7,13 +7,13 @@ use native.Mathlib.Omega.{arith}
 use lib.ListN.{length, getD, take, drop, length-take, length-drop}
 use lib.Seq.{take-all}
 use Rattle.calculus.specs.Syntax.{Term, Terms, Quals, comp, Question, asTerm}
-use Rattle.encoding.specs.Record.{Bytes, refused, andThen, require, lengthOf, contentOf, behind}
+use Rattle.encoding.specs.Record.{Bytes, refused, andThen, require, lengthOf, contentOf}
 use Rattle.encoding.specs.Reader as E
 use Rattle.encoding.specs.Reader.{Kind, kinds, unknown, comprehension, Part, term, Reader, yields, comprehends, content, atRecord, readPart}
 use Rattle.question.specs.Layout.{nodesAt}
 use Rattle.question.specs.Packing.{nodeWord}
 use Rattle.question.specs.Laid.{nodes, nodesL, nodesQ, Laid, LaidL, LaidQ}
-use Rattle.question.proofs.Laws.{laid-same, laid-same-terms, laid-same-quals}
+use Rattle.question.proofs.Laws.{three, laid-same, laid-same-terms, laid-same-quals}
 use Rattle.reader.specs.Scratch.{Kept}
 use Rattle.reader.specs.Front.{Whole, Began, Begins, BeginsBy}
 use Rattle.reader.specs.Kinds.{LeafKind, HasTerms, of-field, of-record, of-two, of-not, Shaped, ShapedBy, Looks, LooksBy}
@@ -76,9 +76,6 @@ began {l} {p} B e = subst (BeginsBy l p) e (B .is)
 
 refused-at : {l : Bytes} {p : Place} {g : Begun} → Begins l p g → {x : ℕ} → g ≡ Begun.Refused x → (q : Bool) → readPart (p .levels) q l (p .left) ≡ refused x
 refused-at {l} {p} B e = subst (BeginsBy l p) e (B .is)
-
-three : {A B C D : Type 0} (f : A → B → C → D) {a a′ : A} {b b′ : B} {c c′ : C} → a ≡ a′ → b ≡ b′ → c ≡ c′ → f a b c ≡ f a′ b′ c′
-three f p q r = cc
 
 module _ {l : Bytes} {p b : Place} {k e : ℕ} (B : Began l p k e b) where
   opened : (q : Bool) → readPart (p .levels) q l (p .left) ≡ andThen (content (readPart (b .levels)) q (getD kinds k unknown) (inner l e) (b .left)) (λ s. yields (s .is) (drop e l) (s .left))

@@ -7,7 +7,7 @@ use native.Mathlib.Omega.{arith}
 use lib.ListN.{length, drop}
 use borrow.Author.Tests.{le-leb}
 use Rattle.calculus.specs.Syntax.{Term, Terms, field, rec, bin, negate, tnil, tcons, asTerm}
-use Rattle.encoding.specs.Record.{Bytes, Result, refused, got, andThen, require, byte, two, behind}
+use Rattle.encoding.specs.Record.{Bytes, Result, refused, got, andThen, require, byte, two}
 use Rattle.encoding.specs.Reader as E
 use Rattle.encoding.specs.Reader.{Kind, record′, Part, term, generates, binds, holds, Step, Reader, yields, oneTerm, filled, named, content, readPart}
 use Rattle.question.specs.Tree.{argAt}

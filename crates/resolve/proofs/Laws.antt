@@ -6,17 +6,17 @@ use Prim.Native.Nat.{ℕ, zero, suc, _+_, _*_, _/_, _%_, _^_, _<_, _≤_}
 use native.Mathlib.Omega.{arith}
 use types.Run.{OneOf, miss}
 use denote.Enum.Declared.{tagOf}
-use lib.ListN.{length, getD, set, replicate, List·getD-eq-default}
+use lib.ListN.{length, getD, set, List·getD-eq-default}
 use lib.Seq.{getD-set-same, getD-set-other}
 use lib.Dec.{eqb, ltb}
 use borrow.Author.Tests.{ltb-true, lt-ltb, le-ltb, eqb-true, eqb-false}
 use Rattle.calculus.specs.Lists.{pick, upd}
 use Rattle.calculus.specs.Syntax.{Collection, Bin, plus, minus, times, equal, less, and, or}
-use Rattle.normal_form.specs.Normal.{Sem, row, nothing, idempotent, ranges, part, binary}
+use Rattle.normal_form.specs.Normal.{Sem, nothing, idempotent, ranges, part, binary}
 use Rattle.normal_form.specs.Normal as Nm
 use Rattle.nodes.specs.Node as No
 use Rattle.nodes.specs.Node.{Inside}
-use Rattle.nodes.specs.Flat.{Env, Entry, enter, outside, Offsets, At, boundOf, semsOf, compOf, levels, semOf}
+use Rattle.nodes.specs.Flat.{Env, Entry, enter, Offsets, At, boundOf, semsOf, compOf, levels, semOf}
 use Rattle.nodes.specs.Saturated.{limit}
 use Rattle.nodes.proofs.Local.{sem-is}
 use Rattle.monoid.specs.Word.{monoidOf}
@@ -37,7 +37,7 @@ use Rattle.resolve.proofs.Form as form
 use Rattle.resolve.specs.declared.Form.{Form}
 use Rattle.resolve.specs.declared.Form.the-variants.{Number, Truth, Row, Cell, Record, Two, Not, Comp, Table, Bad}
 use Rattle.resolve.specs.declared.Place.{Place}
-use Rattle.resolve.specs.Place.{odd, bit, envOf, offsets, semN, formSem, placeSem, FormAt, Fine, From, Heads, Follows, Spliced, Projected, formFor}
+use Rattle.resolve.specs.Place.{odd, bit, envOf, offsets, semN, formSem, FormAt, Fine, From, Heads, Follows, Spliced, Projected, formFor}
 
 abbrev pub place : Form → ℕ → ℕ → List ℕ → Place
 place f i d l = record { form = f; node = i; depth = d; env = l }
@@ -155,7 +155,7 @@ module _ {s : List ℕ} {i D : ℕ} {l : List ℕ} where
       }
 
 -- ---- follow
-one-more : (d : ℕ) → d + 1 ≡ suc d
+pub one-more : (d : ℕ) → d + 1 ≡ suc d
 one-more d = omega arith
 
 unbinding : (off : Offsets) (A : At) (x d : ℕ) (e : Env) (y : No.Node) → Unbinding y → nothing ≡ boundOf off A x d e y
@@ -416,38 +416,3 @@ module _ {D : ℕ} {n : Node} {m : Monoid} {h : ℕ} (e : n ≡ Nd.Comp m h) whe
   pub form-comp : D < levels → Comp m h ≡ formFor D n
   unfolding pick
   form-comp k = sym (ap (formFor D) e ∙ rw (lt-ltb D levels k))
-
--- ---- places
--- a form that is the node's own: every one but a row, a cell and nothing
-abbrev pub own : List ℕ
-own = 0 ∷ 1 ∷ 4 ∷ 5 ∷ 6 ∷ 7 ∷ 8 ∷ []
-
-own-sem : (K : ℕ → Collection) (s : List ℕ) (i D : ℕ) (e : Env) (f : Form) → OneOf own (tagOf form.the-type f) → FormAt s i D f → formSem K s i D e f ≡ semN K s i D e
-own-sem K s i D e (Number z) h a = sym (sem-at K s i D e (No.nnum z) (a .0))
-own-sem K s i D e (Truth b) h a = sym (sem-at K s i D e (No.ntruth b) a)
-own-sem K s i D e (Row g) h a = absurd (miss own 2 tt h)
-own-sem K s i D e (Cell k g) h a = absurd (miss own 3 tt h)
-own-sem K s i D e Record h a = sym (sem-at K s i D e (No.nrec (childrenOf s i)) a)
-own-sem K s i D e (Two o b c) h a = sym (sem-at K s i D e (No.nbin (binOf o) b c) a)
-own-sem K s i D e (Not c) h a = sym (sem-at K s i D e (No.nnegate c) a)
-own-sem K s i D e (Comp m c) h a =
-    sym (sem-at K s i D e (No.ncomp (monoidOf m) (qualifiersOf s i) c) (a .0) ∙ pick-yes D levels (compOf (nodesOf s) (semN K s) (monoidOf m) (qualifiersOf s i) c D e) (a .1))
-own-sem K s i D e (Table k) h a = sym (sem-at K s i D e (No.ntable k) (a .0))
-own-sem K s i D e Bad h a = absurd (miss own 9 tt h)
-
--- So a place with such a form is its node, in its environment.
-pub place-node : {s : List ℕ} {r : Place} → Fine s r → OneOf own (tagOf form.the-type (r .form)) → (K : ℕ → Collection) → placeSem K s r ≡ semN K s (r .node) (r .depth) (envOf (r .env))
-place-node {s} {r} F h K = own-sem K s (r .node) (r .depth) (envOf (r .env)) (r .form) h (F .form)
-
--- no copy was entered: every entry is 0
-pub env-outside : (n : ℕ) → envOf (replicate n 0) ≡ outside
-unfolding envOf
-env-outside n = fun-ext λ d. ap entry (zeros n d)
-  where
-    entry : ℕ → Entry
-    entry w = record { base = w / 2; flag = odd w }
-
-    zeros : (m d : ℕ) → _≡_ {A = ℕ} (getD (replicate m 0) d 0) 0
-    zeros zero d = refl
-    zeros (suc m) zero = refl
-    zeros (suc m) (suc d) = zeros m d

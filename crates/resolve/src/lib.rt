@@ -1,8 +1,7 @@
 // The head of a node: names and fields are followed, in an environment by value.
 ghost use mathlib.Core.Path.{_≡_};
-ghost use mathlib.Core.Bool.{Bool, _||_};
-ghost use mathlib.Core.List.{List};
-ghost use Prim.Native.Nat.{ℕ, _+_, _*_, _/_, _^_, _≤_, _<_};
+ghost use mathlib.Core.Bool.{_||_};
+ghost use Prim.Native.Nat.{_+_, _*_, _/_, _^_, _≤_, _<_};
 ghost use lib.ListN.{getD, set};
 ghost use Rattle.normal_form.specs.Normal.{idempotent};
 ghost use Rattle.nodes.specs.Flat.{levels};

@@ -1,12 +1,13 @@
 // "24: a name out of scope or bound twice."
 ghost use mathlib.Core.Path.{_≡_};
-ghost use Prim.Native.Nat.{ℕ, _+_, _≤_, _<_, _^_};
+ghost use Prim.Native.Nat.{_+_, _≤_, _<_, _^_};
 ghost use lib.ListN.{set};
 ghost use Rattle.question.specs.Packing.{kindOf, nodeWord};
-ghost use Rattle.question.specs.Tree.{argAt, startAt};
+ghost use Rattle.question.specs.Tree.{argAt};
 ghost use Rattle.scope.specs.Binders.{cleared, noted, bindersOf};
 ghost use Rattle.scope.specs.Pass.{uses, binds};
 ghost use Rattle.scope.specs.Words.{TermPassed, LeafPassed, OperandsPassed, CompPassed, TermsPassed, QualsPassed, QualPassed, Judged};
+use question::start_at;
 
 // "a [false; 256] array of names seen, carried through the scope check and marked at each binder"; the names that hold
 // here; and whether no rule is broken so far.
@@ -18,14 +19,6 @@ pub struct Names {
 
 // Where the words of the binders begin.
 const BINDERS: usize = 272;
-
-// Where the subtree of node i begins, and node i where its word says otherwise.
-fn start_at(s: &[u64], i: usize) -> usize
-    ensures { λ r. ⌜ (r ≡ startAt (now (s .entry)) i) × (r ≤ i) ⌝ }
-{
-    let b = question::start(question::node_word(s, i)) as usize;
-    if b < i { b } else { i }
-}
 
 fn kind_at(s: &[u64], i: usize) -> u64
     ensures { λ r. ⌜ r ≡ kindOf (nodeWord (now (s .entry)) i) ⌝ }

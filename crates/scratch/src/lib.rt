@@ -1,7 +1,7 @@
 // The lent scratch is left empty: what every call but 31 ends with.
 ghost use mathlib.Core.Path.{_≡_};
 ghost use mathlib.Core.List.{_++_};
-ghost use Prim.Native.Nat.{ℕ, _≤_};
+ghost use Prim.Native.Nat.{_≤_};
 ghost use lib.ListN.{length, drop, replicate};
 ghost use Rattle.scratch.specs.Wiped.{Wiped};
 

@@ -9,7 +9,7 @@ use lib.Dec.{T, ltb, eqb, ltb→lt, le→leb}
 use lib.ListN.{length, getD, set}
 use lib.Seq.{getD-set-same}
 use mathlib.Core.List.{List}
-use borrow.Author.Tests.{eq-eqb, ne-eqb, eqb-true, eqb-false}
+use borrow.Author.Tests.{ltb-true, eq-eqb, ne-eqb, eqb-true, eqb-false}
 use lib.IntN.{natAbs, ℤ, pos, negsuc, negℤ, _+ℤ_, _-ℤ_, _*ℤ_}
 use lib.Signed.{mag, ltZ, leZ, nonNeg, _<ℤ_, _≤ℤ_, ltZ-yes, ltZ-no, leZ-yes, <ℤ-≤ℤ-trans, clashℤ}
 use mir.Syntax.{w64}
@@ -88,12 +88,18 @@ module _ {a b : ℤ} (fa : SFits w64 a) (fb : SFits w64 b) where
   pub ne-is : (ofZ w64 a ≡ ofZ w64 b → ⊥) → a ≡ b → ⊥
   ne-is h e = h (ap (ofZ w64) e)
 
--- two factors below 2 ^ 31 have a product below 2 ^ 63
-pub small-mul : (x y : ℕ) → x < 2 ^ 31 → y < 2 ^ 31 → (x + 1) * (y + 1) < 2 ^ 63
-small-mul x y p q = omega (arith, le-trans (mul-le-mul-left (x + 1) (le-31 y q)) (mul-le-mul-right (2 ^ 31) (le-31 x p)))
-  where
-    le-31 : (z : ℕ) → z < 2 ^ 31 → z + 1 ≤ 2 ^ 31
-    le-31 z r = omega arith
+-- ---- the magnitude of a number, and of its negation
+pub mag-abs : (z : ℤ) → mag z ≤ natAbs z
+mag-abs (pos n) = omega arith
+mag-abs (negsuc n) = omega arith
+
+pub negated : (z : ℤ) → ltZ z (pos 0) ≡ true → pos 0 -ℤ z ≡ pos (natAbs z)
+negated (pos n) e = absurd (omega (arith, ltb-true n 0 e))
+negated (negsuc n) e = ap pos (omega arith)
+
+pub natural : (z : ℤ) → ltZ z (pos 0) ≡ false → z ≡ pos (natAbs z)
+natural (pos n) e = refl
+natural (negsuc n) e = absurd (let y : _≡_ {A = ℕ} 0 1 = cc in omega arith)
 
 -- by the two outcomes of a test
 pub by-test : {P : Type 0} (t : Bool) → (t ≡ true → P) → (t ≡ false → P) → P

@@ -93,8 +93,3 @@ put-other s i k w j h = getD-set-other s (place i k) j w 0 h
 
 pub put-word : (s : List ℕ) (i k w j l : ℕ) → k < 2 → l < 2 → (i ≡ j → k ≡ l → ⊥) → wordAt (set s (place i k) w) j l ≡ wordAt s j l
 put-word s i k w j l p q h = put-other s i k w (place j l) (λ e. h (omega arith) (omega arith))
-
-pub stored-small : (s : List ℕ) (i : ℕ) (v : Bool) → stored s i v < 1024
-unfolding stored pick
-stored-small s i true = omega arith
-stored-small s i false = omega arith

@@ -1,7 +1,6 @@
 // How much each node writes, in scratch: the only readers and writers of these words.
 ghost use mathlib.Core.Path.{_≡_};
-ghost use mathlib.Core.Bool.{Bool};
-ghost use Prim.Native.Nat.{ℕ, _+_, _<_};
+ghost use Prim.Native.Nat.{_+_, _<_};
 ghost use lib.ListN.{set};
 ghost use Rattle.sizes.specs.Packing.{place, wordAt, pairOf, pack, Small, termCount, conditionCount, splicedCount, stored};
 

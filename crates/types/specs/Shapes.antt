@@ -3,10 +3,8 @@ use mathlib.Core.List.{List, [], _∷_}
 use mathlib.Core.Bool.{Bool, true, false, _&&_}
 use Prim.Native.Nat.{ℕ, zero, suc}
 use lib.Dec.{ltb, eqb}
-use lib.ListN.{length}
 use Rattle.calculus.specs.Lists.{pick}
 use Rattle.calculus.specs.Syntax.{Collection, list, Monoid, of, sum, max, some, all, Bin, plus, minus, times, equal, less, and, or}
-use Rattle.calculus.specs.Value.{Tables, kindOf, columnsOf}
 use Rattle.nodes.specs.Node.{Node, Nodes, nnum, ntruth, nname, nfield, nrec, nbin, nnegate, ncomp, ntable, ngen, nbind, ncond, nbad}
 use Rattle.types.specs.declared.Shape.{Shape}
 use Rattle.types.specs.declared.Shape.the-variants.{Wrong, Number, Truth, Record, Row, Table, Coll}
@@ -17,9 +15,6 @@ pub record Known : Type 0 where
   pub count : ℕ
   pub columns : ℕ → ℕ
   pub kind : ℕ → Collection
-
-abbrev pub knownOf : Tables → Known
-knownOf T = record { count = length T; columns = λ k. columnsOf T k; kind = λ k. kindOf T k }
 
 -- 0 where there is no type
 abbrev pub classOf : Shape → ℕ

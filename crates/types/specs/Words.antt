@@ -6,7 +6,8 @@ use Prim.Native.Nat.{ℕ, zero, suc, _+_, _-_, _*_, _/_, _%_, _^_}
 use lib.Dec.{ltb}
 use lib.ListN.{getD, set}
 use Rattle.calculus.specs.Lists.{pick}
-use Rattle.calculus.specs.Syntax.{Collection, list, bag, set as sets, Monoid}
+use Rattle.calculus.specs.Syntax.{Collection, list, Monoid}
+use Rattle.encoding.specs.Data as Data
 use Rattle.checks.specs.Types.{mayStand}
 use Rattle.decode.specs.Decode.{childrenOf, qualifiersOf, nodesOf}
 use Rattle.monoid.specs.Word.{monoidOf}
@@ -40,9 +41,9 @@ shapeIn w = getD (Wrong ∷ Number ∷ Truth ∷ Record (w / 8) ∷ Row (w / 8) 
 abbrev pub shapesIn : List ℕ → ℕ → Shape
 shapesIn s j = shapeIn (getD s (shapesAt + j) 0)
 
--- "1 list, 2 bag, 3 set"
+-- the collection by its number, as the data has it
 abbrev pub collectionBy : ℕ → Collection
-collectionBy k = getD (list ∷ list ∷ bag ∷ sets ∷ []) k list
+collectionBy k = Data.collectionOf k
 
 -- word 0 is the number of tables, word 1 + k the description of table k
 abbrev pub knownIn : List ℕ → Known

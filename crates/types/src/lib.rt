@@ -343,7 +343,7 @@ fn all_typed(s: &[u64], i: usize) -> bool
         if !is_typed(shape_at(s, c)) {
             return false;
         }
-        e = decode::start_at(s, c);
+        e = question::start_at(s, c);
         left -= 1;
     }
     true
@@ -365,14 +365,14 @@ fn qual_fits(s: &[u64], c: usize, m: Monoid, rule: bool) -> bool
 fn quals_fit(s: &[u64], i: usize, m: Monoid, rule: bool) -> bool
     ensures { λ r. ⌜ r ≡ qualsFitAt rule (now (s .entry)) (monoidOf m) i ⌝ }
 {
-    let first = decode::start_at(s, i);
-    let mut e = decode::start_at(s, decode::prior(i));
+    let first = question::start_at(s, i);
+    let mut e = question::start_at(s, decode::prior(i));
     while first < e {
         let c = e - 1;
         if !qual_fits(s, c, m, rule) {
             return false;
         }
-        e = decode::start_at(s, c);
+        e = question::start_at(s, c);
     }
     true
 }

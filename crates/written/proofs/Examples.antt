@@ -41,7 +41,7 @@ pub bags-written : words (arrangeAs setOfBags bags) ≡ pos 2 ∷ pos 1 ∷ pos 
 unfolding Written.words Value.count Value.elems Order.then Order.compareZ Order.compareV Order.leV Order.insert Order.put Monoid.start Monoid.step Monoid.foldBy Monoid.ordered Refold.refold Refold.onParts
 bags-written = refl
 
--- "Berth row (1, 90) twice ..: as a set comprehension over the same rows: 1 1 110, with G 5."
+-- "Berth row (1, 90) twice, .. As a set comprehension over the same rows: 1 1 110, with G 5."
 abbrev berths : Value
 berths = listed (rec (fromList (n 1 ∷ n 110 ∷ [])) ∷ rec (fromList (n 1 ∷ n 110 ∷ [])) ∷ [])
 

@@ -29,7 +29,7 @@ use Rattle.layout.proofs.Stands.{words-cons}
 use Rattle.layout.proofs.Values.{to-all}
 use Rattle.ordering.specs.declared.Kept.{Kept}
 use Rattle.ordering.specs.Ordering.{wordsOf, Held, Ordered}
-use Rattle.ordering.proofs.Elements.{one-of, words-snoc}
+use Rattle.ordering.proofs.Elements.{one-of, words-last}
 use Rattle.written.specs.declared.Ends.{Ends}
 use Rattle.written.specs.Walk.{Moved, Carried, Walked, WalkedFields, WalkedElements, Finished}
 use Rattle.written.proofs.Arranging.{count-from, arranged-count, arrange-list, row-words, row-same}
@@ -152,7 +152,7 @@ module _ {t : Ty} {e g : Ends} {o o′ : List ℤ} (W : WalksAs t e o o′ g) (D
   one-walked done (v ∷ todo) gap c h k w ld ls =
       let a : Value = arrangeAs t v in
       let Z = W (D ++ wordsOf done) gap (wordsOf todo ++ R) v (h .0) (c ∙ ap (λ (u : List ℤ). (D ++ wordsOf done) ++ (gap ++ u)) (one-of v todo R)) ld (omega arith) in
-      let q : (D ++ wordsOf done) ++ words (arrangeAs t v) ≡ D ++ wordsOf (done ++ (arrangeAs t v ∷ [])) = append-assoc D (wordsOf done) (words (arrangeAs t v)) ∙ ap (λ (u : List ℤ). D ++ u) (sym (snoc done (arrangeAs t v))) in
+      let q : (D ++ wordsOf done) ++ words (arrangeAs t v) ≡ D ++ wordsOf (done ++ (arrangeAs t v ∷ [])) = append-assoc D (wordsOf done) (words (arrangeAs t v)) ∙ ap (λ (u : List ℤ). D ++ u) (sym (words-last done (arrangeAs t v))) in
       record {
         done = done ++ (arrangeAs t v ∷ []);
         todo = todo;
@@ -164,9 +164,6 @@ module _ {t : Ty} {e g : Ends} {o o′ : List ℤ} (W : WalksAs t e o o′ g) (D
         at-dst = sym (ap length q) ∙ length-append (D ++ wordsOf done) (words (arrangeAs t v)) ∙ sym (Z .at-dst);
         at-src = Z .at-src;
       }
-    where
-      snoc : (m : List Value) (u : Value) → wordsOf (m ++ (u ∷ [])) ≡ wordsOf m ++ words u
-      snoc m u = sym (append-nil (wordsOf (m ++ (u ∷ [])))) ∙ words-snoc m u [] ∙ ap (λ (z : List ℤ). wordsOf m ++ z) (append-nil (words u))
 
 pub walk-again : {s : List ℕ} {i count n : ℕ} {e₀ e g : Ends} {o₀ o o′ : List ℤ} → Walking s i count e₀ o₀ o n e → 0 < n → length o′ ≡ length o → Walked s i e o o′ g → Walking s i count e₀ o₀ o′ (n - 1) g
 walk-again {n = n} I p el W = record {

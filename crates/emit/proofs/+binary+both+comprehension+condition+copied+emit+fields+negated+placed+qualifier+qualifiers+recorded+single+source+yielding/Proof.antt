@@ -59,7 +59,7 @@ use Rattle.emit.proofs.+binary+both+comprehension+condition+copied+emit
 use Rattle.decode.proofs.child.Reads as child-reads
 use Rattle.decode.proofs.look.Reads as look-reads
 use Rattle.decode.proofs.prior.Reads as prior-reads
-use Rattle.decode.proofs.start_at.Reads as start-at-reads
+use Rattle.question.proofs.start_at.Reads as start-at-reads
 use Rattle.emit.proofs.below.Reads as below-reads
 use Rattle.emit.proofs.close.Reads as close-reads
 use Rattle.emit.proofs.copy.Reads as copy-reads

@@ -3,7 +3,8 @@ use Prim.Native.Nat.{_-_}
 use lib.ListN.{length}
 use native.Mathlib.Omega.{arith}
 use Rattle.decode.specs.Decode.{childrenOf}
-use Rattle.measure.proofs.Parts.{Summed, few-terms, terms-none, terms-next, terms-within, terms-end, picked}
+use Rattle.measure.proofs.Parts.{Summed, few-terms, terms-none, terms-next, terms-within, terms-end}
+use Rattle.resolve.proofs.Laws.{picks-cast}
 use borrow.Author.Needs.{needs}
 use Rattle.measure.proofs.terms.Statement.{statement}
 use Rattle.measure.proofs.terms.Tie as tie
@@ -37,19 +38,19 @@ add-k c =
 loop-less : tie.Need-loop-less Inv-loop μ-loop
 loop-less c =
     omega
-    (arith, terms-within (c .before .before .before .before .before .before .loop .inv) (picked (c .before .before .before .before .before .child .ensures) (c .before .before .before .c .given .1)))
+    (arith, terms-within (c .before .before .before .before .before .before .loop .inv) (picks-cast (c .before .before .before .before .before .child .ensures) (c .before .before .before .c .given .1)))
 
 loop-again : tie.Need-loop-again Inv-loop μ-loop
 loop-again c =
     terms-next (c .before .before .before .before .before .before .loop .inv)
-    (picked (c .before .before .before .before .before .child .ensures) (c .before .before .before .c .given .1)) (c .before .term-count .ensures)
+    (picks-cast (c .before .before .before .before .before .child .ensures) (c .before .before .before .c .given .1)) (c .before .term-count .ensures)
     (c .side .ensures)
 
 enum-told : tie.Need-enum-told Inv-loop μ-loop
 enum-told c = search needs
 
 returns : tie.Need-returns Inv-loop μ-loop
-returns c = terms-end (c .before .before .before .loop .inv) (picked (c .before .before .child .ensures) (c .enum-told .given .1))
+returns c = terms-end (c .before .before .before .loop .inv) (picks-cast (c .before .before .child .ensures) (c .enum-told .given .1))
 
 pub terms-spec : {M : Type 1} → statement M
 terms-spec =

@@ -29,7 +29,7 @@ use Rattle.scope.proofs.arg_at.Reads as arg-at-reads
 use Rattle.scope.proofs.bound.Reads as bound-reads
 use Rattle.scope.proofs.kind_at.Reads as kind-at-reads
 use Rattle.scope.proofs.leaf.Reads as leaf-reads
-use Rattle.scope.proofs.start_at.Reads as start-at-reads
+use Rattle.question.proofs.start_at.Reads as start-at-reads
 use Rattle.scope.proofs.used.Reads as used-reads
 use Rattle.scope.proofs.+comprehension+operands+qualifier+quals+term+terms.{statement}
 use Rattle.scope.proofs.+comprehension+operands+qualifier+quals+term+terms.Tie.{close}
