@@ -5,6 +5,7 @@ pub mod Portions
 pub mod Merging
 pub mod Arrivals
 pub mod Pass
+pub mod Bound
 pub mod Moves
 pub mod Size
 pub mod Loops
@@ -12,6 +13,7 @@ pub mod Written
 pub mod Tidy
 pub mod Telling
 pub mod Answer
+pub mod Begun
 pub mod Standing
 pub mod Spans
 pub mod Fitting

@@ -42,7 +42,7 @@ abbrev mutual
 mutual
   unfolding size
 
-  part-within : (t : Form) (i b : ℕ) → PartAt i t b → (i ≤ b) × (b < i + size t)
+  pub part-within : (t : Form) (i b : ℕ) → PartAt i t b → (i ≤ b) × (b < i + size t)
   part-within (num z) i b h = (omega arith, omega arith)
   part-within (truth z) i b h = (omega arith, omega arith)
   part-within (row g) i b h = (omega arith, omega arith)
@@ -52,7 +52,7 @@ mutual
   part-within (negate t) i b h = (omega arith, omega arith)
   part-within (comp m q u) i b h = (omega arith, omega arith)
 
-  parts-within : (ts : Forms) (i b : ℕ) → PartAtF i ts b → (i ≤ b) × (b < i + sizeF ts)
+  pub parts-within : (ts : Forms) (i b : ℕ) → PartAtF i ts b → (i ≤ b) × (b < i + sizeF ts)
   parts-within fnil i b h = absurd h
   parts-within (fcons t ts) i b (inl h) = let w = part-within t i b h in (omega (arith, w .0), omega (arith, w .1))
   parts-within (fcons t ts) i b (inr h) = let w = parts-within ts (i + size t) b h in (omega (arith, w .0), omega (arith, w .1))

@@ -35,13 +35,13 @@ one-slot zero = refl
 one-slot (suc n) = refl
 
 -- a part that is one term
-abbrev Single : Shape → Type 0
+abbrev pub Single : Shape → Type 0
 Single (Sh.Word k) = Unit {0}
 Single (Sh.Row g) = Unit {0}
 Single (Sh.Record e) = ⊥
 Single Sh.Collection = Unit {0}
 
-single-comp : (m : Mo.Monoid) → Single (comprehensionShape m)
+pub single-comp : (m : Mo.Monoid) → Single (comprehensionShape m)
 single-comp Mv.List = tt
 single-comp Mv.Bag = tt
 single-comp Mv.Set = tt

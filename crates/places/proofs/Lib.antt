@@ -9,4 +9,5 @@ pub mod Saying
 pub mod Heads
 pub mod Upto
 pub mod Before
+pub mod Settling
 pub mod Asked

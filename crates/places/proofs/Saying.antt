@@ -50,7 +50,7 @@ partsIn zero s a b = []
 partsIn (suc f) s a b = pick (leb b a) [] (partsBy (λ j. partsIn f s j b) s (termIn f s a) a (shapeOf (nodeAt s a)))
 
 -- each collection's words stand where the walk meets it, and end where its kept word says
-abbrev settledBy : (ℕ → Point → Type 0) → ℕ → List ℕ → List ℤ → ℕ → Shape → Point → Type 0
+abbrev pub settledBy : (ℕ → Point → Type 0) → ℕ → List ℕ → List ℤ → ℕ → Shape → Point → Type 0
 settledBy W lim s l a (Sh.Word k) P = W (next s a) (lays lim l P)
 settledBy W lim s l a (Sh.Row g) P = W (next s a) (lays lim l P)
 settledBy W lim s l a (Sh.Record e) P = W (a + 1) P

@@ -2,6 +2,7 @@
 pub mod Along
 pub mod Rooms
 pub mod Stays
+pub mod Ends
 pub mod Control
 pub mod Taking
 pub mod Wording

@@ -1,16 +1,16 @@
 -- What a comprehension's accumulator comes to is within what refusal 28 lets pass.
 use native.Mathlib.Omega.{arith}
-use native.Mathlib.Nat.{le-trans, mul-le-mul, pow-succ'}
+use native.Mathlib.Nat.{le-refl, le-trans, mul-comm, mul-zero, mul-le-mul, zero-add, pow-succ'}
 use native.Mathlib.Numerals.{one-add}
 use mathlib.Core.Path.{_≡_, refl, sym, ap, subst, _∙_}
 use mathlib.Core.List.{List, [], _∷_}
 use mathlib.Core.Bool.{true}
 use Prim.Native.Nat.{ℕ, zero, suc, pred, _+_, _*_, _^_, _≤_, _<_}
 use lib.ListN.{length}
-use Rattle.calculus.specs.Syntax.{Monoid}
+use Rattle.calculus.specs.Syntax.{Monoid, of, sum, max, some, all}
 use Rattle.calculus.specs.Value.{Tables, rowsOf}
 use Rattle.normal_form.specs.Form.{Form, Forms, Clauses, num, truth, row, cell, rec, bin, negate, comp, fnil, fcons, done, gen, cond}
-use Rattle.normal_form.specs.Bound.{ownGens, bound, within, withinF, withinC}
+use Rattle.normal_form.specs.Bound.{ownGens, bound, compBound, within, withinF, withinC}
 use Rattle.normal_form.proofs.Bounds.{within-bound, within-operands, within-negated, within-fields, within-field, within-gen, within-comp, within-cond}
 use Rattle.form.specs.declared.Node.{Node}
 use Rattle.form.specs.declared.Node.the-variants as N
@@ -51,15 +51,25 @@ pub record Smalls (s : List ℕ) (c : ℕ) : Type 0 where
   pub head : within (formTree fuel s (headAt s c)) ≡ true
   pub term : headIn fuel s (c + 1) ≡ termIn fuel s (headAt s c)
 
--- so is what its heads come to; and the same of the comprehensions inside
+-- so is what its heads come to, which is within its own bound; and the same of the comprehensions inside
 pub record CompFits (s : List ℕ) (T : Tables) (y : Spots) : Type 0 where
   pub total : mergeBound (monoidBy (nodeAt s (compOf y))) (spotTakes s T y) (headBound s (compOf y)) ≤ most
+  pub own : mergeBound (monoidBy (nodeAt s (compOf y))) (spotTakes s T y) (headBound s (compOf y)) ≤ wordBound (sortOf (monoidBy (nodeAt s (compOf y)))) (formTree fuel s (compOf y))
   pub smalls : Smalls s (compOf y)
 
 abbrev pub Fit : List ℕ → Tables → Spots → Type 0
 Fit s T (end c) = Unit {0}
 Fit s T (loop i p) = Fit s T p
 Fit s T (inner a p) = CompFits s T a × (Fit s T a × Fit s T p)
+
+-- "max its head's; sum its head's times 1,024 for each generator"
+heads-within : (m : Monoid) (q : Clauses) (h : Form) → mergeBound m (0 + 1024 ^ ownGens q) (wordBound (sortOf m) h) ≤ wordBound (sortOf m) (comp m q h)
+unfolding mergeBound bound compBound
+heads-within (of c) q h = omega (arith, mul-zero (0 + 1024 ^ ownGens q))
+heads-within sum q h = omega (arith, mul-comm (bound h) (1024 ^ ownGens q), ap (λ (x : ℕ). x * bound h) (zero-add (1024 ^ ownGens q)))
+heads-within max q h = le-refl (bound h)
+heads-within some q h = le-refl 1
+heads-within all q h = le-refl 1
 
 module _ (s : List ℕ) (T : Tables) (few : (k : ℕ) → length (rowsOf T k) ≤ 1024) where
   fit-loops : (l : List ℕ) (p : Spots) → Fit s T p → Fit s T (loopsAt l p)
@@ -149,6 +159,16 @@ module _ (s : List ℕ) (T : Tables) (few : (k : ℕ) → length (rowsOf T k) �
     monoid-node : monoidBy (nodeAt s c) ≡ m
     monoid-node = ap monoidBy (L .0) ∙ monoid-back m
 
+    comp-tree : formTree fuel s c ≡ comp m q h
+    comp-tree = tree-is s (comp m q h) c fuel L n (omega arith)
+
+    own-small : mergeBound (monoidBy (nodeAt s c)) (spotTakes s T (spotsOf q h c)) (headBound s c) ≤ wordBound (sortOf (monoidBy (nodeAt s c))) (formTree fuel s c)
+    own-small =
+        subst (λ (x : Monoid). mergeBound x (spotTakes s T (spotsOf q h c)) (wordBound (sortOf x) (formTree fuel s (headAt s c))) ≤ wordBound (sortOf x) (formTree fuel s c)) (sym monoid-node)
+        (subst (λ (x : Form). mergeBound m (spotTakes s T (spotsOf q h c)) (wordBound (sortOf m) (formTree fuel s (headAt s c))) ≤ wordBound (sortOf m) x) (sym comp-tree)
+        (subst (λ (x : Form). mergeBound m (spotTakes s T (spotsOf q h c)) (wordBound (sortOf m) x) ≤ wordBound (sortOf m) (comp m q h)) (sym head-tree)
+        (le-trans (more-words m (wordBound (sortOf m) h) (omega (arith, takes-comp m q h c L))) (heads-within m q h))))
+
     total-small : within (comp m q h) ≡ true → mergeBound (monoidBy (nodeAt s c)) (spotTakes s T (spotsOf q h c)) (headBound s c) ≤ most
     unfolding bound
     total-small w =
@@ -162,6 +182,7 @@ module _ (s : List ℕ) (T : Tables) (few : (k : ℕ) → length (rowsOf T k) �
         let e : c ≡ compOf (spotsOf q h c) = sym (comp-own q h c) in
         record {
           total = subst (λ (x : ℕ). mergeBound (monoidBy (nodeAt s x)) (spotTakes s T (spotsOf q h c)) (headBound s x) ≤ most) e (total-small w);
+          own = subst (λ (x : ℕ). mergeBound (monoidBy (nodeAt s x)) (spotTakes s T (spotsOf q h c)) (headBound s x) ≤ wordBound (sortOf (monoidBy (nodeAt s x))) (formTree fuel s x)) e own-small;
           smalls = subst (Smalls s) e (record { clauses = ap withinC clauses-tree ∙ v .0; head = ap within head-tree ∙ v .1; term = term-there });
         }
 

@@ -152,6 +152,13 @@ module _ {s : List ℕ} {T : Tables} {sp : Spots} where
         (subst (λ (n : ℕ). mergeBound (endOf x .monoid) n (headBound s (compOf y)) ≤ most) (sym (r .0))
         (subst (λ (m : Monoid). mergeBound m (spotTakes s T y) (headBound s (compOf y)) ≤ most) (r .1) (F .total)))
 
+    own-here : CompFits s T y → mergeBound (endOf x .monoid) (takesOf T x) (boundAt s sp (o + before x)) ≤ wordBound (sortOf (endOf x .monoid)) (formTree fuel s (compOf y))
+    own-here F =
+        let r = reads s T (S .back) x y (S .wired) in
+        subst (λ (b : ℕ). mergeBound (endOf x .monoid) (takesOf T x) b ≤ wordBound (sortOf (endOf x .monoid)) (formTree fuel s (compOf y))) (sym bound-is)
+        (subst (λ (n : ℕ). mergeBound (endOf x .monoid) n (headBound s (compOf y)) ≤ wordBound (sortOf (endOf x .monoid)) (formTree fuel s (compOf y))) (sym (r .0))
+        (subst (λ (m : Monoid). mergeBound m (spotTakes s T y) (headBound s (compOf y)) ≤ wordBound (sortOf m) (formTree fuel s (compOf y))) (r .1) (F .own)))
+
 -- ---- along a path
 module _ (s : List ℕ) (T : Tables) (q : Program) (sp : Spots) (W : Wired s 1 q sp) (F : Fit s T sp) where
   whole : Stand s T sp 0 q sp
@@ -165,8 +172,15 @@ module _ (s : List ℕ) (T : Tables) (q : Program) (sp : Spots) (W : Wired s 1 q
   stand-at (pastP π i p) x v = subst (λ (z : Program). Stand s T sp (suc (pos π + before i)) z (behindNest (spotsAt sp π))) (sym (v .0)) (past-on (pos π) i p (spotsAt sp π) (stand-at π (Pr.inner i p) (v .1)))
 
   -- A comprehension begins within its bound.
-  pub zero-at : (π : Path) (i p : Program) → Valid q π (Pr.inner i p) → natAbs (asWord (sortOf (endOf i .monoid)) (zeroOf i)) ≤ mergeBound (endOf i .monoid) 0 (boundAt s sp (pos π + before i))
-  zero-at π i p v = zero-here (pos π) i (inside (spotsAt sp π)) (in-on (pos π) i p (spotsAt sp π) (stand-at π (Pr.inner i p) v) .1)
+  pub zero-at : (π : Path) (x : Program) → Valid q π x → natAbs (asWord (sortOf (endOf x .monoid)) (zeroOf x)) ≤ mergeBound (endOf x .monoid) 0 (boundAt s sp (last q π))
+  zero-at π x v = subst (λ (n : ℕ). natAbs (asWord (sortOf (endOf x .monoid)) (zeroOf x)) ≤ mergeBound (endOf x .monoid) 0 (boundAt s sp n)) (last-is T q π x v) (zero-here (pos π) x (spotsAt sp π) (stand-at π x v))
+
+  -- All rows that can come to a comprehension leave it within its own bound.
+  pub own-at : (π : Path) (i p : Program) → Valid q π (Pr.inner i p)
+      → mergeBound (endOf i .monoid) (takesOf T i) (boundAt s sp (pos π + before i)) ≤ wordBound (sortOf (endOf i .monoid)) (formTree fuel s (compOf (inside (spotsAt sp π))))
+  own-at π i p v =
+      let h = in-on (pos π) i p (spotsAt sp π) (stand-at π (Pr.inner i p) v) in
+      own-here (pos π) i (inside (spotsAt sp π)) (h .1) (h .0)
 
   -- All rows that can come to an open comprehension leave it within 2^62.
   pub fits-at : CompFits s T sp → (π : Path) (x : Program) → Valid q π x → mergeBound (endOf (compAt q π) .monoid) (takesOf T (compAt q π)) (boundAt s sp (last q π)) ≤ most

@@ -1,5 +1,6 @@
 -- What a standing row asks of the words is read there, but for the agreement of its places with them.
 use mathlib.Core.Path.{_≡_, refl, sym, ap, subst, _∙_}
+use mathlib.Core.Bool.{false}
 use mathlib.Core.List.{List}
 use Prim.Native.Nat.{ℕ, zero, suc, _+_, _≤_, min}
 use native.Mathlib.Nat.{le-refl}
@@ -17,6 +18,7 @@ use Rattle.planner.specs.PlanIn.{termIn, headIn, condsIn}
 use Rattle.machine.specs.Program.{End, Program}
 use Rattle.machine.specs.Program as Pr
 use Rattle.machine.specs.Flat.{Path, Valid, last}
+use Rattle.machine.specs.Text.{collects}
 use Rattle.links.specs.Spots.{Spots, compOf}
 use Rattle.links.specs.Alike.{fuel}
 use Rattle.links.proofs.Reread.{term-again, head-again, conds-again}
@@ -32,14 +34,14 @@ use Rattle.wiring.proofs.Bounds.{Smalls}
 
 -- scratches with the same words of a normal form
 module _ (s t : List ℕ) (w : (i : ℕ) → wordAt s i ≡ wordAt t i) where
-  next-same : (i : ℕ) → next s i ≡ next t i
+  pub next-same : (i : ℕ) → next s i ≡ next t i
   unfolding next
   next-same i = ap (λ x. min (i + 1 + belowOf x) places) (w i)
 
-  mark-same : (i : ℕ) → markAt s i ≡ markAt t i
+  pub mark-same : (i : ℕ) → markAt s i ≡ markAt t i
   mark-same i = ap markOf (w i)
 
-  head-node-same : (f i : ℕ) → headNode f s i ≡ headNode f t i
+  pub head-node-same : (f i : ℕ) → headNode f s i ≡ headNode f t i
   unfolding headNode
   head-node-same zero i = refl
   head-node-same (suc f) i = λ p. headBy (λ j. head-node-same f j p) i (clauseOf (node-same s t w i p))
@@ -77,7 +79,7 @@ module _ {d : Bytes} (Q : Question d) (small : (π : Path) (x : Program) → Val
   -- a nest or reduce
   pub end-reads : (π : Path) (e : End) → Valid (Q .program) π (Pr.end e)
       → wordBound (sortOf (e .monoid)) (formTree fuel (Q .base) (headAt (Q .base) (compOf (spotsAt (Q .spots) π)))) ≡ Q .bound (last (Q .program) π)
-      → AgreesC fuel d s r 0 (compOf (spotsAt (Q .spots) π) + 1) → Agrees fuel d s r (headAt s (compOf (spotsAt (Q .spots) π)))
+      → AgreesC fuel d s r 0 (compOf (spotsAt (Q .spots) π) + 1) → (collects (e .monoid) ≡ false → Agrees fuel d s r (headAt s (compOf (spotsAt (Q .spots) π))))
       → EndReads d s r (compOf (spotsAt (Q .spots) π)) (Q .bound (last (Q .program) π)) e
   end-reads π e v b g h =
       let y : Spots = spotsAt (Q .spots) π in

@@ -28,7 +28,7 @@ wired-of s b (Pr.inner i q) (loop j p) l a h w = absurd a
 wired-of s b (Pr.inner i q) (inner z p) l a h w = (l .0, (h .0, (wired-of s (endCode (compOf z)) i z (l .1 .0) (a .0) (h .1 .0) (w .0), wired-of s b q p (l .1 .1) (a .1) (h .1 .1) (w .1))))
 
 -- ---- within the words
-all-front : {A : Type 0} (P : A → Type 0) (l k : List A) → All P (l ++ k) → All P l
+pub all-front : {A : Type 0} (P : A → Type 0) (l k : List A) → All P (l ++ k) → All P l
 all-front P [] k h = tt
 all-front P (x ∷ l) k h = (h .0, all-front P l k (h .1))
 
@@ -62,7 +62,7 @@ starts-own c (i ∷ l) p = tt
 mutual
   unfolding inners compOf
 
-  comp-inners : (t : Form) (i : ℕ) (p : Spots) → compOf (inners t i p) ≡ compOf p
+  pub comp-inners : (t : Form) (i : ℕ) (p : Spots) → compOf (inners t i p) ≡ compOf p
   comp-inners (num z) i p = refl
   comp-inners (truth b) i p = refl
   comp-inners (row g) i p = refl
@@ -72,11 +72,11 @@ mutual
   comp-inners (negate t) i p = comp-inners t (i + 1) p
   comp-inners (comp m q h) i p = refl
 
-  comp-innersF : (ts : Forms) (i : ℕ) (p : Spots) → compOf (innersF ts i p) ≡ compOf p
+  pub comp-innersF : (ts : Forms) (i : ℕ) (p : Spots) → compOf (innersF ts i p) ≡ compOf p
   comp-innersF fnil i p = refl
   comp-innersF (fcons t ts) i p = comp-inners t i (innersF ts (i + size t) p) ∙ comp-innersF ts (i + size t) p
 
-  comp-innersC : (q : Clauses) (i : ℕ) (p : Spots) → compOf (innersC q i p) ≡ compOf p
+  pub comp-innersC : (q : Clauses) (i : ℕ) (p : Spots) → compOf (innersC q i p) ≡ compOf p
   comp-innersC done i p = refl
   comp-innersC (gen g k q) i p = comp-innersC q (i + 1) p
   comp-innersC (cond t q) i p = comp-inners t (i + 1) (innersC q (i + 1 + size t) p) ∙ comp-innersC q (i + 1 + size t) p
