@@ -1,7 +1,5 @@
 -- What laying words comes to, and one law for each way out of the writers.
 pub mod Laying
 mod Meanings
-pub mod Counts
 pub mod Laws
 mod Runs
-pub mod Filled

@@ -22,10 +22,9 @@ use Rattle.normal_form.specs.Form as Fo
 use Rattle.monoid.proofs.Laws.{Made, fold-made}
 use Rattle.environment.specs.Env.{envOf, tablesIn, Held}
 use Rattle.environment.proofs.Laws.{each-row, table-each}
-use Rattle.scalar.specs.Contract.{valueOf, headsOf}
 use Rattle.outcome.specs.Written.{words, wordsL}
 use Rattle.laying.specs.Laying.{big, cutWords, cutWordsL}
-use Rattle.collect.specs.Contract.{filled, someF, filledF}
+use Rattle.counts.specs.Filled.{filled, someF, filledF}
 
 -- Cutting counts changes no length.
 mutual
@@ -136,6 +135,9 @@ tests : (a b : Bool) → a && b ≡ true → (a ≡ true) × (b ≡ true)
 tests a b h = and-eq-true-iff a b .0 h
 
 -- ---- forms
+abbrev valueOf : Bytes → Form → Env → Value
+valueOf d t ρ = value raw (tablesIn d) t ρ
+
 module _ {d : Bytes} {s : List ℕ} (H : Held d s) where
   loops-whole : (k : Env → List Value) → ((σ : Env) → Rows σ → All Whole (k σ)) → (q : Clauses) (ρ : Env) → Rows ρ → All Whole (loops raw (tablesIn d) q k ρ)
   unfolding loops
@@ -155,7 +157,7 @@ module _ {d : Bytes} {s : List ℕ} (H : Held d s) where
     form-whole (Fo.rec ts) w ρ R = let p = tests (someF ts) (filledF ts) w in record { some = fields-some ts (p .0) (p .1) ρ R; exact = fields-exact ts (p .1) ρ R }
     form-whole (bin o t u) w ρ R = whole-bin o (valueOf d t ρ) (valueOf d u ρ)
     form-whole (negate t) w ρ R = whole-not (valueOf d t ρ)
-    form-whole (comp m q h) w ρ R = whole-fold m (headsOf d q h ρ) (loops-whole (λ σ. valueOf d h σ ∷ []) (λ σ S. (form-whole h w σ S, tt)) q ρ R)
+    form-whole (comp m q h) w ρ R = whole-fold m (loops raw (tablesIn d) q (λ σ. valueOf d h σ ∷ []) ρ) (loops-whole (λ σ. valueOf d h σ ∷ []) (λ σ S. (form-whole h w σ S, tt)) q ρ R)
 
     fields-some : (ts : Forms) → someF ts ≡ true → filledF ts ≡ true → (ρ : Env) → Rows ρ → 1 ≤ length (wordsL (values raw (tablesIn d) ts ρ))
     fields-some fnil e w ρ R = let z : _≡_ {A = ℕ} 0 1 = cc in absurd (omega arith)

@@ -10,7 +10,7 @@ use Rattle.encoding.specs.Reader.{readQuestion}
 use Rattle.encoding.proofs.Given.{Keeps, question-kept}
 use Rattle.normal_form.specs.Form.{asForm, gens, gensC}
 use Rattle.normal_form.specs.Normal.{Sem, Sems, row, fields, both, nested, plain, snil, scons, nothing, quote, quotes, idempotent, ranges, nth, part, binary, before, SemEnv, norm, norms, walk, nowhere, normal}
-use Rattle.collect.specs.Contract.{filled, someF, filledF}
+use Rattle.counts.specs.Filled.{filled, someF, filledF}
 
 -- ---- questions
 abbrev someT : Terms → Type 0

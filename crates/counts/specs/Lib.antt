@@ -1,0 +1,2 @@
+-- Records that have fields.
+pub mod Filled

@@ -1,0 +1,3 @@
+-- Laws of plain forms: on rows, and at places.
+pub mod Rows
+pub mod Places
