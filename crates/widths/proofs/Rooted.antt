@@ -2,7 +2,7 @@
 -- generator has as many as its table. So the values of the normal form are of the type that its words stand for.
 use mathlib.Core.Path.{_≡_, refl, sym, ap, ap₂, subst, _∙_}
 use mathlib.Core.Bool.{Bool, true, false}
-use mathlib.Core.List.{List, _++_}
+use mathlib.Core.List.{List}
 use Prim.Native.Nat.{ℕ, zero, suc, _+_, _*_, _≤_, _<_}
 use native.Mathlib.Omega.{arith}
 use lib.ListN.{length}
@@ -14,12 +14,12 @@ use Rattle.normal_form.specs.Form.{Form, Forms, Clauses, num, truth, row, cell,
 use Rattle.normal_form.specs.Size.{nodes, nodesF, nodesC}
 use Rattle.normal_form.proofs.Proper.{behind, Ordered, OrderedF, OrderedC}
 use Rattle.normal_form.proofs.Numbered.{Numbered, NumberedF, NumberedC}
-use Rattle.form.specs.declared.Clause.the-variants as Cl
-use Rattle.form.specs.Packing.{places, next}
+use Rattle.form.specs.Packing.{places, next, nodeAt}
 use Rattle.form.specs.Tree.{clauseOf}
 use Rattle.form.specs.Flat.{size, sizeF, sizeC, flat, flatF, flatC, Fits, FitsF, FitsC, Holds}
-use Rattle.form.proofs.ReadBack.{length-flat, length-flatC, holds-first, holds-second, holds-kept, node-is, next-is, gen-node, cond-node, head-node}
+use Rattle.form.proofs.ReadBack.{length-flat, length-flatC, holds-first, holds-second, node-is, next-is, gen-node, cond-node, head-node}
 use Rattle.environment.specs.Env.{descriptionIn, tablesIn, Held}
+use Rattle.environment.proofs.Frame.{node-same}
 use Rattle.layout.specs.Columns.{generators, columns}
 use Rattle.layout.proofs.Columns.{columns-same, columns-other}
 use Rattle.layout.proofs.Values.{ran, Rooted, RootedF, RootedC}
@@ -132,85 +132,89 @@ notes-add (suc a) b c s i e =
 noted-parts : {P Q : (ℕ → ℕ) → Type 0} (a b i j n m : ℕ) (s : List ℕ) → Noted P j n s (notes a s i) → Noted Q (j + n) m (notes a s i) (notes b (notes a s i) (i + a)) → ((C D : ℕ → ℕ) → Alike C D j n → P C → P D) → Noted (λ C. P C × Q C) j (n + m) s (notes (a + b) s i)
 noted-parts {P} {Q} a b i j n m s X Y same = subst (Noted (λ C. P C × Q C) j (n + m) s) (sym (notes-add a b (a + b) s i refl)) (noted-both X Y refl refl same)
 
-module _ (s : List ℕ) where
-  -- a form's first node is no generator
-  skip-form : (t : Form) (n i : ℕ) → Fits t → i + size t ≤ places → Holds s i (flat t) → notes (suc n) s i ≡ notes n s (i + 1)
-  unfolding notes noteAt
-  skip-form t n i w l h = ap (λ (x : List ℕ). notes n x (i + 1)) (ap (noteBy s) (ap clauseOf (node-is s t i w l h) ∙ head-node s t i))
+-- scratch whose clauses are those that b has, over the tables of d
+record Like (d : Bytes) (b s : List ℕ) : Type 0 where
+  held : Held d s
+  clauses : (i : ℕ) → clauseOf (nodeAt s i) ≡ clauseOf (nodeAt b i)
 
-  skip-condition : (t : Form) (q : Clauses) (n i : ℕ) → i + size t < places → Holds s i (flatC (cond t q)) → notes (suc n) s i ≡ notes n s (i + 1)
-  unfolding notes noteAt
-  skip-condition t q n i l h = ap (λ (x : List ℕ). notes n x (i + 1)) (ap (noteBy s) (ap clauseOf (cond-node s t q i l h)))
+like-away : {d : Bytes} {b s s′ : List ℕ} → Away s s′ → Like d b s → Like d b s′
+like-away {s = s} {s′} A H = record { held = away-held A (H .held); clauses = λ i. ap clauseOf (node-same s′ s (away-word A) i) ∙ H .clauses i }
 
--- words behind others, where noting has been there
-holds-behind : (a b : List ℕ) (i j : ℕ) {s s′ : List ℕ} → Away s s′ → j ≡ i + length a → Holds s i (a ++ b) → Holds s′ j b
-holds-behind a b i j {s} {s′} A e h = holds-kept s s′ b j (λ k p q. away-word A k) (holds-second s a b i j e h)
-
-module _ (d : Bytes) where
+-- b holds the form's words
+module _ (d : Bytes) (b : List ℕ) where
   abbrev T : Tables
   T = tablesIn d
 
-  leaf-noted : (t : Form) (i j : ℕ) (s : List ℕ) → Fits t → i + size t ≤ places → Holds s i (flat t) → Noted (λ C. Unit {0}) j 0 s (notes 1 s i)
-  unfolding notes
-  leaf-noted t i j s w l h = subst (Noted (λ C. Unit {0}) j 0 s) (sym (skip-form s t 0 i w l h)) (noted-none j s)
+  -- a form's first node is no generator
+  skip-form : (t : Form) (n i : ℕ) (s : List ℕ) → Like d b s → Fits t → i + size t ≤ places → Holds b i (flat t) → notes (suc n) s i ≡ notes n s (i + 1)
+  unfolding notes noteAt
+  skip-form t n i s H w l h = ap (λ (x : List ℕ). notes n x (i + 1)) (ap (noteBy s) (H .clauses i ∙ ap clauseOf (node-is b t i w l h) ∙ head-node b t i))
 
-  generator-noted : (g k : ℕ) (q : Clauses) (i j : ℕ) (s : List ℕ) → g ≡ j → Held d s → FitsC (gen g k q) → i < places → Holds s i (flatC (gen g k q)) → g < generators → Noted (λ C. C g ≡ columnsOf T k) j 1 s (noteAt s i)
+  skip-condition : (t : Form) (q : Clauses) (n i : ℕ) (s : List ℕ) → Like d b s → i + size t < places → Holds b i (flatC (cond t q)) → notes (suc n) s i ≡ notes n s (i + 1)
+  unfolding notes noteAt
+  skip-condition t q n i s H l h = ap (λ (x : List ℕ). notes n x (i + 1)) (ap (noteBy s) (H .clauses i ∙ ap clauseOf (cond-node b t q i l h)))
+
+  leaf-noted : (t : Form) (i j : ℕ) (s : List ℕ) → Like d b s → Fits t → i + size t ≤ places → Holds b i (flat t) → Noted (λ C. Unit {0}) j 0 s (notes 1 s i)
+  unfolding notes
+  leaf-noted t i j s H w l h = subst (Noted (λ C. Unit {0}) j 0 s) (sym (skip-form t 0 i s H w l h)) (noted-none j s)
+
+  generator-noted : (g k : ℕ) (q : Clauses) (i j : ℕ) (s : List ℕ) → g ≡ j → Like d b s → FitsC (gen g k q) → i < places → Holds b i (flatC (gen g k q)) → g < generators → Noted (λ C. C g ≡ columnsOf T k) j 1 s (noteAt s i)
   unfolding noteAt
   generator-noted g k q i j s e H w l h r =
       let n = columnsIn (descriptionIn s (suc k)) in
-      rw (gen-node s g k q i w l h) (record {
+      rw (H .clauses i ∙ ap clauseOf (gen-node b g k q i w l h)) (record {
         before = λ x p. columns-other s g n x (λ y. omega arith);
         after = λ x p. columns-other s g n x (λ y. omega arith);
-        wide = columns-same s g n r (H .long) ∙ width H k;
+        wide = columns-same s g n r (H .held .long) ∙ width (H .held) k;
       })
 
   mutual
     unfolding size flat gens notes
 
-    note-form : (t : Form) (i j : ℕ) (s : List ℕ) → Held d s → Fits t → i + size t ≤ places → Holds s i (flat t) → Numbered t j → j + gens t ≤ generators → Noted (λ C. Wide C T t) j (gens t) s (notes (size t) s i)
-    note-form (num z) i j s H w l h x r = leaf-noted (num z) i j s w l h
-    note-form (truth b) i j s H w l h x r = leaf-noted (truth b) i j s w l h
-    note-form (row g) i j s H w l h x r = leaf-noted (row g) i j s w l h
-    note-form (cell c g) i j s H w l h x r = leaf-noted (cell c g) i j s w l h
-    note-form (rec ts) i j s H w l h x r = subst (Noted (λ C. WideF C T ts) j (gensF ts) s) (sym (skip-form s (rec ts) (sizeF ts) i w l h)) (note-forms ts (i + 1) j s H w (omega arith) (h .1) x r)
+    note-form : (t : Form) (i j : ℕ) (s : List ℕ) → Like d b s → Fits t → i + size t ≤ places → Holds b i (flat t) → Numbered t j → j + gens t ≤ generators → Noted (λ C. Wide C T t) j (gens t) s (notes (size t) s i)
+    note-form (num z) i j s H w l h x r = leaf-noted (num z) i j s H w l h
+    note-form (truth v) i j s H w l h x r = leaf-noted (truth v) i j s H w l h
+    note-form (row g) i j s H w l h x r = leaf-noted (row g) i j s H w l h
+    note-form (cell c g) i j s H w l h x r = leaf-noted (cell c g) i j s H w l h
+    note-form (rec ts) i j s H w l h x r = subst (Noted (λ C. WideF C T ts) j (gensF ts) s) (sym (skip-form (rec ts) (sizeF ts) i s H w l h)) (note-forms ts (i + 1) j s H w (omega arith) (h .1) x r)
     note-form (bin o t u) i j s H w l h x r =
         let A = away-notes (size t) s (i + 1) in
-        subst (Noted (λ C. Wide C T t × Wide C T u) j (gens t + gens u) s) (sym (skip-form s (bin o t u) (size t + size u) i w l h))
+        subst (Noted (λ C. Wide C T t × Wide C T u) j (gens t + gens u) s) (sym (skip-form (bin o t u) (size t + size u) i s H w l h))
         (noted-parts (size t) (size u) (i + 1) j (gens t) (gens u) s
-        (note-form t (i + 1) j s H (w .0) (omega arith) (holds-first s (flat t) (flat u) (i + 1) (h .1)) (x .0) (omega arith))
-        (note-form u (i + 1 + size t) (j + gens t) (notes (size t) s (i + 1)) (away-held A H) (w .1) (omega arith) (holds-behind (flat t) (flat u) (i + 1) (i + 1 + size t) A (omega (arith, length-flat t)) (h .1)) (x .1) (omega arith))
+        (note-form t (i + 1) j s H (w .0) (omega arith) (holds-first b (flat t) (flat u) (i + 1) (h .1)) (x .0) (omega arith))
+        (note-form u (i + 1 + size t) (j + gens t) (notes (size t) s (i + 1)) (like-away A H) (w .1) (omega arith) (holds-second b (flat t) (flat u) (i + 1) (i + 1 + size t) (omega (arith, length-flat t)) (h .1)) (x .1) (omega arith))
         (λ C D e y. wide-same T C D t j (x .0) e y))
-    note-form (negate t) i j s H w l h x r = subst (Noted (λ C. Wide C T t) j (gens t) s) (sym (skip-form s (negate t) (size t) i w l h)) (note-form t (i + 1) j s H w (omega arith) (h .1) x r)
+    note-form (negate t) i j s H w l h x r = subst (Noted (λ C. Wide C T t) j (gens t) s) (sym (skip-form (negate t) (size t) i s H w l h)) (note-form t (i + 1) j s H w (omega arith) (h .1) x r)
     note-form (comp m q u) i j s H w l h x r =
         let A = away-notes (sizeC q) s (i + 1) in
-        subst (Noted (λ C. WideC C T q × Wide C T u) j (gensC q + gens u) s) (sym (skip-form s (comp m q u) (sizeC q + size u) i w l h))
+        subst (Noted (λ C. WideC C T q × Wide C T u) j (gensC q + gens u) s) (sym (skip-form (comp m q u) (sizeC q + size u) i s H w l h))
         (noted-parts (sizeC q) (size u) (i + 1) j (gensC q) (gens u) s
-        (note-clauses q (i + 1) j s H (w .0) (omega arith) (holds-first s (flatC q) (flat u) (i + 1) (h .1)) (x .0) (omega arith))
-        (note-form u (i + 1 + sizeC q) (j + gensC q) (notes (sizeC q) s (i + 1)) (away-held A H) (w .1) (omega arith) (holds-behind (flatC q) (flat u) (i + 1) (i + 1 + sizeC q) A (omega (arith, length-flatC q)) (h .1)) (x .1) (omega arith))
+        (note-clauses q (i + 1) j s H (w .0) (omega arith) (holds-first b (flatC q) (flat u) (i + 1) (h .1)) (x .0) (omega arith))
+        (note-form u (i + 1 + sizeC q) (j + gensC q) (notes (sizeC q) s (i + 1)) (like-away A H) (w .1) (omega arith) (holds-second b (flatC q) (flat u) (i + 1) (i + 1 + sizeC q) (omega (arith, length-flatC q)) (h .1)) (x .1) (omega arith))
         (λ C D e y. wide-sameC T C D q j (x .0) e y))
 
-    note-forms : (ts : Forms) (i j : ℕ) (s : List ℕ) → Held d s → FitsF ts → i + sizeF ts ≤ places → Holds s i (flatF ts) → NumberedF ts j → j + gensF ts ≤ generators → Noted (λ C. WideF C T ts) j (gensF ts) s (notes (sizeF ts) s i)
+    note-forms : (ts : Forms) (i j : ℕ) (s : List ℕ) → Like d b s → FitsF ts → i + sizeF ts ≤ places → Holds b i (flatF ts) → NumberedF ts j → j + gensF ts ≤ generators → Noted (λ C. WideF C T ts) j (gensF ts) s (notes (sizeF ts) s i)
     note-forms fnil i j s H w l h x r = noted-none j s
     note-forms (fcons t ts) i j s H w l h x r =
         let A = away-notes (size t) s i in
         noted-parts (size t) (sizeF ts) i j (gens t) (gensF ts) s
-        (note-form t i j s H (w .0) (omega arith) (holds-first s (flat t) (flatF ts) i h) (x .0) (omega arith))
-        (note-forms ts (i + size t) (j + gens t) (notes (size t) s i) (away-held A H) (w .1) (omega arith) (holds-behind (flat t) (flatF ts) i (i + size t) A (omega (arith, length-flat t)) h) (x .1) (omega arith))
+        (note-form t i j s H (w .0) (omega arith) (holds-first b (flat t) (flatF ts) i h) (x .0) (omega arith))
+        (note-forms ts (i + size t) (j + gens t) (notes (size t) s i) (like-away A H) (w .1) (omega arith) (holds-second b (flat t) (flatF ts) i (i + size t) (omega (arith, length-flat t)) h) (x .1) (omega arith))
         (λ C D e y. wide-same T C D t j (x .0) e y)
 
-    note-clauses : (q : Clauses) (i j : ℕ) (s : List ℕ) → Held d s → FitsC q → i + sizeC q ≤ places → Holds s i (flatC q) → NumberedC q j → j + gensC q ≤ generators → Noted (λ C. WideC C T q) j (gensC q) s (notes (sizeC q) s i)
+    note-clauses : (q : Clauses) (i j : ℕ) (s : List ℕ) → Like d b s → FitsC q → i + sizeC q ≤ places → Holds b i (flatC q) → NumberedC q j → j + gensC q ≤ generators → Noted (λ C. WideC C T q) j (gensC q) s (notes (sizeC q) s i)
     note-clauses done i j s H w l h x r = noted-none j s
     note-clauses (gen g k q) i j s H w l h x r =
         let A : Away s (noteAt s i) = away-notes 1 s i in
         noted-both (generator-noted g k q i j s (x .0) H w (omega arith) h (omega (arith, x .0)))
-        (note-clauses q (i + 1) (suc j) (noteAt s i) (away-held A H) (w .2) (omega arith) (holds-kept s (noteAt s i) (flatC q) (i + 1) (λ n p y. away-word A n) (h .1)) (x .1) (omega arith))
+        (note-clauses q (i + 1) (suc j) (noteAt s i) (like-away A H) (w .2) (omega arith) (h .1) (x .1) (omega arith))
         (omega arith) (omega arith) (λ C D e y. e g (omega (arith, x .0)) (omega (arith, x .0)) ∙ y)
     note-clauses (cond t q) i j s H w l h x r =
         let A = away-notes (size t) s (i + 1) in
-        subst (Noted (λ C. Wide C T t × WideC C T q) j (gens t + gensC q) s) (sym (skip-condition s t q (size t + sizeC q) i (omega arith) h))
+        subst (Noted (λ C. Wide C T t × WideC C T q) j (gens t + gensC q) s) (sym (skip-condition t q (size t + sizeC q) i s H (omega arith) h))
         (noted-parts (size t) (sizeC q) (i + 1) j (gens t) (gensC q) s
-        (note-form t (i + 1) j s H (w .0) (omega arith) (holds-first s (flat t) (flatC q) (i + 1) (h .1)) (x .0) (omega arith))
-        (note-clauses q (i + 1 + size t) (j + gens t) (notes (size t) s (i + 1)) (away-held A H) (w .1) (omega arith) (holds-behind (flat t) (flatC q) (i + 1) (i + 1 + size t) A (omega (arith, length-flat t)) (h .1)) (x .1) (omega arith))
+        (note-form t (i + 1) j s H (w .0) (omega arith) (holds-first b (flat t) (flatC q) (i + 1) (h .1)) (x .0) (omega arith))
+        (note-clauses q (i + 1 + size t) (j + gens t) (notes (size t) s (i + 1)) (like-away A H) (w .1) (omega arith) (holds-second b (flat t) (flatC q) (i + 1) (i + 1 + size t) (omega (arith, length-flat t)) (h .1)) (x .1) (omega arith))
         (λ C D e y. wide-same T C D t j (x .0) e y))
 
 -- ---- how many generators there can be: each is two nodes
@@ -236,16 +240,17 @@ mutual
   gens-nodesC (gen g k q) = omega (arith, gens-nodesC q)
   gens-nodesC (cond t q) = omega (arith, gens-nodes t, gens-nodesC q)
 
--- Where scratch holds the words of a normal form that 24 and 27 let pass, and columns are noted: each row in it is of a generator
--- that encloses it, with the columns of its table.
-pub noted-rooted : {d : Bytes} {s s′ : List ℕ} (t : Form) → Notes s s′ → Held d s → Fits t → length (flat t) ≤ places → Holds s 0 (flat t) → nodes t ≤ 512 → Numbered t 0 → Ordered t (λ g. false) 0 → Rooted (columns s′) (tablesIn d) (λ g. false) t
-noted-rooted {d} {s} {s′} t N H w l h n x y = rooted (columns s′) (tablesIn d) t (λ g. false) 0 y (subst (λ (u : List ℕ). Wide (columns u) (tablesIn d) t) (sym same) (noted .wide))
+-- Where b holds the words of a normal form that 24 and 27 let pass, and columns are noted over the same nodes: each row in it is of
+-- a generator that encloses it, with the columns of its table.
+pub noted-rooted : {d : Bytes} (b : List ℕ) {s s′ : List ℕ} (t : Form) → Notes s s′ → Held d s → ((i : ℕ) → nodeAt s i ≡ nodeAt b i) → next s 0 ≡ next b 0 → Fits t → length (flat t) ≤ places → Holds b 0 (flat t) → nodes t ≤ 512 → Numbered t 0 → Ordered t (λ g. false) 0
+    → Rooted (columns s′) (tablesIn d) (λ g. false) t
+noted-rooted {d} b {s} {s′} t N H e m w l h n x y = rooted (columns s′) (tablesIn d) t (λ g. false) 0 y (subst (λ (u : List ℕ). Wide (columns u) (tablesIn d) t) (sym same) (noted .wide))
   where
     long : 0 + size t ≤ places
     long = omega (arith, length-flat t)
 
     noted : Noted (λ C. Wide C (tablesIn d) t) 0 (gens t) s (notes (size t) s 0)
-    noted = note-form d t 0 0 s H w long h x (omega (arith, gens-nodes t))
+    noted = note-form d b t 0 0 s (record { held = H; clauses = λ i. ap clauseOf (e i) }) w long h x (omega (arith, gens-nodes t))
 
     same : s′ ≡ notes (size t) s 0
-    same = let p : next s 0 ≡ size t = next-is s t 0 long h ∙ omega arith in N .is ∙ ap (λ (m : ℕ). notes m s 0) p
+    same = let p : next s 0 ≡ size t = m ∙ next-is b t 0 long h ∙ omega arith in N .is ∙ ap (λ (k : ℕ). notes k s 0) p

@@ -1,0 +1,3 @@
+-- An accepted question in scratch, and its raw words in the buffer.
+pub mod Standing
+pub mod Finishing

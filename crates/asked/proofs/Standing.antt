@@ -1,0 +1,71 @@
+-- What a question that stands prepared in scratch has there: its tables, its normal form, no generator that stands for a row.
+use mathlib.Core.Path.{_≡_, sym, ap, subst, _∙_}
+use mathlib.Core.Bool.{true, false}
+use mathlib.Core.List.{List}
+use Prim.Native.Nat.{ℕ, _+_, _≤_, _<_}
+use native.Mathlib.Omega.{arith}
+use borrow.Author.Tests.{leb-true}
+use Rattle.calculus.specs.Value.{Tables, junk, kindOf}
+use Rattle.calculus.specs.Monoid.{raw}
+use Rattle.calculus.specs.Meaning.{Env}
+use Rattle.calculus.proofs.WellFormed.{WellFormed}
+use Rattle.encoding.specs.Record.{Bytes, got}
+use Rattle.encoding.specs.Reader.{readQuestion}
+use Rattle.encoding.proofs.Data.{read-well-formed}
+use Rattle.normal_form.specs.Form.{asForm, value, normalValue}
+use Rattle.normal_form.specs.Size.{nodes, sizeFits}
+use Rattle.normal_form.proofs.Proper.{Ordered, normal-in-scope}
+use Rattle.normal_form.proofs.Numbered.{Numbered, normal-numbered}
+use Rattle.outcome.specs.Accepted.{Accepted}
+use Rattle.outcome.proofs.Checks.{Passed, judged}
+use Rattle.tables.specs.Reading.{Stored}
+use Rattle.form.specs.Tree.{formTree, left}
+use Rattle.form.proofs.ReadBack.{read-back}
+use Rattle.prepared.specs.Prepared.{Prepared}
+use Rattle.environment.specs.Env.{envOf, tablesIn, Held}
+use Rattle.environment.proofs.Laws.{tables-in, env-empty}
+use Rattle.counts.specs.Filled.{filled}
+use Rattle.counts.proofs.Filled.{read-filled}
+
+module _ {d : Bytes} {a : Accepted} {s : List ℕ} (P : Prepared d a s) where
+  pub tables-are : tablesIn d ≡ a .tables
+  tables-are = tables-in d (P .tables)
+
+  pub passed : Passed a
+  passed = judged (a .tables) (a .question) a (P .judged)
+
+  pub held : Held d s
+  held = record {
+    read = P .tables ∙ ap got (sym tables-are);
+    stored = subst (λ (T : Tables). Stored d T s) (sym tables-are) (P .stored);
+    long = omega (arith, P .long);
+  }
+
+  pub form-is : (f : ℕ) → left 0 < f → formTree f s 0 ≡ asForm (a .form)
+  form-is f l = read-back (asForm (a .form)) s 0 (P .fits) (omega (arith, P .few)) (P .held) f l
+
+  -- no generator stands for a row
+  empty : envOf (tablesIn d) s ≡ (λ g. junk)
+  empty = env-empty (tablesIn d) s (λ g p. P .blank (16 + g) (omega arith) (omega arith))
+
+  pub raw-value : value raw (tablesIn d) (asForm (a .form)) (envOf (tablesIn d) s) ≡ normalValue raw (a .tables) (a .form)
+  unfolding normalValue
+  raw-value =
+      ap (λ (ρ : Env). value raw (tablesIn d) (asForm (a .form)) ρ) empty
+      ∙ ap (λ (T : Tables). value raw T (asForm (a .form)) (λ g. junk)) tables-are
+
+  pub well-formed : WellFormed (a .tables)
+  well-formed = read-well-formed d (P .tables)
+
+  pub few-nodes : nodes (asForm (a .form)) ≤ 512
+  few-nodes = unfold sizeFits in leb-true (nodes (asForm (a .form))) 512 (passed .size)
+
+  pub form-numbered : Numbered (asForm (a .form)) 0
+  form-numbered = subst (λ t. Numbered (asForm t) 0) (sym (passed .form-is)) (normal-numbered (kindOf (a .tables)) (a .question) (passed .names))
+
+  pub form-in-scope : Ordered (asForm (a .form)) (λ g. false) 0
+  form-in-scope = subst (λ t. Ordered (asForm t) (λ g. false) 0) (sym (passed .form-is)) (normal-in-scope (kindOf (a .tables)) (a .question) (passed .names))
+
+  -- "5 record (1 to 8 terms)"
+  pub no-empty : (l : Bytes) → readQuestion l ≡ got (a .question) → filled (asForm (a .form)) ≡ true
+  no-empty l r = ap (λ t. filled (asForm t)) (passed .form-is) ∙ read-filled (kindOf (a .tables)) l r

@@ -1,2 +1,0 @@
--- Answering by loops, below its open call.
-pub mod Answering
