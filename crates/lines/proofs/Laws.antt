@@ -2,18 +2,14 @@
 use mathlib.Core.Path.{_≡_, refl, sym, ap, subst, _∙_}
 use mathlib.Core.Bool.{Bool, true, false}
 use mathlib.Core.List.{List, [], _∷_, _++_, append-assoc, append-nil}
-use Prim.Native.Nat.{ℕ, zero, suc, pred, _+_, _-_, _/_, _%_, _≤_, _<_}
-use native.Mathlib.Numerals.{add-one}
+use Prim.Native.Nat.{ℕ, zero, suc, pred, _+_, _-_, _≤_, _<_}
 use native.Mathlib.Omega.{arith}
-use borrow.Author.Tests.{lt-ltb, le-ltb, le-leb, lt-leb, eq-eqb, ne-eqb, ltb-true, ltb-false}
-use lib.Dec.{ltb, leb, eqb}
-use lib.ListN.{length, getD, take}
-use lib.Seq.{take-all, take-suc}
-use lib.IntN.{ℤ, pos, negsuc}
+use borrow.Author.Tests.{le-leb, lt-leb, eq-eqb, ne-eqb}
+use lib.Dec.{eqb}
+use lib.IntN.{ℤ, pos}
 use Rattle.calculus.specs.Lists.{pick}
 use Rattle.calculus.specs.Syntax.{and}
 use Rattle.calculus.specs.Syntax as Sy
-use Rattle.signed.proofs.Word.{by-test}
 use Rattle.monoid.specs.declared.Monoid.{Monoid}
 use Rattle.monoid.specs.Word.{monoidOf}
 use Rattle.form.specs.declared.Op.{Op}
@@ -21,7 +17,7 @@ use Rattle.form.specs.declared.Node.{Node}
 use Rattle.form.specs.declared.Node.the-variants as N
 use Rattle.form.specs.declared.Clause.{Clause}
 use Rattle.form.specs.declared.Clause.the-variants as Cl
-use Rattle.form.specs.Packing.{places, wordAt, kindOf, argOf, numberOf, next, nodeOf, nodeAt}
+use Rattle.form.specs.Packing.{places, next}
 use Rattle.form.specs.Tree.{left, binOf}
 use Rattle.form.specs.Look.{Looks, LooksC}
 use Rattle.form.proofs.Laws.{next-past}
@@ -31,100 +27,13 @@ use Rattle.plan.specs.Planner.{conj}
 use Rattle.plan.specs.Lines.{ascii, digits, decimal, signedDecimal, monoidName, binName, showTerm, showTerms, showSource, showLast, showOp, showOps, lines}
 use Rattle.planner.specs.Marks.{markAt, slotBy}
 use Rattle.planner.specs.PlanIn.{termBy, termIn, termsIn, headBy, headIn, condsBy, condsIn, growsBy, growsIn, opIn, orElse, ownIn, opsBy, innerBy, opsIn, opsInF, innerIn, planAt}
-use Rattle.lines.specs.Laying.{Lays, Text}
+use Rattle.text.specs.Laying.{Lays, Text}
 use Rattle.lines.specs.Text.{slotText, cellText, openText, monoidText, grower, growerText, conditionText, opens, closes, restText, Grows, nestText, Growers, Outermost}
-use Rattle.lines.proofs.Laying.{lays-nil, lays-two, lays-as}
+use Rattle.text.proofs.Laying.{text-by, lays-nil, lays-two, lays-as}
+use Rattle.text.proofs.Numbers.{decimal-text}
 use Rattle.lines.proofs.Joined.{conj-text}
 
--- at every fuel
-pub text-by : {b lim p r : ℕ} {F : ℕ → List ℕ} {o o′ : List ℕ} → ((f : ℕ) → b < suc f → Lays lim (F (suc f)) o p o′ r) → Text b F lim o p o′ r
-text-by h = record { is = elim [ zero ↦ λ l. absurd (omega arith) | suc f ↦ λ l. h f l ] }
-
--- ---- say: after i bytes
-pub said-more : (b : List ℕ) (i : ℕ) {lim p q r : ℕ} {o o₁ o₂ : List ℕ} → i < length b → Lays lim (take i b) o p o₁ q → Lays lim (getD b i 0 ∷ []) o₁ q o₂ r → Lays lim (take (i + 1) b) o p o₂ r
-said-more b i l X Y = lays-as (sym (take-snoc b i l)) (lays-two X Y)
-  where
-    take-snoc : (b : List ℕ) (i : ℕ) → i < length b → take (i + 1) b ≡ take i b ++ (getD b i 0 ∷ [])
-    take-snoc b i l = ap (λ (k : ℕ). take k b) (add-one i) ∙ take-suc b i 0 l
-
-pub said-all : (b : List ℕ) (i : ℕ) {lim p q : ℕ} {o o₁ : List ℕ} → length b ≤ i → Lays lim (take i b) o p o₁ q → Lays lim b o p o₁ q
-said-all b i l X = lays-as (take-all i b l) X
-
--- ---- decimal
-digits-one : (f n : ℕ) → n < 10 → digits f n ≡ (48 + n) ∷ []
-unfolding digits
-digits-one zero n l = refl
-digits-one (suc f) n l = ap (λ (t : Bool). elim t [ true ↦ (48 + n) ∷ [] | false ↦ digits f (n / 10) ++ ((48 + n % 10) ∷ []) ]) (lt-ltb n 10 l)
-
-digits-more : (f n : ℕ) → 10 ≤ n → digits (suc f) n ≡ digits f (n / 10) ++ ((48 + n % 10) ∷ [])
-unfolding digits
-digits-more f n l = ap (λ (t : Bool). elim t [ true ↦ (48 + n) ∷ [] | false ↦ digits f (n / 10) ++ ((48 + n % 10) ∷ []) ]) (le-ltb n 10 l)
-
-pub decimal-one : {lim p r n : ℕ} {o o′ : List ℕ} → n < 10 → Lays lim ((48 + n) ∷ []) o p o′ r → Text n (λ f. digits f n) lim o p o′ r
-decimal-one {lim} {p} {r} {n} l X = record { is = λ f h. lays-as (sym (digits-one f n l)) X }
-
-pub decimal-more : {lim p q r n : ℕ} {o o₁ o₂ : List ℕ} → 10 ≤ n → Text (n / 10) (λ f. digits f (n / 10)) lim o p o₁ q → Lays lim ((48 + n % 10) ∷ []) o₁ q o₂ r → Text n (λ f. digits f n) lim o p o₂ r
-decimal-more {lim} {p} {q} {r} {n} l X Y = text-by (λ f h. lays-as (sym (digits-more f n l)) (lays-two (X .is f (omega arith)) Y))
-
--- the fuel of the definition is enough, though it is not above n
-digits-same : (f n : ℕ) → n ≤ f → digits f n ≡ digits (suc f) n
-digits-same zero n l = digits-one 0 n (omega arith) ∙ sym (digits-one 1 n (omega arith))
-digits-same (suc f) n l = by-test (ltb n 10)
-    (λ e. digits-one (suc f) n (ltb-true n 10 e) ∙ sym (digits-one (suc (suc f)) n (ltb-true n 10 e)))
-    (λ e. digits-more f n (ltb-false n 10 e) ∙ ap (λ (z : List ℕ). z ++ ((48 + n % 10) ∷ [])) (digits-same f (n / 10) (omega (arith, ltb-false n 10 e))) ∙ sym (digits-more (suc f) n (ltb-false n 10 e)))
-
-pub decimal-text : {lim p r n : ℕ} {o o′ : List ℕ} → Text n (λ f. digits f n) lim o p o′ r → Lays lim (decimal n) o p o′ r
-unfolding decimal
-decimal-text {lim} {p} {r} {n} X = lays-as (sym (digits-same n n (omega arith))) (X .is (suc n) (omega arith))
-
--- ---- the number at i, by its argument
-abbrev numberRead : ℤ → Node → ℤ
-numberRead y (N.Number z) = z
-numberRead y (N.Truth b) = y
-numberRead y (N.Row g) = y
-numberRead y (N.Cell c g) = y
-numberRead y (N.Record e) = y
-numberRead y (N.Binary o j) = y
-numberRead y N.Negation = y
-numberRead y (N.Comprehension m) = y
-numberRead y (N.Generator g k) = y
-numberRead y (N.Condition j) = y
-numberRead y N.Nothing = y
-
-number-kind : (s : List ℕ) (i k a : ℕ) → numberRead (numberOf a) (nodeOf s i k a) ≡ numberOf a
-unfolding nodeOf
-number-kind s i zero a = refl
-number-kind s i (suc zero) a = refl
-number-kind s i (suc (suc zero)) a = refl
-number-kind s i (suc (suc (suc zero))) a = refl
-number-kind s i (suc (suc (suc (suc zero)))) a = refl
-number-kind s i (suc (suc (suc (suc (suc zero))))) a = refl
-number-kind s i (suc (suc (suc (suc (suc (suc zero)))))) a = refl
-number-kind s i (suc (suc (suc (suc (suc (suc (suc zero))))))) a = refl
-number-kind s i (suc (suc (suc (suc (suc (suc (suc (suc zero)))))))) a = refl
-number-kind s i (suc (suc (suc (suc (suc (suc (suc (suc (suc zero))))))))) a = refl
-number-kind s i (suc (suc (suc (suc (suc (suc (suc (suc (suc (suc zero)))))))))) a = refl
-number-kind s i (suc (suc (suc (suc (suc (suc (suc (suc (suc (suc (suc k))))))))))) a = refl
-
-number-arg : {s : List ℕ} {i : ℕ} {z : ℤ} → Looks s i (N.Number z) → z ≡ numberOf (argOf (wordAt s i))
-unfolding nodeAt pick
-number-arg {s} {i} {z} H = ap (numberRead (numberOf (argOf (wordAt s i)))) (H .is) ∙ go (leb places i)
-  where
-    go : (t : Bool) → numberRead (numberOf (argOf (wordAt s i))) (pick t N.Nothing (nodeOf s i (kindOf (wordAt s i)) (argOf (wordAt s i)))) ≡ numberOf (argOf (wordAt s i))
-    go true = refl
-    go false = number-kind s i (kindOf (wordAt s i)) (argOf (wordAt s i))
-
 -- ---- numbers and places
-pub number-minus : {lim p q r a : ℕ} {o o₁ o₂ : List ℕ} → a < 0x80000000 → Lays lim (ascii "-") o p o₁ q → Text (0x80000000 - a) (λ f. digits f (0x80000000 - a)) lim o₁ q o₂ r → Lays lim (signedDecimal (numberOf a)) o p o₂ r
-unfolding signedDecimal
-number-minus {lim} {p} {q} {r} {a} l X Y = lays-as
-    (ap (λ (n : ℕ). ascii "-" ++ decimal n) (omega arith) ∙ ap (λ (t : Bool). signedDecimal (elim t [ true ↦ negsuc (0x7fffffff - a) | false ↦ pos (a - 0x80000000) ])) (sym (lt-ltb a 0x80000000 l)))
-    (lays-two X (decimal-text Y))
-
-pub number-plus : {lim p r a : ℕ} {o o′ : List ℕ} → 0x80000000 ≤ a → Text (a - 0x80000000) (λ f. digits f (a - 0x80000000)) lim o p o′ r → Lays lim (signedDecimal (numberOf a)) o p o′ r
-unfolding signedDecimal
-number-plus {lim} {p} {r} {a} l Y = lays-as (ap (λ (t : Bool). signedDecimal (elim t [ true ↦ negsuc (0x7fffffff - a) | false ↦ pos (a - 0x80000000) ])) (sym (le-ltb a 0x80000000 l))) (decimal-text Y)
-
 pub truth-is : {lim p r : ℕ} {b c : Bool} {o o′ : List ℕ} → b ≡ c → Lays lim (showTerm (ptruth c)) o p o′ r → Lays lim (showTerm (ptruth b)) o p o′ r
 truth-is e X = lays-as (ap (λ (b : Bool). showTerm (ptruth b)) (sym e)) X
 
@@ -175,9 +84,9 @@ module _ {s : List ℕ} {i : ℕ} {d : Clause} (H : LooksC s i d) where
   grows-is f O = ap (growsBy O (λ j. growsIn f O s j) i (markAt s i)) (sym (H .is))
 
 -- ---- term
-pub term-number : {s : List ℕ} {i a lim p r : ℕ} {z : ℤ} {o o′ : List ℕ} → Looks s i (N.Number z) → a ≡ argOf (wordAt s i) → Lays lim (signedDecimal (numberOf a)) o p o′ r → Text (left i) (λ f. showTerm (termIn f s i)) lim o p o′ r
+pub term-number : {s : List ℕ} {i lim p r : ℕ} {z : ℤ} {o o′ : List ℕ} → Looks s i (N.Number z) → Lays lim (signedDecimal z) o p o′ r → Text (left i) (λ f. showTerm (termIn f s i)) lim o p o′ r
 unfolding showTerm
-term-number H e X = term-lays H (λ f l. lays-as (ap signedDecimal (ap numberOf e ∙ sym (number-arg H))) X)
+term-number H X = term-lays H (λ f l. X)
 
 pub term-zero : {s : List ℕ} {i lim p r : ℕ} {n : Node} {o o′ : List ℕ} (H : Looks s i n) → ((f : ℕ) → termNode H f ≡ Pl.pnum (pos 0)) → Lays lim (ascii "0") o p o′ r → Text (left i) (λ f. showTerm (termIn f s i)) lim o p o′ r
 unfolding showTerm signedDecimal decimal digits ascii

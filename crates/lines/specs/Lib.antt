@@ -1,4 +1,3 @@
 -- The lines of the plan that marked words stand for, laid into a byte buffer behind a limit.
-pub mod Laying
 pub mod Text
 pub mod Printed

@@ -14,7 +14,7 @@ use Rattle.plan.specs.Plan as Pl
 use Rattle.plan.specs.Planner.{conj}
 use Rattle.plan.specs.Lines.{ascii, monoidName, binName, showTerm, showOp, showOps}
 use Rattle.planner.specs.Marks.{markAt, slotBy}
-use Rattle.lines.specs.Laying.{Lays}
+use Rattle.text.specs.Laying.{Lays}
 use Rattle.planner.specs.PlanIn.{headIn, condsIn, growsIn, opIn, orElse, monoidBy}
 
 -- a place, and a field of one

@@ -13,7 +13,7 @@ use Rattle.lines.proofs.closings.Kinds as closings-kinds
 use Rattle.lines.proofs.+closings.Lts-closings as closings-lts
 use Rattle.form.proofs.look_clause.Reads as look-clause-reads
 use Rattle.lines.proofs.condition.Reads as condition-reads
-use Rattle.lines.proofs.say.Reads as say-reads
+use Rattle.text.proofs.say.Reads as say-reads
 use Rattle.planner.proofs.mark.Reads as mark-reads
 use Rattle.lines.proofs.+closings.{statement}
 use Rattle.lines.proofs.+closings.Tie.{close}

@@ -12,7 +12,7 @@ use Rattle.lines.proofs.openings.Reads as openings
 use Rattle.lines.proofs.openings.Kinds as openings-kinds
 use Rattle.lines.proofs.+openings.Lts-openings as openings-lts
 use Rattle.form.proofs.look_clause.Reads as look-clause-reads
-use Rattle.lines.proofs.say.Reads as say-reads
+use Rattle.text.proofs.say.Reads as say-reads
 use Rattle.planner.proofs.mark.Reads as mark-reads
 use Rattle.lines.proofs.+openings.{statement}
 use Rattle.lines.proofs.+openings.Tie.{close}

@@ -1,7 +1,7 @@
 use mathlib.Core.Path.{sym, ap}
 use Rattle.plan.specs.Lines.{ascii}
 use Rattle.lines.specs.Text.{growerText}
-use Rattle.lines.proofs.Laying.{lays-as}
+use Rattle.text.proofs.Laying.{lays-as}
 use borrow.Author.Needs.{needs}
 use Rattle.lines.proofs.grower_name.Statement.{statement}
 use Rattle.lines.proofs.grower_name.Tie as tie

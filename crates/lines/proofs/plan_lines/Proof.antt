@@ -1,7 +1,7 @@
 use native.Mathlib.Omega.{arith}
 use lib.ListN.{length}
 use Prim.Native.Nat.{_<_}
-use Rattle.lines.specs.Laying.{big}
+use Rattle.text.specs.Laying.{big}
 use Rattle.lines.proofs.Print.{print-short, print-full}
 use borrow.Author.Needs.{needs}
 use Rattle.lines.proofs.plan_lines.Statement.{statement}

@@ -1,15 +1,15 @@
 use native.Mathlib.Omega.{arith}
-use Rattle.lines.proofs.Laws.{decimal-one, decimal-more}
+use Rattle.text.proofs.Numbers.{decimal-one, decimal-more}
 use borrow.Author.Needs.{needs}
 use Prim.Native.Nat.{ℕ, _<_}
 use borrow.Fn.Kinds.{In}
 use borrow.Fn.PlainCycle.{Measures, is, falls, and}
-use Rattle.lines.proofs.decimal.Reads as decimal
-use Rattle.lines.proofs.decimal.Kinds as decimal-kinds
-use Rattle.lines.proofs.+decimal.Lts-decimal as decimal-lts
-use Rattle.lines.proofs.put.Reads as put-reads
-use Rattle.lines.proofs.+decimal.{statement}
-use Rattle.lines.proofs.+decimal.Tie.{close}
+use Rattle.text.proofs.decimal.Reads as decimal
+use Rattle.text.proofs.decimal.Kinds as decimal-kinds
+use Rattle.text.proofs.+decimal.Lts-decimal as decimal-lts
+use Rattle.text.proofs.put.Reads as put-reads
+use Rattle.text.proofs.+decimal.{statement}
+use Rattle.text.proofs.+decimal.Tie.{close}
 
 abbrev μ-decimal : Measures 1 decimal-kinds.ps ℕ
 μ-decimal κs a = a .1 .1 .1 .0

@@ -1,12 +1,11 @@
 use mathlib.Core.Path.{_≡_, refl, _∙_}
 use Prim.Native.Nat.{_-_}
 use lib.ListN.{length, take}
-use Rattle.lines.specs.Laying.{Lays}
-use Rattle.lines.proofs.Laying.{lays-nil}
-use Rattle.lines.proofs.Laws.{said-more, said-all}
+use Rattle.text.specs.Laying.{Lays}
+use Rattle.text.proofs.Laying.{lays-nil, said-more, said-all}
 use borrow.Author.Needs.{needs}
-use Rattle.lines.proofs.say.Statement.{statement}
-use Rattle.lines.proofs.say.Tie as tie
+use Rattle.text.proofs.say.Statement.{statement}
+use Rattle.text.proofs.say.Tie as tie
 
 abbrev Inv-loop : tie.InvT-loop
 Inv-loop text₀ limit p b q₀ i₀ text q i = (length text ≡ length text₀) × Lays limit (take i b) text₀ p text q

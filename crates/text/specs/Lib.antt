@@ -1,0 +1,2 @@
+-- Text laid into a byte buffer behind a limit.
+pub mod Laying
