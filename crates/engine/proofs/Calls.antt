@@ -8,17 +8,17 @@ use lib.Seq.{getD-drop, ext-getD}
 use lib.IntN.{ℤ}
 use borrow.Author.Tests.{lt-ltb, le-ltb}
 use Rattle.calculus.specs.Value.{Value}
-use Rattle.encoding.specs.Record.{Bytes, Result, refused, got, andThen}
+use Rattle.encoding.specs.Record.{Bytes, Result, got, andThen}
 use Rattle.outcome.specs.Accepted.{Accepted, examine}
 use Rattle.outcome.specs.Outcome.{Outcome, Answer, scratchWords, cleared, settled, withScratch, written, answered, checked, printed, planLines}
 use Rattle.prepared.specs.Gives.{Gives, Settles, Spares}
 use Rattle.prepared.specs.Answering.{Asked, numberOf, lengthOf}
 use Rattle.prepared.specs.Answering as An
 use Rattle.prepared.specs.declared.Answer.{Answer as Ended}
+use Rattle.prepared.proofs.Settled.{settles-refused, settles-got}
 use Rattle.lines.specs.Printed.{Prints}
 use Rattle.lines.specs.Printed as Pr
 use Rattle.lines.specs.declared.Printed.{Printed}
-use Rattle.lines.proofs.Settled.{settles-printed}
 use Rattle.front.specs.Loaded.{Apart}
 use Rattle.front.specs.Prepares.{Accepts, PreparedBy, Prepares}
 use Rattle.front.specs.declared.Checked.the-variants as Checked
@@ -67,17 +67,9 @@ module _ {A : Type 0} {s t u : List ℕ} {b b′ : List A} {x : Result (Answer A
       subst (λ (o : Outcome A). Gives o (r .number) (r .length) b′ u) (sym (long-is s b x room))
       (record { number = R .number ∙ g .number; size = R .length ∙ g .size; buffer = g .buffer; scratch = R .scratch ∙ cleared-same S ∙ g .scratch })
 
-settles-refused : {A : Type 0} (b : List A) (k : ℕ) → Settles (refused k) b k 0 b
-unfolding settled
-settles-refused b k = record { gives = λ s. record { number = refl; size = refl; buffer = refl; scratch = refl } }
-
 -- ---- the checker hands on nothing
 abbrev nothing : Accepted → Result (Answer ℕ)
 nothing a = got (record { size = 0; front = [] })
-
-settles-nothing : (a : Accepted) → Settles (nothing a) [] 0 0 []
-unfolding settled
-settles-nothing a = record { gives = λ s. record { number = refl; size = refl; buffer = refl; scratch = refl } }
 
 -- ---- how a call begins
 module _ {d l : Bytes} {s t : List ℕ} {x : Begun} (B : Begins d l s t x) where
@@ -102,17 +94,17 @@ module _ {d l : Bytes} {s t : List ℕ} {x : Begun} (B : Begins d l s t x) where
 
   -- The checks, then a part over what they hand on.
   module _ {A : Type 0} (part : Accepted → Result (Answer A)) (b : List A) where
-    scant-by : x ≡ Begun.Scant → Gives (withScratch s b (andThen (examine d l) part)) 31 0 b t
+    pub scant-by : x ≡ Begun.Scant → Gives (withScratch s b (andThen (examine d l) part)) 31 0 b t
     scant-by e = let p = scant e in subst (Gives (withScratch s b (andThen (examine d l) part)) 31 0 b) (sym (p .1)) (too-short s b (andThen (examine d l) part) (p .0))
 
-    refused-by : {k : ℕ} → x ≡ Begun.Refused k → {u : List ℕ} {r : Reply} → Replies t u k 0 r → Gives (withScratch s b (andThen (examine d l) part)) (r .number) (r .length) b u
+    pub refused-by : {k : ℕ} → x ≡ Begun.Refused k → {u : List ℕ} {r : Reply} → Replies t u k 0 r → Gives (withScratch s b (andThen (examine d l) part)) (r .number) (r .length) b u
     unfolding andThen
     refused-by {k} e R =
         let p = refuses e in
         replied (p .0) (apart-spares (p .1 .away)) R
-        (subst (λ y. Settles (andThen y part) b k 0 b) (sym (p .1 .is)) (settles-refused b k))
+        (subst (λ y. Settles (andThen y part) b k 0 b) (sym (p .1 .is)) (settles-refused k refl))
 
-    settled-by : x ≡ Begun.Accepted → {b′ : List A} {u v : List ℕ} {k n : ℕ} {r : Reply} → Spares t u → ((y : Accepts d l t) → Settles (part (y .accepted)) b k n b′) → Replies u v k n r
+    pub settled-by : x ≡ Begun.Accepted → {b′ : List A} {u v : List ℕ} {k n : ℕ} {r : Reply} → Spares t u → ((y : Accepts d l t) → Settles (part (y .accepted)) b k n b′) → Replies u v k n r
         → Gives (withScratch s b (andThen (examine d l) part)) (r .number) (r .length) b′ v
     unfolding andThen
     settled-by e {b′} {k = k} {n} S f R =
@@ -132,7 +124,7 @@ module _ {d l : Bytes} {s t : List ℕ} {x : Begun} (B : Begins d l s t x) where
 
   pub check-accepted : x ≡ Begun.Accepted → {u : List ℕ} {r : Reply} → Replies t u 0 0 r → Gives (checked d l s) (r .number) (r .length) [] u
   unfolding checked
-  check-accepted e R = settled-by nothing [] e (spares-all t) (λ y. settles-nothing (y .accepted)) R
+  check-accepted e R = settled-by nothing [] e (spares-all t) (λ y. settles-got (record { size = 0; front = [] }) refl refl) R
 
   -- ---- answering, by the value that is to be answered
   module _ (value : Accepted → Value) {b : List ℤ} where
@@ -166,8 +158,8 @@ module _ {d l : Bytes} {s t : List ℕ} {x : Begun} (B : Begins d l s t x) where
 
     pub lines-given : x ≡ Begun.Accepted → {b′ : List ℕ} {u v : List ℕ} {y z : Printed} {r : Reply} → length u ≡ length t → Prints t b u b′ y → y ≡ z → Replies u v (Pr.numberOf z) (Pr.lengthOf z) r → Gives (planLines d l s b) (r .number) (r .length) b′ v
     unfolding planLines
-    lines-given e {b′} {u} {z = z} m A₀ q R =
+    lines-given e {b′} {u} m A₀ q R =
         let A = subst (Prints t b u b′) q A₀ in
         let Y : Accepts d l t = accepts e .1 .is in
         settled-by (printed b) b e (record { long = m; above = λ j h. A .behind d (Y .accepted) (Y .prepared) j (omega arith) })
-        (λ Z. settles-printed z (printed b (Z .accepted)) (A .is d (Z .accepted) (Z .prepared))) R
+        (λ Z. A .is d (Z .accepted) (Z .prepared)) R

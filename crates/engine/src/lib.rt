@@ -2,7 +2,7 @@
 ghost use mathlib.Core.List.{[]};
 ghost use Prim.Native.Nat.{ℕ, _≤_};
 ghost use lib.ListN.{length};
-ghost use Rattle.outcome.specs.Outcome.{byLoops, checked, planLines};
+ghost use Rattle.outcome.specs.Outcome.{byLoops, byPlan, checked, planLines};
 ghost use Rattle.prepared.specs.Gives.{Gives};
 ghost use Rattle.engine.specs.Replies.{Begins, Replies};
 use front::Checked;
@@ -24,7 +24,7 @@ pub enum Begun {
 }
 
 // "31: scratch under 8,192 words. Scratch stays untouched." Then the checks.
-fn begin(tables: &[u8], question: &[u8], scratch: &mut [u64]) -> Begun
+pub fn begin(tables: &[u8], question: &[u8], scratch: &mut [u64]) -> Begun
     ensures { λ r. ⌜ Begins (now (tables .entry)) (now (question .entry)) (now (scratch .entry)) (now (scratch .exit)) r ⌝ }
 {
     if scratch.len() < 8192 {
@@ -37,7 +37,7 @@ fn begin(tables: &[u8], question: &[u8], scratch: &mut [u64]) -> Begun
 }
 
 // How every call but 31 ends.
-fn finish(s: &mut [u64], k: u64, n: u64) -> Reply
+pub fn finish(s: &mut [u64], k: u64, n: u64) -> Reply
     requires { ⌜ 8192 ≤ length (now s) ⌝ }
     ensures { λ r. ⌜ Replies (now (s .entry)) (now (s .exit)) k n r ⌝ }
 {
@@ -80,6 +80,29 @@ pub extern "C" fn dislogha_answer_by_loops(
         },
         Begun::Refused(k) => finish(scratch, k, 0),
         Begun::Accepted => match loops::answer(scratch, tables, answer) {
+            Answer::Short => finish(scratch, 32, 0),
+            Answer::Length(n) => finish(scratch, 0, n as u64),
+        },
+    }
+}
+
+// By plan: the value of the plan under the operators' definitions.
+#[no_mangle]
+pub extern "C" fn dislogha_answer_by_plan(
+    tables: &[u8],
+    question: &[u8],
+    scratch: &mut [u64],
+    answer: &mut [i64],
+) -> Reply
+    ensures { λ r. ⌜ Gives (byPlan (now (tables .entry)) (now (question .entry)) (now (scratch .entry)) (now (answer .entry))) (r .number) (r .length) (now (answer .exit)) (now (scratch .exit)) ⌝ }
+{
+    match begin(tables, question, scratch) {
+        Begun::Scant => Reply {
+            number: 31,
+            length: 0,
+        },
+        Begun::Refused(k) => finish(scratch, k, 0),
+        Begun::Accepted => match streams::answer(scratch, tables, answer) {
             Answer::Short => finish(scratch, 32, 0),
             Answer::Length(n) => finish(scratch, 0, n as u64),
         },

@@ -1,4 +1,4 @@
-use Rattle.loops.specs.Answering.{looped}
+use Rattle.outcome.specs.Outcome.{looped}
 use Rattle.engine.proofs.Calls.{room-refused, asked, room-answered, answer-scant, answer-refused, answer-given}
 use Rattle.outcome.specs.Outcome.{byLoops}
 use borrow.Author.Needs.{needs}

@@ -1,0 +1,70 @@
+-- What an outcome's number says: a refusal leaves the buffer, and 0 is an answer that was got.
+use mathlib.Core.Path.{_≡_, refl}
+use mathlib.Core.Bool.{Bool, true, false}
+use mathlib.Core.List.{List, _++_}
+use Prim.Native.Nat.{ℕ}
+use native.Mathlib.Omega.{arith}
+use borrow.Author.Tests.{ltb-true}
+use lib.Dec.{ltb}
+use lib.ListN.{length, drop}
+use Rattle.encoding.specs.Record.{Bytes, Result, refused, got, andThen}
+use Rattle.encoding.proofs.Refusals.{Only}
+use Rattle.outcome.specs.Accepted.{Accepted, examine}
+use Rattle.outcome.specs.Outcome.{Outcome, Answer, scratchWords, settled, withScratch}
+use Rattle.outcome.proofs.Checks.{examine-only}
+
+module _ {A : Type 0} (s : List ℕ) (b : List A) where
+  -- what 31 gives, or what stands behind it
+  abbrev Behind : Bool → Result (Answer A) → Outcome A
+  Behind t x = elim t [ true ↦ record { number = 31; size = 0; buffer = b; scratch = s } | false ↦ settled s b x ]
+
+  settled-refusal : (x : Result (Answer A)) → (settled s b x .number ≡ 0 → ⊥) → settled s b x .buffer ≡ b
+  unfolding settled
+  settled-refusal (refused n) h = refl
+  settled-refusal (got a) h = absurd (h refl)
+
+  -- "a refusal its number and length 0, the answer or byte buffer unchanged"
+  pub refusal : (x : Result (Answer A)) → (withScratch s b x .number ≡ 0 → ⊥) → withScratch s b x .buffer ≡ b
+  unfolding withScratch
+  refusal x = go (ltb (length s) scratchWords)
+    where
+      go : (t : Bool) → (Behind t x .number ≡ 0 → ⊥) → Behind t x .buffer ≡ b
+      go true h = refl
+      go false h = settled-refusal x h
+
+  -- an answer was got, and stands at the buffer's front
+  pub record Got (x : Result (Answer A)) (o : Outcome A) : Type 0 where
+    pub answer : Answer A
+    pub is : x ≡ got answer
+    pub size : o .size ≡ answer .size
+    pub buffer : o .buffer ≡ answer .front ++ drop (length (answer .front)) b
+
+  settled-answer : (x : Result (Answer A)) → Only (λ n. n ≡ 0 → ⊥) x → settled s b x .number ≡ 0 → Got x (settled s b x)
+  unfolding settled
+  settled-answer (refused n) h e = absurd (h e)
+  settled-answer (got a) h e = record { answer = a; is = refl; size = refl; buffer = refl }
+
+  pub answers : (x : Result (Answer A)) → Only (λ n. n ≡ 0 → ⊥) x → withScratch s b x .number ≡ 0 → Got x (withScratch s b x)
+  unfolding withScratch
+  answers x h = go (ltb (length s) scratchWords)
+    where
+      go : (t : Bool) → Behind t x .number ≡ 0 → Got x (Behind t x)
+      go true e = absurd (omega (arith, e))
+      go false e = settled-answer x h e
+
+-- no check refuses by 0
+examine-above : (d l : Bytes) → Only (λ n. ltb 0 n ≡ true) (examine d l)
+examine-above d l = examine-only (λ n. ltb 0 n ≡ true) (refl, (refl, (refl, (refl, (refl, (refl, (refl, (refl, (refl, (refl, (refl, tt))))))))))) d l
+
+pub checks-only : (d l : Bytes) → Only (λ n. n ≡ 0 → ⊥) (examine d l)
+checks-only d l = go (examine d l) (examine-above d l)
+  where
+    go : (x : Result Accepted) → Only (λ n. ltb 0 n ≡ true) x → Only (λ n. n ≡ 0 → ⊥) x
+    go (refused n) h = λ e. absurd (omega (arith, e, ltb-true 0 n h))
+    go (got a) h = tt
+
+-- what is got behind the checks is got of an accepted question
+pub handed-on : {A : Type 0} (x : Result Accepted) (k : Accepted → Result A) (y : A) → andThen x k ≡ got y → (a : Accepted) × ((x ≡ got a) × (k a ≡ got y))
+unfolding andThen
+handed-on (refused n) k y e = let z : _≡_ {A = ℕ} 0 1 = cc in absurd (omega arith)
+handed-on (got a) k y e = (a, (refl, e))
