@@ -1,0 +1,28 @@
+-- What counting the rows of a pass asks and gives.
+use mathlib.Core.Path.{_≡_}
+use mathlib.Core.List.{List}
+use Prim.Native.Nat.{ℕ, _≤_, min}
+use lib.ListN.{length, getD}
+use lib.IntN.{ℤ}
+use Rattle.encoding.specs.Record.{Bytes}
+use Rattle.outcome.specs.Accepted.{Accepted}
+use Rattle.prepared.specs.Prepared.{Prepared}
+use Rattle.machine.specs.Machine.{State, due}
+use Rattle.environment.specs.Env.{tablesIn}
+use Rattle.tracking.specs.Standing.{Question, Kept, Waits}
+use Rattle.tracking.specs.Reading.{Readable}
+use Rattle.offers.specs.Offered.{longest, rowsOf}
+
+-- r rows are offered to a state, and the question's words stand
+pub record Counted {d : Bytes} (Q : Question d) (S : State) (s : List ℕ) (r : ℕ) : Type 0 where
+  pub kept : Kept (Q .base) s
+  pub rows : r ≡ min (due (tablesIn d) S) longest
+
+pub record Counts (d : Bytes) (s : List ℕ) (o : List ℤ) (code : ℕ) (s′ : List ℕ) (r : ℕ) : Type 0 where
+  pub is : (Q : Question d) → Readable Q → (S : State) → Waits Q s o 0 code S → Counted Q S s′ r
+
+-- with whatever question stands in scratch; words from 2,048 on stay
+pub record Tells (d : Bytes) (s s′ : List ℕ) (r : ℕ) : Type 0 where
+  pub is : (a : Accepted) → Prepared d a s → r ≡ rowsOf a
+  pub long : length s′ ≡ length s
+  pub above : (j : ℕ) → 2048 ≤ j → getD s′ j 0 ≡ getD s j 0

@@ -1,0 +1,3 @@
+-- How many rows a pass offers.
+pub mod Offered
+pub mod Contract

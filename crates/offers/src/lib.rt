@@ -1,0 +1,66 @@
+// What the tests ask beside the open calls: how many rows a pass offers.
+ghost use mathlib.Core.List.{[]};
+ghost use Rattle.executor.specs.Contract.{Waiting};
+ghost use Rattle.prepared.specs.Answering.{Asked};
+ghost use Rattle.prepared.specs.Gives.{Gives};
+ghost use Rattle.offers.specs.Offered.{offered};
+ghost use Rattle.offers.specs.Contract.{Counts, Tells};
+use engine::Begun;
+use engine::Reply;
+use engine::begin;
+use engine::finish;
+use executor::portion;
+use links::link;
+use passes::start;
+use planner::make_plan;
+
+// The rows still to be offered, one at a time and with nothing written. Answers how many they are, 2^64 - 1 at most.
+fn count(s: &mut [u64], data: &[u8], out: &mut [i64], code: usize) -> u64
+    requires { ⌜ Waiting (now «data») (now s) (now out) 0 code ⌝ }
+    ensures { λ r. ⌜ Counts (now («data» .entry)) (now (s .entry)) (now (out .entry)) code (now (s .exit)) r ⌝ }
+{
+    let mut at = code;
+    let mut n: u64 = 0;
+    while n < 18446744073709551615 {
+        if at == 1 {
+            return n;
+        }
+        at = portion(s, data, out, 0, at, 1);
+        n = n + 1;
+    }
+    n
+}
+
+// The rows that a pass offers over the accepted question in scratch.
+fn rows_of(s: &mut [u64], data: &[u8]) -> u64
+    requires { ⌜ Asked (now «data») (now s) ⌝ }
+    ensures { λ r. ⌜ Tells (now («data» .entry)) (now (s .entry)) (now (s .exit)) r ⌝ }
+{
+    make_plan(s);
+    let first = link(s);
+    let mut none = [0i64; 1];
+    let code = start(s, data, &mut none, 0, first);
+    count(s, data, &mut none, code)
+}
+
+// The checker's number; with 0 the length is the number of rows that a pass offers, 2^64 - 1 at most.
+#[no_mangle]
+pub extern "C" fn dislogha_offered_rows(
+    tables: &[u8],
+    question: &[u8],
+    scratch: &mut [u64],
+) -> Reply
+    ensures { λ r. ⌜ Gives (offered (now (tables .entry)) (now (question .entry)) (now (scratch .entry))) (r .number) (r .length) [] (now (scratch .exit)) ⌝ }
+{
+    match begin(tables, question, scratch) {
+        Begun::Scant => Reply {
+            number: 31,
+            length: 0,
+        },
+        Begun::Refused(k) => finish(scratch, k, 0),
+        Begun::Accepted => {
+            let n = rows_of(scratch, tables);
+            finish(scratch, 0, n)
+        }
+    }
+}
