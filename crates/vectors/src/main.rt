@@ -1,6 +1,6 @@
 // Asks the engine about each recorded case, and prints a line for each: its place, what the checker
-// says, and where the answer is known the number, the length and the words by loops; then the lines
-// of its plan.
+// says, and where the answer is known the number, the length and the words, first by loops, then by
+// plan; then the lines of its plan.
 // A case is one byte that says whether its answer is known (1) or too long for any engine (0), two
 // bytes of data's length, two of the question's, little-endian, then both.
 ghost use Prim.Native.Nat.{_+_, _<_, _≤_};
@@ -25,6 +25,12 @@ fn print_next(number: u64) {
     io::print_decimal(1, number);
 }
 
+fn print_signed(x: i64) {
+    let mut digits = [0u8; 20];
+    let n = text::signed(&mut digits, 20, 0, x);
+    io::write_all(1, &digits[..n]);
+}
+
 // The first words, as many as the count says.
 fn print_words(words: &[i64], count: u64) {
     let mut i = 0;
@@ -33,9 +39,22 @@ fn print_words(words: &[i64], count: u64) {
             return;
         }
         io::write_all(1, b" ");
-        decimal::print_signed(1, words[i]);
+        print_signed(words[i]);
         i += 1;
     }
+}
+
+fn print_reply(number: u64, length: u64, words: &[i64]) {
+    print_next(number);
+    print_next(length);
+    print_words(words, length);
+}
+
+// In a buffer of its own, in which nothing of the loops' answer stands.
+fn answer_by_plan(tables: &[u8], question: &[u8], scratch: &mut [u64]) {
+    let mut words = [0i64; 4096];
+    let reply = engine::dislogha_answer_by_plan(tables, question, scratch, &mut words);
+    print_reply(reply.number, reply.length, &words);
 }
 
 fn answer(known: bool, tables: &[u8], question: &[u8], scratch: &mut [u64], words: &mut [i64]) {
@@ -43,9 +62,8 @@ fn answer(known: bool, tables: &[u8], question: &[u8], scratch: &mut [u64], word
         return;
     }
     let reply = engine::dislogha_answer_by_loops(tables, question, scratch, words);
-    print_next(reply.number);
-    print_next(reply.length);
-    print_words(words, reply.length);
+    print_reply(reply.number, reply.length, words);
+    answer_by_plan(tables, question, scratch);
 }
 
 // The first bytes.

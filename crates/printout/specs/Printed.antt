@@ -1,0 +1,15 @@
+-- A text at the front of a lent buffer.
+use mathlib.Core.Path.{_≡_}
+use mathlib.Core.List.{_++_}
+use Prim.Native.Nat.{ℕ, _≤_}
+use lib.ListN.{length, take, drop}
+use Rattle.encoding.specs.Record.{Bytes}
+
+-- the buffer was o and is o′, r is the text's length; bytes behind the text do not change
+pub record Prints (t o o′ : Bytes) (r : ℕ) : Type 0 where
+  pub size : r ≡ length t
+  pub text : o′ ≡ t ++ drop (length t) o
+
+-- r counts bytes at the start of o; both parts are stated so that `&text[..r]` asks nothing more
+abbrev pub Counts : ℕ → Bytes → Type 0
+Counts r o = (r ≤ length o) × (r ≡ length (take r o))
