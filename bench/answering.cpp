@@ -1,17 +1,19 @@
-// Answering by loops against SQLite in memory and against loops written out by hand, on the same
-// tables in one run. Times are the fastest of several runs; nothing is asserted of them. The three
-// answers must be equal, or the exit code is 1.
+// Answering by loops and by plan against SQLite in memory and against loops written out by hand, on
+// the same tables in one run. Times are processor time of the fastest of several runs; nothing is
+// asserted of them. The four answers must be equal, or the exit code is 1.
 //
-// Arguments: the file that bench/inputs.py writes; behind it, for a profiler, the name of a query:
-// the engine then answers it once, and nothing else is done.
+// Arguments: the file that bench/inputs.py writes; behind it, for a profiler, the name of a query
+// and "loops" or "plan": the engine then answers it once, and nothing else is done.
 
 #include <sqlite3.h>
+#include <time.h>
 
-#include <chrono>
+#include <algorithm>
 #include <cstdio>
 #include <cstdlib>
 #include <fstream>
 #include <functional>
+#include <iterator>
 #include <sstream>
 #include <string>
 #include <vector>
@@ -94,11 +96,16 @@ void read(const std::string &path, const std::string &name, Input &input) {
     stop(path + " has no query " + name);
 }
 
+// The engine, answering one way.
 class Engine {
   public:
+    using Call = decltype(&dislogha::answer_by_loops);
+
+    explicit Engine(Call answer_by) : answer_by(answer_by) {}
+
     // The engine's number; its words where that is 0.
     std::uint64_t run(const Input &input, Words &words) {
-        const dislogha::Result result = dislogha::answer_by_loops(
+        const dislogha::Result result = answer_by(
             {input.data.data(), input.data.size()}, {input.question.data(), input.question.size()},
             {scratch.data(), scratch.size()}, {answer.data(), answer.size()});
         words.assign(answer.data(), answer.data() + result.length);
@@ -106,6 +113,7 @@ class Engine {
     }
 
   private:
+    Call answer_by;
     std::vector<std::uint64_t> scratch = std::vector<std::uint64_t>(dislogha::scratch_words);
     Words answer = Words(4096);
 };
@@ -168,67 +176,93 @@ class Sqlite {
     sqlite3_stmt *statement = nullptr;
 };
 
+// Nanoseconds of processor time so far.
+double now() {
+    timespec time;
+    clock_gettime(CLOCK_PROCESS_CPUTIME_ID, &time);
+    return static_cast<double>(time.tv_sec) * 1e9 + static_cast<double>(time.tv_nsec);
+}
+
 // Nanoseconds of the fastest run: at least five runs, and half a second of them if they are short.
 double fastest(const std::function<void()> &run) {
-    using Clock = std::chrono::steady_clock;
     double least = 1e18, spent = 0;
     for (int runs = 0; runs < 5 || (spent < 5e8 && runs < 2000); runs++) {
-        const auto start = Clock::now();
+        const double start = now();
         run();
-        const double taken = std::chrono::duration<double, std::nano>(Clock::now() - start).count();
+        const double taken = now() - start;
         least = std::min(least, taken);
         spent += taken;
     }
     return least;
 }
 
+constexpr const char *way_names[] = {"by loops", "by plan", "SQLite", "by hand"};
+
+// The times of the four ways.
+void print(const char *name, const double (&ns)[4], double steps) {
+    std::printf("%-15s %9.0f %9.0f %9.0f %9.0f", name, ns[0] / 1e3, ns[1] / 1e3, ns[2] / 1e3,
+                ns[3] / 1e3);
+    std::printf("  %8.2f %8.2f", ns[0] / steps, ns[1] / steps);
+    std::printf("  %8.2f %8.2f", ns[0] / ns[2], ns[0] / ns[3]);
+    std::printf("  %8.2f %8.2f %8.2f\n", ns[1] / ns[2], ns[1] / ns[3], ns[1] / ns[0]);
+}
+
+void print_heading() {
+    std::printf("%-15s %39s  %17s  %17s  %26s\n", "", "us for the whole answer", "ns a pair or row",
+                "by loops to", "by plan to");
+    std::printf("%-15s %9s %9s %9s %9s  %8s %8s  %8s %8s  %8s %8s %8s\n", "", "by loops", "by plan",
+                "SQLite", "by hand", "by loops", "by plan", "SQLite", "by hand", "SQLite",
+                "by hand", "by loops");
+}
+
 // Measures one query and prints its line; false where the answers differ.
 bool measure(const Query &query, const Input &input) {
-    Engine engine;
+    Engine by_loops(dislogha::answer_by_loops), by_plan(dislogha::answer_by_plan);
     Sqlite sqlite(query, input);
-    Words by_engine, by_sqlite, by_loops;
     const Rows &first = input.tables.front(), &second = input.tables.back();
-    const auto loops = [&] { by_loops = query.loops(first, second); };
-    const auto number = static_cast<unsigned long long>(engine.run(input, by_engine));
-    sqlite.run(by_sqlite);
-    loops();
-    if (number != 0 || by_engine != by_loops || by_sqlite != by_loops) {
-        std::printf("%-15s no times: engine %llu and %s words, SQLite %s words\n", query.name,
-                    number, by_engine == by_loops ? "the loops'" : "other",
-                    by_sqlite == by_loops ? "the loops'" : "other");
-        return false;
+    Words words;
+    const std::function<void()> ways[4] = {
+        [&] { by_loops.run(input, words); },
+        [&] { by_plan.run(input, words); },
+        [&] { sqlite.run(words); },
+        [&] { words = query.loops(first, second); },
+    };
+    const Words wanted = query.loops(first, second);
+    for (std::size_t way = 0; way < 4; way++) {
+        ways[way]();
+        if (words != wanted) {
+            std::printf("%-15s no times: %s gives another answer than by hand\n", query.name,
+                        way_names[way]);
+            return false;
+        }
     }
-    const double steps = input.steps();
-    const double engine_ns = fastest([&] { engine.run(input, by_engine); });
-    const double sqlite_ns = fastest([&] { sqlite.run(by_sqlite); });
-    const double loops_ns = fastest(loops);
-    std::printf("%-15s %9.0f %9.0f %9.0f  %8.2f %8.2f %8.2f  %8.2f %8.2f\n", query.name,
-                engine_ns / 1e3, sqlite_ns / 1e3, loops_ns / 1e3, engine_ns / steps,
-                sqlite_ns / steps, loops_ns / steps, engine_ns / sqlite_ns, engine_ns / loops_ns);
+    double ns[4];
+    std::transform(std::begin(ways), std::end(ways), ns, fastest);
+    print(query.name, ns, input.steps());
     return true;
 }
 
-int once(const std::string &path, const std::string &name) {
+int once(const std::string &path, const std::string &name, const std::string &way) {
     Input input;
     Words words;
     read(path, name, input);
-    const auto number = static_cast<unsigned long long>(Engine().run(input, words));
-    std::printf("%s: number %llu, %zu words\n", name.c_str(), number, words.size());
+    Engine engine(way == "plan" ? dislogha::answer_by_plan : dislogha::answer_by_loops);
+    const auto number = static_cast<unsigned long long>(engine.run(input, words));
+    std::printf("%s by %s: number %llu, %zu words\n", name.c_str(), way.c_str(), number,
+                words.size());
     return 0;
 }
 
 } // namespace
 
 int main(int count, char **arguments) {
-    if (count < 2)
-        stop("arguments: the file that bench/inputs.py writes, the name of one query");
-    if (count > 2)
-        return once(arguments[1], arguments[2]);
+    if (count != 2 && count != 4)
+        stop("arguments: the file that bench/inputs.py writes; a query's name, \"loops\" or "
+             "\"plan\"");
+    if (count == 4)
+        return once(arguments[1], arguments[2], arguments[3]);
     std::printf("SQLite %s\n", sqlite3_libversion());
-    std::printf("%-15s %29s  %26s  %17s\n", "", "us for the whole answer", "ns for a pair or row",
-                "engine to");
-    std::printf("%-15s %9s %9s %9s  %8s %8s %8s  %8s %8s\n", "", "engine", "SQLite", "loops",
-                "engine", "SQLite", "loops", "SQLite", "loops");
+    print_heading();
     bool equal = true;
     for (const Query &query : queries) {
         Input input;

@@ -31,6 +31,11 @@ dislogha_result dislogha_answer_by_loops(const std::uint8_t *data, std::size_t d
                                          std::uint64_t *scratch, std::size_t scratch_words,
                                          std::int64_t *answer, std::size_t answer_words) noexcept;
 
+dislogha_result dislogha_answer_by_plan(const std::uint8_t *data, std::size_t data_bytes,
+                                        const std::uint8_t *question, std::size_t question_bytes,
+                                        std::uint64_t *scratch, std::size_t scratch_words,
+                                        std::int64_t *answer, std::size_t answer_words) noexcept;
+
 dislogha_result dislogha_plan_lines(const std::uint8_t *data, std::size_t data_bytes,
                                     const std::uint8_t *question, std::size_t question_bytes,
                                     std::uint64_t *scratch, std::size_t scratch_words,
@@ -43,6 +48,7 @@ namespace dislogha {
 constexpr std::size_t scratch_words = 8192;
 
 enum class Number : std::uint64_t {
+    // An answer is 0 and its length (0 from the checker).
     answered = 0,
 
     // From the wrappers alone, before a call: a span that is written overlaps another one.
@@ -59,7 +65,7 @@ enum class Number : std::uint64_t {
     // Whoever types the question:
     // Over 4,096 bytes.
     question_too_long = 21,
-    // A record that breaks the byte rules, none at all, or bytes left over.
+    // A record that breaks the byte rules, none at all, or bytes left over (no record).
     broken_record = 22,
     // A 33rd level (the question is level 1) or a 257th record.
     too_deep_or_too_many_records = 23,
@@ -69,7 +75,8 @@ enum class Number : std::uint64_t {
     type_does_not_fit = 25,
     // A generator its monoid may not have.
     generator_not_allowed = 26,
-    // A normal form over 512 nodes, copies counted.
+    // A normal form over 512 nodes, each term, comprehension and qualifier being one, copies
+    // counted.
     normal_form_too_large = 27,
     // A number in the normal form with bound over 2^62.
     number_out_of_bounds = 28,
@@ -80,7 +87,8 @@ enum class Number : std::uint64_t {
     // The answer buffer has fewer than G words, G being the answer's length in normal form with
     // each set written as a bag.
     answer_too_short = 32,
-    // The plan call's byte buffer is shorter than the plan's lines.
+    // The plan call's byte buffer is shorter than the plan's lines. Bytes behind the lines never
+    // change.
     lines_too_short = 33,
 };
 
@@ -119,7 +127,8 @@ template <class A, class B> bool overlap(Span<A> a, Span<B> b) noexcept {
 }
 
 // Whether a span that is written overlaps one of the others.
-template <class T, class... Others> bool overlaps(Span<T> written, Span<Others>... others) noexcept {
+template <class T, class... Others>
+bool overlaps(Span<T> written, Span<Others>... others) noexcept {
     return (overlap(written, others) || ...);
 }
 
@@ -150,6 +159,11 @@ Result call_with(Call call, Bytes data, Bytes question, Words scratch, Span<T> b
 // answer buffer. The words from there up to G are 0, later ones as they were.
 inline Result answer_by_loops(Bytes data, Bytes question, Words scratch, Answer answer) noexcept {
     return call_with(dislogha_answer_by_loops, data, question, scratch, answer);
+}
+
+// The answer by plan: number, length and words are those by loops.
+inline Result answer_by_plan(Bytes data, Bytes question, Words scratch, Answer answer) noexcept {
+    return call_with(dislogha_answer_by_plan, data, question, scratch, answer);
 }
 
 // The plan's lines, byte 10 after each: `answered` and the count of their bytes, which stand at the

@@ -8,10 +8,11 @@ pub struct Outcome {
     pub length: u64,
 }
 
-/// Declares an open call and lends slices to it: data and question, then what is written.
+/// Declares a call of an archive and lends slices to it: data and question, then what is written.
+#[macro_export]
 macro_rules! open_call {
-    ($linked:ident as $name:ident: $($buffer:ident of $unit:ty),*) => {
-        #[link(name = "engine", kind = "static")]
+    ($archive:literal, $linked:ident as $name:ident: $($buffer:ident of $unit:ty),*) => {
+        #[link(name = $archive, kind = "static")]
         extern "C" {
             fn $linked(
                 data: *const u8,
@@ -19,10 +20,14 @@ macro_rules! open_call {
                 question: *const u8,
                 question_bytes: usize,
                 $($buffer: *mut $unit, _: usize),*
-            ) -> Outcome;
+            ) -> $crate::calls::Outcome;
         }
 
-        pub fn $name(data: &[u8], question: &[u8], $($buffer: &mut [$unit]),*) -> Outcome {
+        pub fn $name(
+            data: &[u8],
+            question: &[u8],
+            $($buffer: &mut [$unit]),*
+        ) -> $crate::calls::Outcome {
             // SAFETY: each pointer goes with the length of its own slice, and what is written
             // overlaps nothing else.
             unsafe {
@@ -38,6 +43,7 @@ macro_rules! open_call {
     };
 }
 
-open_call!(dislogha_check as check: scratch of u64);
-open_call!(dislogha_answer_by_loops as answer_by_loops: scratch of u64, answer of i64);
-open_call!(dislogha_plan_lines as plan_lines: scratch of u64, lines of u8);
+open_call!("engine", dislogha_check as check: scratch of u64);
+open_call!("engine", dislogha_answer_by_loops as answer_by_loops: scratch of u64, answer of i64);
+open_call!("engine", dislogha_answer_by_plan as answer_by_plan: scratch of u64, answer of i64);
+open_call!("engine", dislogha_plan_lines as plan_lines: scratch of u64, lines of u8);

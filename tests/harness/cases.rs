@@ -28,7 +28,7 @@ fn make() -> Result<(), String> {
     write(folder, "names", names.collect::<String>().as_bytes())
 }
 
-/// Whether the outcome by loops is known; where it is not, the loops are too long for any engine.
+/// Whether the outcome is known; where it is not, loops and plan are too long for any engine.
 fn known(vector: &Recorded) -> bool {
     vector.check != 0 || vector.words.is_some()
 }
@@ -45,14 +45,15 @@ fn case_of(vector: &Recorded) -> Result<Vec<u8>, String> {
     Ok(bytes)
 }
 
-/// The place and the check number; where it is known the number, length and words by loops. Then
-/// the plan's lines of an accepted question.
+/// The place and the check number; where it is known the number, length and words, by loops and again
+/// by plan. Then the plan's lines of an accepted question.
 fn line_of(place: u64, vector: &Recorded) -> String {
     let mut line = format!("{place} {}", vector.check);
     if known(vector) {
         let words = vector.words.as_deref().unwrap_or_default();
-        line.push_str(&format!(" {} {}", vector.check, words.len()));
-        line.extend(words.iter().map(|word| format!(" {word}")));
+        let mut reply = format!(" {} {}", vector.check, words.len());
+        reply.extend(words.iter().map(|word| format!(" {word}")));
+        line.push_str(&reply.repeat(2));
     }
     line.push('\n');
     line.push_str(vector.plan.as_deref().unwrap_or_default());

@@ -2,15 +2,10 @@
 
 use std::process::ExitCode;
 
-use harness::compare::{compare, Reply, CHECK};
+use harness::compare::Comparison;
+use harness::held::run;
+use harness::open::CHECK;
 
 fn main() -> ExitCode {
-    compare(&CHECK, |input| {
-        let (number, length) = evaluator::check(&input.data, &input.question, 8192)?;
-        Ok(Reply {
-            number: u64::from(number),
-            length,
-            written: Vec::new(),
-        })
-    })
+    run(Comparison::new(&CHECK))
 }

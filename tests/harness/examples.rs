@@ -4,8 +4,10 @@
 use std::process::ExitCode;
 
 use evaluator::Unknown;
-use harness::compare::{hold, Reply, CHECK, LINES, LOOPS};
+use harness::compare::hold;
 use harness::generate::{Family, Input};
+use harness::lent::Unit;
+use harness::open::{Call, Reply, CHECK, LINES, LOOPS, PLAN};
 use harness::recorded::bytes_of_hex;
 
 fn main() -> ExitCode {
@@ -74,18 +76,26 @@ impl Example {
     fn compare(&self) -> Result<(), String> {
         let given_up = |unknown: Unknown| format!("evaluator: {}", unknown.0);
         self.compare_evaluator().map_err(given_up)??;
-        hold(&CHECK, self.input(), self.reply(Vec::new()), self.scratch)
-            .map_err(|what| format!("check: {what}"))?;
         let mut written = self.words.clone();
         written.resize(self.greatest, 0);
-        hold(&LOOPS, self.input(), self.reply(written), self.scratch)
-            .map_err(|what| format!("loops: {what}"))?;
         let lines = Reply {
             number: u64::from(self.number),
             length: self.plan.len() as u64,
             written: self.plan.clone().into_bytes(),
         };
-        hold(&LINES, self.input(), lines, self.scratch).map_err(|what| format!("lines: {what}"))
+        self.hold(&CHECK, &self.reply(Vec::new()))?;
+        self.hold(&LOOPS, &self.reply(written.clone()))?;
+        self.hold(&PLAN, &self.reply(written))?;
+        self.hold(&LINES, &lines)
+    }
+
+    fn hold<T: Unit>(&self, call: &Call<T>, reply: &Reply<T>) -> Result<(), String> {
+        let input = Input {
+            family: Family::WellTyped,
+            data: self.data.clone(),
+            question: self.question.clone(),
+        };
+        hold(call, &input, reply, self.scratch).map_err(|what| format!("{}: {what}", call.name))
     }
 
     fn compare_evaluator(&self) -> Result<Result<(), String>, Unknown> {
@@ -103,14 +113,6 @@ impl Example {
             ("G", [loops.greatest, plan.greatest] == [greatest; 2]),
             ("plan", lines == self.plan.as_bytes()),
         ]))
-    }
-
-    fn input(&self) -> Input {
-        Input {
-            family: Family::WellTyped,
-            data: self.data.clone(),
-            question: self.question.clone(),
-        }
     }
 
     fn reply(&self, written: Vec<i64>) -> Reply<i64> {

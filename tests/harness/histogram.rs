@@ -12,7 +12,7 @@ use harness::arguments;
 use harness::generate::{generate, Family};
 
 fn main() -> ExitCode {
-    let (seed, count) = arguments(20_000);
+    let [seed, count] = arguments("seed, count of inputs", [1, 20_000]);
     let start = Instant::now();
     let mut histogram = Histogram::default();
     for index in 0..count {

@@ -1,8 +1,36 @@
 //! What is lent to a call: buffers full of rubbish, so that a word that is read before it is
 //! written, or changed where it may not be, shows.
 
+use super::random::Random;
+
+/// "31: scratch under 8,192 words."
+pub const SCRATCH: usize = 8192;
+
 /// Rubbish behind each buffer that is not lent at all.
 const FENCE: usize = 16;
+
+/// Lengths of scratch and of a buffer of which so many units may be written: some that are just
+/// enough, some that are not. No buffer is lent where none is asked for.
+pub fn lengths(random: &mut Random, most: Option<usize>) -> Vec<(usize, usize)> {
+    let mut buffers = vec![0];
+    if let Some(most) = most {
+        let larger = most + random.between(2, 100);
+        buffers.extend([most.saturating_sub(1), most, most + 1, larger]);
+    }
+    buffers.dedup();
+    let mut enough = |buffer: usize| {
+        let more = random.between(3, 3000);
+        (SCRATCH + random.one_of(&[0, 0, 1, 2, more], 0), buffer)
+    };
+    let mut lengths: Vec<_> = buffers.iter().map(|buffer| enough(*buffer)).collect();
+    // Now and then too little scratch, with any of the buffers.
+    if random.chance(20) {
+        let fewer = random.below(SCRATCH);
+        let scratch = random.one_of(&[0, 1, SCRATCH - 2, SCRATCH - 1, fewer], 0);
+        lengths.push((scratch, random.one_of(&buffers, 0)));
+    }
+    lengths
+}
 
 /// What a buffer is made of.
 pub trait Unit: Copy + Default + PartialEq + std::fmt::Debug {
@@ -55,6 +83,13 @@ impl<T: Unit> Lent<T> {
 
     pub fn len(&self) -> usize {
         self.lent
+    }
+
+    /// The units in front that another buffer has, too.
+    pub fn shared_with<'a>(&'a self, other: &Lent<T>) -> &'a [T] {
+        let pairs = self.units.iter().zip(&other.units);
+        let shared = pairs.take_while(|(left, right)| left == right).count();
+        &self.units[..shared]
     }
 
     /// The first unit that is not what it should be: first `wanted`, then as many defaults (0) as

@@ -5,26 +5,31 @@ mod breaks;
 pub mod calls;
 mod chains;
 pub mod compare;
+pub mod desk_edges;
 mod doublings;
 pub mod generate;
-mod lent;
+pub mod held;
+pub mod lent;
 mod limits;
 pub mod listing;
 mod nodes;
+mod offers;
+pub mod open;
 mod random;
 pub mod recorded;
+pub mod tally;
 pub mod timing;
 mod typed;
+pub mod ways;
 
-/// The seed (1 by default) and the count of inputs, both from the command line.
-pub fn arguments(usual_count: u64) -> (u64, u64) {
+/// Two numbers from the command line; the usual ones where they are missing.
+pub fn arguments(says: &str, usual: [u64; 2]) -> [u64; 2] {
     let mut words = std::env::args().skip(1);
-    let mut argument = |default: u64| match words.next() {
-        None => default,
+    usual.map(|usual| match words.next() {
+        None => usual,
         Some(word) => word.parse().unwrap_or_else(|_| {
-            eprintln!("arguments: seed, count of inputs");
+            eprintln!("arguments: {says}");
             std::process::exit(2)
         }),
-    };
-    (argument(1), argument(usual_count))
+    })
 }

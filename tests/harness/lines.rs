@@ -2,16 +2,10 @@
 
 use std::process::ExitCode;
 
-use harness::compare::{compare, Reply, LINES};
+use harness::compare::Comparison;
+use harness::held::run;
+use harness::open::LINES;
 
 fn main() -> ExitCode {
-    compare(&LINES, |input| {
-        let (number, written) =
-            evaluator::plan_lines(&input.data, &input.question, 8192, usize::MAX)?;
-        Ok(Reply {
-            number: u64::from(number),
-            length: written.len() as u64,
-            written,
-        })
-    })
+    run(Comparison::new(&LINES))
 }

@@ -2,15 +2,10 @@
 
 use std::process::ExitCode;
 
-use harness::compare::{compare, reply_of_answer, LOOPS};
+use harness::compare::Comparison;
+use harness::held::run;
+use harness::open::LOOPS;
 
 fn main() -> ExitCode {
-    compare(&LOOPS, |input| {
-        reply_of_answer(evaluator::by_loops(
-            &input.data,
-            &input.question,
-            8192,
-            u64::MAX,
-        )?)
-    })
+    run(Comparison::new(&LOOPS))
 }

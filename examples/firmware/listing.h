@@ -1,0 +1,31 @@
+// Document 01's listing in bytes.
+#ifndef LISTING_H
+#define LISTING_H
+
+#include <cstdint>
+
+namespace listing {
+
+// Berths (1, 90), (2, 70) and bollards (1, 50), (1, 60), each a bag of two columns and two rows.
+constexpr std::uint8_t tables[] = {
+    20, 0, 20, 0, 2, 2, 2, 0, 1, 0, 0, 0, 90, 0, 0, 0, 2, 0, 0, 0, 70, 0, 0, 0, //
+    20, 0, 20, 0, 2, 2, 2, 0, 1, 0, 0, 0, 50, 0, 0, 0, 1, 0, 0, 0, 60, 0, 0, 0,
+};
+
+// The bag of records (b.0, sum of l.1 over l in table 1 where l.0 = b.0) for b in table 0.
+constexpr std::uint8_t question[] = {
+    84, 0, 14, 0, 2,                    // a bag
+    7,  0, 16, 0, 0, 0, 1, 0, 15, 0, 0, // b (name 0) in table 0
+    68, 0, 5,  0,                       // a record of
+    7,  0, 4,  0, 0, 2, 0, 3, 0,  0, 0, // b.0
+    53, 0, 14, 0, 4,                    // and a sum
+    7,  0, 16, 0, 1, 0, 1, 0, 15, 0, 1, // l (name 1) in table 1
+    26, 0, 18, 0, 22, 0, 9, 0,          // where equal
+    7,  0, 4,  0, 0, 2, 0, 3, 0,  1, 0, // l.0
+    7,  0, 4,  0, 0, 2, 0, 3, 0,  0, 0, // b.0
+    7,  0, 4,  0, 1, 2, 0, 3, 0,  1, 0, // of l.1
+};
+
+} // namespace listing
+
+#endif

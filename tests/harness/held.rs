@@ -1,0 +1,40 @@
+//! Runs over inputs made from a seed.
+
+use std::process::ExitCode;
+
+use super::arguments;
+use super::generate::{generate, Input};
+use super::tally::{Place, Tally};
+
+/// Something that is held on one input after another, and counts.
+pub trait Held {
+    fn input(&mut self, place: Place, input: &Input);
+
+    fn tally(&mut self) -> &mut Tally;
+}
+
+/// Inputs where none are asked for.
+const USUAL_COUNT: u64 = 200_000;
+
+/// As many inputs as the command line asks for. Fails where anything differs.
+pub fn run(mut held: impl Held) -> ExitCode {
+    let [seed, count] = arguments("seed, count of inputs", [1, USUAL_COUNT]);
+    inputs_of(seed, count, &mut [&mut held]);
+    held.tally().print();
+    if held.tally().differences == 0 {
+        ExitCode::SUCCESS
+    } else {
+        ExitCode::FAILURE
+    }
+}
+
+/// The first inputs of a seed, each held in every way.
+pub fn inputs_of(seed: u64, count: u64, ways: &mut [&mut dyn Held]) {
+    for index in 0..count {
+        let input = generate(seed, index);
+        for held in &mut *ways {
+            held.tally().inputs += 1;
+            held.input((seed, index), &input);
+        }
+    }
+}

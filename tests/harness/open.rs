@@ -1,0 +1,105 @@
+//! The open calls, each with how it is made and what the second evaluator expects of it.
+
+use evaluator::{Answer, Unknown};
+
+use super::calls::{self, Outcome};
+use super::lent::SCRATCH;
+
+/// Words of an answer that is compared: ordering longer ones may take the engine seconds.
+pub const MOST_WORDS: usize = 8_300;
+
+/// Refusals of every call; each other number that it may give is its own `too_short`.
+const NUMBERS: [u64; 13] = [0, 11, 12, 13, 21, 22, 23, 24, 25, 26, 27, 28, 31];
+
+/// What a call should do with scratch enough and the longest buffer.
+pub struct Reply<T> {
+    pub number: u64,
+    pub length: u64,
+    /// What the buffer then begins with, up to G or the last byte; what is behind it stays.
+    pub written: Vec<T>,
+}
+
+/// An open call.
+pub struct Call<T> {
+    pub name: &'static str,
+    /// The refusal of a buffer that is too short; none where the call takes no buffer.
+    pub too_short: Option<u64>,
+    /// Whether it is made even where the evaluator gives up: it ends soon, and takes no buffer.
+    pub always: bool,
+    /// The call over data, question, scratch and buffer.
+    pub made: fn(&[u8], &[u8], &mut [u64], &mut [T]) -> Outcome,
+    /// What the evaluator says of data and question.
+    pub expected: fn(&[u8], &[u8]) -> Result<Reply<T>, Unknown>,
+}
+
+impl<T> Call<T> {
+    /// The numbers that the call may give.
+    pub fn numbers(&self) -> Vec<u64> {
+        NUMBERS.into_iter().chain(self.too_short).collect()
+    }
+}
+
+pub const CHECK: Call<i64> = Call {
+    name: "check",
+    too_short: None,
+    always: true,
+    made: |data, question, scratch, _| calls::check(data, question, scratch),
+    expected: |data, question| {
+        let (number, length) = evaluator::check(data, question, SCRATCH)?;
+        Ok(Reply {
+            number: u64::from(number),
+            length,
+            written: Vec::new(),
+        })
+    },
+};
+
+pub const LOOPS: Call<i64> = Call {
+    name: "loops",
+    too_short: Some(32),
+    always: false,
+    made: calls::answer_by_loops,
+    expected: |data, question| {
+        reply_of_answer(evaluator::by_loops(data, question, SCRATCH, u64::MAX)?)
+    },
+};
+
+pub const PLAN: Call<i64> = Call {
+    name: "plan",
+    too_short: Some(32),
+    always: false,
+    made: calls::answer_by_plan,
+    expected: |data, question| {
+        reply_of_answer(evaluator::by_plan(data, question, SCRATCH, u64::MAX)?)
+    },
+};
+
+pub const LINES: Call<u8> = Call {
+    name: "lines",
+    too_short: Some(33),
+    always: false,
+    made: calls::plan_lines,
+    expected: |data, question| {
+        let (number, written) = evaluator::plan_lines(data, question, SCRATCH, usize::MAX)?;
+        Ok(Reply {
+            number: u64::from(number),
+            length: written.len() as u64,
+            written,
+        })
+    },
+};
+
+/// The reply of a call that answers in words.
+fn reply_of_answer(answer: Answer) -> Result<Reply<i64>, Unknown> {
+    if answer.greatest > MOST_WORDS as u64 {
+        return Err(Unknown("an answer of too many words"));
+    }
+    // "After an answer the words from its length up to G are 0".
+    let mut written = answer.words;
+    written.resize(answer.greatest as usize, 0);
+    Ok(Reply {
+        number: u64::from(answer.number),
+        length: answer.length,
+        written,
+    })
+}

@@ -1,0 +1,127 @@
+//! Both ways of answering against each other, each with rubbish of its own in all that is lent.
+
+use std::time::Instant;
+
+use super::calls::Outcome;
+use super::compare::cleared;
+use super::generate::Input;
+use super::held::Held;
+use super::lent::{lengths, Lent, SCRATCH};
+use super::offers::most_offers;
+use super::open::{Call, LOOPS, MOST_WORDS, PLAN};
+use super::random::Random;
+use super::tally::{Place, Tally};
+
+/// Rows offered for an answer that is compared.
+const MOST_OFFERS: u64 = 1_000_000;
+
+/// Of two salts that differ by it the rubbish differs in every word.
+const OTHER: u64 = 1 << 63;
+
+/// A way of answering, and what is lent to it.
+struct Way {
+    call: Call<i64>,
+    scratch: Lent<u64>,
+    answer: Lent<i64>,
+}
+
+pub struct Ways {
+    loops: Way,
+    plan: Way,
+    tally: Tally,
+}
+
+impl Held for Ways {
+    fn input(&mut self, place: Place, input: &Input) {
+        if most_offers(input) > MOST_OFFERS {
+            return self.tally.skip("too many rows may be offered");
+        }
+        if let Err(what) = self.lengths(place, input) {
+            self.tally.differs(place, input, &what);
+        }
+    }
+
+    fn tally(&mut self) -> &mut Tally {
+        &mut self.tally
+    }
+}
+
+impl Ways {
+    pub fn new() -> Ways {
+        Ways {
+            loops: Way::new(LOOPS),
+            plan: Way::new(PLAN),
+            tally: Tally::new("both", LOOPS.numbers()),
+        }
+    }
+
+    /// The longest buffer shows G, the others are around it.
+    fn lengths(&mut self, place: Place, input: &Input) -> Result<(), String> {
+        let mut random = Random::new(!place.0, place.1);
+        let written = self.compare(place, input, (SCRATCH, MOST_WORDS), random.next())?;
+        for lent in lengths(&mut random, Some(written)) {
+            self.compare(place, input, lent, random.next())?;
+        }
+        Ok(())
+    }
+
+    /// Answers both ways and compares; gives how many words were written.
+    fn compare(
+        &mut self,
+        place: Place,
+        input: &Input,
+        lent: (usize, usize),
+        salt: u64,
+    ) -> Result<usize, String> {
+        let start = Instant::now();
+        let by_loops = self.loops.answers(input, lent, salt);
+        let by_plan = self.plan.answers(input, lent, salt ^ OTHER);
+        self.tally.called(by_plan.number, start.elapsed(), place);
+        self.agree(by_loops, by_plan)
+            .map_err(|what| format!("scratch and answer of {lent:?}: {what}"))
+    }
+
+    /// What both wrote is the same up to G, and each has its own rubbish behind it.
+    fn agree(&self, by_loops: Outcome, by_plan: Outcome) -> Result<usize, String> {
+        if by_loops != by_plan {
+            return Err(format!("{by_loops:?} by loops, {by_plan:?} by plan"));
+        }
+        let Outcome { number, length } = by_loops;
+        let written = match number {
+            0 => self.loops.answer.shared_with(&self.plan.answer),
+            _ => &[],
+        };
+        for way in [&self.loops, &self.plan] {
+            let name = way.call.name;
+            if let Some(what) = way.answer.differs(written, 0) {
+                let alike = written.len();
+                return Err(format!(
+                    "after {number} {alike} words are alike; by {name} word {what}"
+                ));
+            }
+            cleared(&way.scratch, number).map_err(|what| format!("by {name} {what}"))?;
+        }
+        // "After an answer the words from its length up to G are 0".
+        match written.get(length as usize..) {
+            Some(rest) if rest.iter().all(|word| *word == 0) => Ok(written.len()),
+            _ => Err(format!("length {length}, and written is {written:?}")),
+        }
+    }
+}
+
+impl Way {
+    fn new(call: Call<i64>) -> Way {
+        Way {
+            call,
+            scratch: Lent::new(),
+            answer: Lent::new(),
+        }
+    }
+
+    /// Answers with so many words of scratch and of answer.
+    fn answers(&mut self, input: &Input, lent: (usize, usize), salt: u64) -> Outcome {
+        let scratch = self.scratch.lend(lent.0, salt);
+        let answer = self.answer.lend(lent.1, salt);
+        (self.call.made)(&input.data, &input.question, scratch, answer)
+    }
+}
