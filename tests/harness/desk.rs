@@ -31,7 +31,7 @@ const FRONTS: [&str; 13] = [
 ];
 
 fn main() -> ExitCode {
-    let (seed, count) = arguments(2_000);
+    let [seed, count] = arguments("seed, count of inputs", [1, 2_000]);
     let made = (0..count).map(|index| {
         let input = generate(seed, index);
         let bytes = [input.data, input.question].concat();
