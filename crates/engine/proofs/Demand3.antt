@@ -74,7 +74,8 @@ both-ways d l s s′ b b′ e f P L =
 
 -- ---- the plan
 -- The question's plan: with a constant for each place, no condition or head in it has a comprehension, a name or a table; and its
--- value under the operators' definitions is the value of the question as typed.
+-- value under the operators' definitions is the value of the question as typed. Conditions and heads are read as terms of the
+-- calculus for this, and the reading keeps their value (`reading-ok` in `plan/proofs/NoQuestion`).
 pub record Planned (d l : Bytes) : Type 0 where
   pub accepted : Accepted
   pub is : examine d l ≡ got accepted
