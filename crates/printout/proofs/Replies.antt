@@ -17,13 +17,13 @@ use Rattle.plan.specs.Planner.{planOf}
 use Rattle.plan.specs.Lines.{ascii, decimal, lines}
 use Rattle.outcome.specs.Written.{words}
 use Rattle.outcome.specs.Accepted.{Accepted, examine}
-use Rattle.outcome.specs.Outcome.{Outcome, Answer, scratchWords, settled, withScratch, written, answered, byLoops, printed, planLines, G}
+use Rattle.outcome.specs.Outcome.{Outcome, Answer, scratchWords, settled, withScratch, written, answered, looped, byLoops, printed, planLines, G}
 use Rattle.outcome.proofs.Checks.{numbers, examine-only}
 use Rattle.prepared.specs.Gives.{Gives}
 use Rattle.text.specs.Laying.{big, Lays}
 use Rattle.text.proofs.Laying.{lays-behind, lays-reach}
 use Rattle.text.proofs.Numbers.{decimal-most}
-use Rattle.printout.specs.Desk.{answerLine, refusalLine, answerOf, planAndAnswer, orRefusal, asked, desk, textBytes}
+use Rattle.printout.specs.Desk.{answerLine, refusalLine, planAndAnswer, orRefusal, asked, desk, textBytes}
 use Rattle.printout.specs.Split.{tablesEnd}
 use Rattle.printout.specs.Printed.{Prints, Counts}
 use Rattle.printout.proofs.Room.{plan-room}
@@ -68,18 +68,18 @@ pub record Answers (d l : Bytes) (n : ℕ) (b : List ℤ) : Type 0 where
   pub accepted : Accepted
   pub is : examine d l ≡ got accepted
   pub fits : leb (G accepted) 4096 ≡ true
-  pub size : n ≡ length (words (answerOf accepted))
-  pub front : take n b ≡ words (answerOf accepted)
+  pub size : n ≡ length (words (looped accepted))
+  pub front : take n b ≡ words (looped accepted)
   pub within : n ≤ length b
 
 -- the answer of an accepted question
 abbrev answerIn : Accepted → Answer ℤ
-answerIn a = record { size = length (words (answerOf a)); front = words (answerOf a) ++ replicate (G a - length (words (answerOf a))) (pos 0) }
+answerIn a = record { size = length (words (looped a)); front = words (looped a) ++ replicate (G a - length (words (looped a))) (pos 0) }
 
 module _ (d l : Bytes) (s : List ℕ) (b : List ℤ) {s′ : List ℕ} {b′ : List ℤ} {k n : ℕ} (room : scratchWords ≤ length s) (long : length b ≡ 4096) (X : Gives (byLoops d l s b) k n b′ s′) where
-  outcome : Gives (settled s b (andThen (examine d l) (written answerOf b))) k n b′ s′
+  outcome : Gives (settled s b (andThen (examine d l) (written looped b))) k n b′ s′
   unfolding byLoops answered
-  outcome = subst (λ (o : Outcome ℤ). Gives o k n b′ s′) (settled-is s b (andThen (examine d l) (written answerOf b)) room) X
+  outcome = subst (λ (o : Outcome ℤ). Gives o k n b′ s′) (settled-is s b (andThen (examine d l) (written looped b)) room) X
 
   -- by what the checks say, and by whether the answer fits
   by-checks : (Q : Type 0) →
@@ -90,9 +90,9 @@ module _ (d l : Bytes) (s : List ℕ) (b : List ℤ) {s′ : List ℕ} {b′ : L
     where
       fits : (a : Accepted) → examine d l ≡ got a → (t : Bool) → leb (G a) 4096 ≡ t → Gives (settled s b (require 32 t (got (answerIn a)))) k n b′ s′ → Q
       fits a e true q Y = answer a e q Y
-      fits a e false q Y = refusal 32 (Y .number) (omega arith, omega arith) (ap (λ (x : Result Accepted). orRefusal (andThen x planAndAnswer)) e ∙ ap (λ (t : Bool). orRefusal (require 32 t (got (lines (planOf (a .form)) ++ answerLine (words (answerOf a)))))) q)
+      fits a e false q Y = refusal 32 (Y .number) (omega arith, omega arith) (ap (λ (x : Result Accepted). orRefusal (andThen x planAndAnswer)) e ∙ ap (λ (t : Bool). orRefusal (require 32 t (got (lines (planOf (a .form)) ++ answerLine (words (looped a)))))) q)
 
-      go : (x : Result Accepted) → examine d l ≡ x → Gives (settled s b (andThen x (written answerOf b))) k n b′ s′ → Q
+      go : (x : Result Accepted) → examine d l ≡ x → Gives (settled s b (andThen x (written looped b))) k n b′ s′ → Q
       go (refused m) e Y = refusal m (Y .number) (checks-count d l m e) (ap (λ (x : Result Accepted). orRefusal (andThen x planAndAnswer)) e)
       go (got a) e Y = fits a e (leb (G a) 4096) refl (subst (λ (w : ℕ). Gives (settled s b (require 32 (leb (G a) w) (got (answerIn a)))) k n b′ s′) long Y)
 
@@ -106,7 +106,7 @@ module _ (d l : Bytes) (s : List ℕ) (b : List ℤ) {s′ : List ℕ} {b′ : L
   unfolding settled
   answers z = by-checks (Answers d l n b′)
       (λ m e c h. absurd (omega (arith, z, e, c .0)))
-      (λ a e q Y. let ws = words (answerOf a) in let rest = replicate (G a - length ws) (pos 0) in let p = Y .buffer ∙ append-assoc ws rest (drop (length (ws ++ rest)) b) in record {
+      (λ a e q Y. let ws = words (looped a) in let rest = replicate (G a - length ws) (pos 0) in let p = Y .buffer ∙ append-assoc ws rest (drop (length (ws ++ rest)) b) in record {
         accepted = a;
         is = e;
         fits = q;
@@ -130,7 +130,7 @@ module _ {d l : Bytes} {n : ℕ} {b : List ℤ} (A : Answers d l n b) where
   unfolding asked andThen require orRefusal planAndAnswer
   asked-is =
       ap (λ (x : Result Accepted). orRefusal (andThen x planAndAnswer)) (A .is)
-      ∙ ap (λ (t : Bool). orRefusal (require 32 t (got (plan ++ answerLine (words (answerOf (A .accepted))))))) (A .fits)
+      ∙ ap (λ (t : Bool). orRefusal (require 32 t (got (plan ++ answerLine (words (looped (A .accepted))))))) (A .fits)
       ∙ ap (λ (ws : List ℤ). plan ++ answerLine ws) (sym (A .front))
 
   module _ (s : List ℕ) (t : Bytes) {s′ : List ℕ} {t′ : Bytes} {k m : ℕ} (room : scratchWords ≤ length s) (h : textBytes ≤ length t) (Y : Gives (planLines d l s t) k m t′ s′) where

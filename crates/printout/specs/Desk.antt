@@ -5,15 +5,12 @@ use lib.Dec.{leb}
 use lib.ListN.{length, take, drop}
 use lib.IntN.{ℤ}
 use Rattle.calculus.specs.Lists.{pick}
-use Rattle.calculus.specs.Value.{Value}
-use Rattle.calculus.specs.Monoid.{canonical}
-use Rattle.calculus.specs.Meaning.{meaning}
 use Rattle.encoding.specs.Record.{Bytes, Result, refused, got, andThen, require}
 use Rattle.plan.specs.Planner.{planOf}
 use Rattle.plan.specs.Lines.{ascii, decimal, signedDecimal, lines}
 use Rattle.outcome.specs.Written.{words}
 use Rattle.outcome.specs.Accepted.{Accepted, examine}
-use Rattle.outcome.specs.Outcome.{G}
+use Rattle.outcome.specs.Outcome.{G, looped}
 use Rattle.printout.specs.Split.{tablesEnd}
 
 -- "answer its words": each behind a space, and byte 10 ends the line
@@ -27,12 +24,9 @@ answerLine l = ascii "answer" ++ (spaced l ++ ascii "\n")
 unfoldable pub refusalLine : ℕ → Bytes
 refusalLine n = ascii "refused " ++ (decimal n ++ ascii "\n")
 
-abbrev pub answerOf : Accepted → Value
-answerOf a = meaning canonical (a .tables) (a .question)
-
 -- "the plan and answer, its answer buffer being 4,096 words"
 unfoldable pub planAndAnswer : Accepted → Result Bytes
-planAndAnswer a = require 32 (leb (G a) 4096) (got (lines (planOf (a .form)) ++ answerLine (words (answerOf a))))
+planAndAnswer a = require 32 (leb (G a) 4096) (got (lines (planOf (a .form)) ++ answerLine (words (looped a))))
 
 -- "Else it prints "refused" and the number, or the plan and answer"
 unfoldable pub orRefusal : Result Bytes → Bytes
