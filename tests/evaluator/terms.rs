@@ -16,7 +16,7 @@ pub enum Monoid {
 }
 
 impl Monoid {
-    /// The monoid of a byte: "1 list, 2 bag, 3 set; 4 sum; 5 max; 6 some; 7 all".
+    /// The monoid of a byte: "1 list, 2 bag, 3 set .. 4 sum .. 5 max .. 6 some .. 7 all".
     pub fn of_byte(byte: u8) -> Option<Monoid> {
         match byte {
             1 => Some(Monoid::List),

@@ -153,8 +153,8 @@ fn rank(value: &Value) -> u8 {
     }
 }
 
-/// The monoid over the heads, in order. "list, bag, set (empty); sum (0); max (0, so max is the
-/// greatest of 0 and the heads); some (false); all (true)".
+/// The monoid over the heads, in order. "1 list, 2 bag, 3 set (empty); 4 sum (0); 5 max (0, so max
+/// is the greatest of 0 and the heads); 6 some (false); 7 all (true)".
 pub fn over(monoid: Monoid, heads: Vec<Value>, budget: &mut Budget) -> Result<Value, Stop> {
     match monoid {
         Monoid::List => Ok(Value::collection(heads)),
