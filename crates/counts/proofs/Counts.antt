@@ -13,7 +13,7 @@ use Rattle.calculus.specs.Syntax.{Monoid, of, sum, max, some, all, Bin, plus, m
 use Rattle.calculus.specs.Value.{Value, Values, vnil, vcons, num, truth, rec, coll, count, fromList, junk, fieldOf, binV, notV, rowsOf}
 use Rattle.calculus.specs.Monoid.{raw}
 use Rattle.calculus.specs.Meaning.{Env}
-use Rattle.calculus.proofs.Lists.{All, all-bind}
+use Rattle.calculus.proofs.Lists.{All, all-guard, all-bind}
 use Rattle.calculus.proofs.Folds.{raw-of}
 use Rattle.calculus.proofs.WellFormed.{Row, row-field}
 use Rattle.encoding.specs.Record.{Bytes}
@@ -125,11 +125,6 @@ rows-upd g {v} ρ s R x = go (eqb g x)
     go : (b : Bool) → Standing (elim b [ true ↦ v | false ↦ ρ x ])
     go true = s
     go false = R x
-
-all-guard : {A : Type 0} (P : A → Type 0) (b : Bool) (l : List A) → All P l → All P (guard b l)
-unfolding guard
-all-guard P true l h = h
-all-guard P false l h = tt
 
 tests : (a b : Bool) → a && b ≡ true → (a ≡ true) × (b ≡ true)
 tests a b h = and-eq-true-iff a b .0 h

@@ -53,7 +53,7 @@ abbrev mutual
   FittingF fnil = Unit {0}
   FittingF (fcons t ts) = Fitting t × FittingF ts
 
-scalar-fitting : (t : Form) → Scalar t → Fitting t
+pub scalar-fitting : (t : Form) → Scalar t → Fitting t
 scalar-fitting (num z) h = tt
 scalar-fitting (truth b) h = tt
 scalar-fitting (row g) h = tt

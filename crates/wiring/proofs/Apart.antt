@@ -7,7 +7,7 @@ use borrow.Author.Tests.{ltb-true, ltb-false}
 use lib.Dec.{ltb}
 use lib.ListN.{length, getD, List·getD-eq-default}
 use Rattle.calculus.specs.Lists.{bindL}
-use Rattle.calculus.proofs.Lists.{All, bind-append}
+use Rattle.calculus.proofs.Lists.{All, bind-append, all-behind}
 use Rattle.normal_form.specs.Form.{NormalForm, asForm, gens}
 use Rattle.normal_form.proofs.Numbered.{Numbered}
 use Rattle.form.specs.declared.Node.{Node}
@@ -26,7 +26,6 @@ use Rattle.links.proofs.Ranks.{numbers-apart, numbers-within}
 use Rattle.environment.specs.Env.{envAt}
 use Rattle.cursors.specs.Cursors.{totalsAt, cursorBy, cursorAt}
 use Rattle.tracking.specs.Wired.{Id, loopI, endI, ids, idAt, wordOf, Apart}
-use Rattle.wiring.proofs.Wires.{all-behind}
 
 -- the place of a loop, and of an end; none of the other
 unfoldable loopPlace : Id → List ℕ

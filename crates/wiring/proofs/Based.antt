@@ -29,6 +29,7 @@ use Rattle.machine.specs.Flat.{Path, start, loopP, inP, pastP, Valid}
 use Rattle.machine.specs.Text.{parts, among, width}
 use Rattle.links.specs.Spots.{Spots, end, compOf, loopsAt, gensAt, orUnit, inners, innersF, innersC, spotsOf}
 use Rattle.links.specs.Alike.{fuel}
+use Rattle.links.proofs.Joined.{comp-inners, comp-innersF, comp-innersC}
 use Rattle.places.proofs.Forms.{tree-is, head-node}
 use Rattle.places.proofs.Saying.{partsIn}
 use Rattle.places.proofs.Heads.{parts-end, head-parts}
@@ -39,7 +40,6 @@ use Rattle.tracking.specs.Places.{behindNest, spotsAt, backAt}
 use Rattle.tracking.specs.Standing.{Question}
 use Rattle.tracking.proofs.Along.{as-loop, as-end, as-inner, wired-at}
 use Rattle.wiring.specs.Heads.{Collected, headForm, Later, LaterOf, Based, basis}
-use Rattle.wiring.proofs.Wires.{comp-inners, comp-innersF, comp-innersC}
 use Rattle.wiring.proofs.Tops.{part-top, parts-top, top-range, tops-range}
 use Rattle.wiring.proofs.Parts.{among-append, found}
 use Rattle.wiring.proofs.Looping.{own-count}

@@ -23,6 +23,7 @@ use Rattle.form.proofs.ReadBack.{monoid-back, size-some}
 use Rattle.plan.specs.Plan.{PTerm}
 use Rattle.planner.specs.PlanIn.{monoidBy, termIn, headBy, headIn}
 use Rattle.planner.proofs.Lies.{Lies, LiesF, LiesC}
+use Rattle.planner.proofs.Decoded.{head-in}
 use Rattle.links.specs.Spots.{Spots, end, loop, inner, compOf, loopsAt, gensAt, orUnit, inners, innersF, innersC, spotsOf}
 use Rattle.links.specs.Alike.{fuel}
 use Rattle.links.proofs.Joined.{comp-own}
@@ -124,16 +125,11 @@ module _ (s : List ℕ) (T : Tables) (few : (k : ℕ) → length (rowsOf T k) �
       (takes-gens q (c + 1) p (L .1 .0) (takes-innersC q (c + 1) (inners h (c + 1 + sizeC q) (end c)) ∙ takes-inners h (c + 1 + sizeC q) (end c)))
 
   -- ---- the head's term, whatever fuel is left behind the clauses
-  head-step : {x : Clause} (f i : ℕ) → clauseOf (nodeAt s i) ≡ x → 0 < f → headIn f s i ≡ headBy (λ j. termIn (pred f) s j) (λ j. headIn (pred f) s j) i x
-  unfolding headIn
-  head-step zero i e p = absurd (omega arith)
-  head-step (suc f) i e p = ap (headBy (λ j. termIn f s j) (λ j. headIn f s j) i) e
-
   head-term : (q : Clauses) (i f e : ℕ) (x : PTerm) → LiesC s i q → e ≡ i + sizeC q → clauseOf (nodeAt s e) ≡ Cl.Head → e < places → left i + 1 < f → ((g : ℕ) → left e < g → termIn g s e ≡ x) → headIn f s i ≡ x
   unfolding size
-  head-term done i f e x h k c l p w = subst (λ j. headIn f s j ≡ x) (omega (arith, k)) (head-step f e c (omega arith) ∙ w (pred f) (omega arith))
-  head-term (gen g t q) i f e x h k c l p w = head-step f i (ap clauseOf (h .0)) (omega arith) ∙ head-term q (i + 1) (pred f) e x (h .1 .1) (omega arith) c l (omega arith) w
-  head-term (cond t q) i f e x h k c l p w = head-step f i (ap clauseOf (h .0)) (omega arith) ∙ head-term q (i + 1 + size t) (pred f) e x (h .1 .1) (omega arith) c l (omega arith) w
+  head-term done i f e x h k c l p w = subst (λ j. headIn f s j ≡ x) (omega (arith, k)) (head-in s f e c (omega arith) ∙ w (pred f) (omega arith))
+  head-term (gen g t q) i f e x h k c l p w = head-in s f i (ap clauseOf (h .0)) (omega arith) ∙ head-term q (i + 1) (pred f) e x (h .1 .1) (omega arith) c l (omega arith) w
+  head-term (cond t q) i f e x h k c l p w = head-in s f i (ap clauseOf (h .0)) (omega arith) ∙ head-term q (i + 1 + size t) (pred f) e x (h .1 .1) (omega arith) c l (omega arith) w
 
   -- ---- what they come to
   module _ (m : Monoid) (q : Clauses) (h : Form) (c : ℕ) (L : Lies s c (comp m q h)) (n : c + size (comp m q h) ≤ places) where

@@ -19,30 +19,19 @@ use Rattle.planner.proofs.Lies.{Lies, LiesF, LiesC}
 use Rattle.planner.proofs.Marked.{seatsOf, nextC, Marked, MarkedF, MarkedC, nextC-up, seats-most, behind-is}
 use Rattle.planner.proofs.Marked as M
 use Rattle.machine.specs.Text.{collects}
-use Rattle.machine.proofs.Fitting.{Scalar, ScalarC, Either, Fitting, FittingF}
+use Rattle.machine.proofs.Fitting.{Scalar, ScalarC, Either, Fitting, FittingF, scalar-fitting}
 use Rattle.links.specs.Spots.{Spots, end, compOf, gensAt, orUnit, inners, innersF, innersC, spotsOf}
-use Rattle.links.proofs.Joined.{comp-own}
+use Rattle.links.proofs.Joined.{comp-inners, comp-innersF, comp-innersC, comp-own}
 use Rattle.tracking.specs.Wired.{Id, endI}
 use Rattle.wiring.specs.Fillers.{NamesRow, InnerFilled, Fills}
-use Rattle.wiring.proofs.Wires.{comp-inners, comp-innersF, comp-innersC}
 use Rattle.wiring.proofs.Steps.{Steps, StepsF, StepsC}
 use Rattle.wiring.proofs.Tops.{TopAt, TopAtF, TopAtC, top-range, clause-range}
 use Rattle.wiring.proofs.Bodies.{Body, holds, tops, Filled, behind-grows, end-filled, inner-filled, past-filled}
 use Rattle.wiring.proofs.Looping.{loopIds, own-length, own-named, own-rise, loops-filled}
 
-scalar-fits : (t : Form) → Scalar t → Fitting t
-scalar-fits (num z) h = tt
-scalar-fits (truth b) h = tt
-scalar-fits (row g) h = absurd h
-scalar-fits (cell i g) h = tt
-scalar-fits (rec ts) h = absurd h
-scalar-fits (bin o s t) h = h
-scalar-fits (negate t) h = h
-scalar-fits (comp m q u) h = (h .1, subst (λ b. Either b (Fitting u) (Scalar u)) (sym (h .0)) (h .2))
-
 pub head-fits : (b : Bool) (t : Form) → Either b (Fitting t) (Scalar t) → Fitting t
 head-fits true t h = h
-head-fits false t h = scalar-fits t h
+head-fits false t h = scalar-fitting t h
 
 -- a comprehension planned at width k
 module _ (s : List ℕ) (m : Monoid) (q : Clauses) (u : Form) (c k j : ℕ) (d : ℕ → ℕ) (S : ℕ → Bool) (L : Lies s c (comp m q u)) (n : c + size (comp m q u) ≤ places) (z : Steps s c (comp m q u)) (w : Marked s c (comp m q u) d k)
@@ -108,9 +97,9 @@ module _ (s : List ℕ) where
     term-fills (cell x v) i k j B S F p L n y w o f g b e H K = K F H
     term-fills (rec ts) i k j B S F p L n y w o f g b e H K = terms-fills ts (i + 1) k j B S F p (L .1) (omega (arith, n)) y w o f g b e H K
     term-fills (bin x t u) i k j B S F p L n y w o f g b e H K =
-        term-fills t (i + 1) k j B S F (inners u (i + 1 + size t) p) (L .1 .0) (omega (arith, n)) (y .0) (w .0) (o .0) (scalar-fits t (f .0)) g (λ x h. b x (inl h)) (comp-inners u (i + 1 + size t) p ∙ e) H
-        (λ G J. term-fills u (i + 1 + size t) (P.next t k) (j + gens t) B S G p (L .1 .1) (omega (arith, n)) (y .1) (w .1) (o .1) (scalar-fits u (f .1)) g (λ x h. b x (inr h)) e J K)
-    term-fills (negate t) i k j B S F p L n y w o f g b e H K = term-fills t (i + 1) k j B S F p (L .1) (omega (arith, n)) y w o (scalar-fits t f) g b e H K
+        term-fills t (i + 1) k j B S F (inners u (i + 1 + size t) p) (L .1 .0) (omega (arith, n)) (y .0) (w .0) (o .0) (scalar-fitting t (f .0)) g (λ x h. b x (inl h)) (comp-inners u (i + 1 + size t) p ∙ e) H
+        (λ G J. term-fills u (i + 1 + size t) (P.next t k) (j + gens t) B S G p (L .1 .1) (omega (arith, n)) (y .1) (w .1) (o .1) (scalar-fitting u (f .1)) g (λ x h. b x (inr h)) e J K)
+    term-fills (negate t) i k j B S F p L n y w o f g b e H K = term-fills t (i + 1) k j B S F p (L .1) (omega (arith, n)) y w o (scalar-fitting t f) g b e H K
     term-fills (comp m q u) i k j B S F p L n y w o f g b e H K =
         let low : (x : ℕ) → B .seats x ≤ k = λ x. omega (arith, B .low x, H .wide) in
         let C : Body s = body s m q u i k j (B .seats) S L n y w (o .0) (o .1) f low in
@@ -136,7 +125,7 @@ module _ (s : List ℕ) where
     clauses-fills done i k j B S F p L n y w o f g b e H K = K F H
     clauses-fills (gen x v r) i k j B S F p L n y w o f g b e H K = clauses-fills r (i + 1) k (suc j) B (upd x true S) F p (L .1 .1) (omega (arith, n)) y w (o .1) f g b e H K
     clauses-fills (cond t r) i k j B S F p L n y w o f g b e H K =
-        term-fills t (i + 1) k j B S F (innersC r (i + 1 + size t) p) (L .1 .0) (omega (arith, n)) (y .0) (w .1 .0) (o .0) (scalar-fits t (f .0)) (λ x h. g x (behind-grows r S x h)) (λ x h. b x (inl h)) (comp-innersC r (i + 1 + size t) p ∙ e) H
+        term-fills t (i + 1) k j B S F (innersC r (i + 1 + size t) p) (L .1 .0) (omega (arith, n)) (y .0) (w .1 .0) (o .0) (scalar-fitting t (f .0)) (λ x h. g x (behind-grows r S x h)) (λ x h. b x (inl h)) (comp-innersC r (i + 1 + size t) p ∙ e) H
         (λ G J. clauses-fills r (i + 1 + size t) (P.next t k) (j + gens t) B S G p (L .1 .1) (omega (arith, n)) (y .1) (w .1 .1) (o .1) (f .1) g (λ x h. b x (inr h)) e J K)
 
 -- The operators of a question's normal form, from a row of no places on.

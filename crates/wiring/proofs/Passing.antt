@@ -7,7 +7,7 @@ use Prim.Native.Nat.{ℕ, _+_, _<_}
 use lib.ListN.{length}
 use Rattle.calculus.specs.Lists.{pick}
 use Rattle.calculus.specs.Syntax.{Monoid}
-use Rattle.calculus.proofs.Lists.{All}
+use Rattle.calculus.proofs.Lists.{All, all-front}
 use Rattle.encoding.specs.Record.{Bytes}
 use Rattle.plan.specs.Plan.{PTerm, place}
 use Rattle.plan.specs.Operators.{val}
@@ -28,7 +28,6 @@ use Rattle.tracking.specs.Places.{inside, spotsAt}
 use Rattle.tracking.specs.Standing.{Question}
 use Rattle.tracking.proofs.Along.{number-low, end-id, comp-node}
 use Rattle.wiring.specs.Passed.{passes, Has}
-use Rattle.wiring.proofs.Wires.{all-front}
 use Rattle.wiring.proofs.Collections.{shape-collects}
 
 begins-on : (ts us vs : List PTerm) → Begins ts us → Begins us vs → Begins ts vs

@@ -3,7 +3,7 @@ use native.Mathlib.Omega.{arith}
 use mathlib.Core.Path.{_≡_, refl, _∙_}
 use mathlib.Core.List.{List, [], _∷_, _++_}
 use Prim.Native.Nat.{ℕ, _+_, _≤_, _<_}
-use Rattle.calculus.proofs.Lists.{All}
+use Rattle.calculus.proofs.Lists.{All, all-front, all-behind}
 use Rattle.normal_form.specs.Form.{Form, Forms, Clauses, NormalForm, num, truth, row, cell, rec, bin, negate, comp, fnil, fcons, done, gen, cond}
 use Rattle.form.specs.Packing.{places}
 use Rattle.form.specs.Flat.{size, sizeC}
@@ -11,6 +11,7 @@ use Rattle.machine.specs.Program.{Program, programOf}
 use Rattle.machine.specs.Program as Pr
 use Rattle.links.specs.Spots.{Spots, end, loop, inner, loopCode, endCode, compOf, loopsAt, gensAt, orUnit, inners, innersF, innersC, spotsOf, loopsIn, endsIn}
 use Rattle.links.specs.Links.{Linked}
+use Rattle.links.proofs.Joined.{comp-loops, comp-inners, comp-innersC}
 use Rattle.links.proofs.Planned.{Planned}
 use Rattle.links.specs.Alike.{Alike}
 use Rattle.tracking.specs.Wired.{Starts, Looped, Wired}
@@ -28,14 +29,6 @@ wired-of s b (Pr.inner i q) (loop j p) l a h w = absurd a
 wired-of s b (Pr.inner i q) (inner z p) l a h w = (l .0, (h .0, (wired-of s (endCode (compOf z)) i z (l .1 .0) (a .0) (h .1 .0) (w .0), wired-of s b q p (l .1 .1) (a .1) (h .1 .1) (w .1))))
 
 -- ---- within the words
-pub all-front : {A : Type 0} (P : A → Type 0) (l k : List A) → All P (l ++ k) → All P l
-all-front P [] k h = tt
-all-front P (x ∷ l) k h = (h .0, all-front P l k (h .1))
-
-pub all-behind : {A : Type 0} (P : A → Type 0) (l k : List A) → All P (l ++ k) → All P k
-all-behind P [] k h = h
-all-behind P (x ∷ l) k h = all-behind P l k (h .1)
-
 pub within-of : (y : Spots) → All (λ i. i < places) (loopsIn y) → All (λ c. c < places) (endsIn y) → Within y
 unfolding loopsIn endsIn
 within-of (end c) l e = e .0
@@ -48,38 +41,10 @@ unfolding loopsAt
 shaped-loops [] p h = h
 shaped-loops (i ∷ l) p h = shaped-loops l p h
 
-comp-loops : (l : List ℕ) (p : Spots) → compOf (loopsAt l p) ≡ compOf p
-unfolding loopsAt compOf
-comp-loops [] p = refl
-comp-loops (i ∷ l) p = comp-loops l p
-
 pub starts-own : (c : ℕ) (l : List ℕ) (p : Spots) → Starts (loopsAt (orUnit c l) p)
 unfolding loopsAt orUnit
 starts-own c [] p = tt
 starts-own c (i ∷ l) p = tt
-
--- what stands before or behind inner comprehensions
-mutual
-  unfolding inners compOf
-
-  pub comp-inners : (t : Form) (i : ℕ) (p : Spots) → compOf (inners t i p) ≡ compOf p
-  comp-inners (num z) i p = refl
-  comp-inners (truth b) i p = refl
-  comp-inners (row g) i p = refl
-  comp-inners (cell j g) i p = refl
-  comp-inners (rec ts) i p = comp-innersF ts (i + 1) p
-  comp-inners (bin o t u) i p = comp-inners t (i + 1) (inners u (i + 1 + size t) p) ∙ comp-inners u (i + 1 + size t) p
-  comp-inners (negate t) i p = comp-inners t (i + 1) p
-  comp-inners (comp m q h) i p = refl
-
-  pub comp-innersF : (ts : Forms) (i : ℕ) (p : Spots) → compOf (innersF ts i p) ≡ compOf p
-  comp-innersF fnil i p = refl
-  comp-innersF (fcons t ts) i p = comp-inners t i (innersF ts (i + size t) p) ∙ comp-innersF ts (i + size t) p
-
-  pub comp-innersC : (q : Clauses) (i : ℕ) (p : Spots) → compOf (innersC q i p) ≡ compOf p
-  comp-innersC done i p = refl
-  comp-innersC (gen g k q) i p = comp-innersC q (i + 1) p
-  comp-innersC (cond t q) i p = comp-inners t (i + 1) (innersC q (i + 1 + size t) p) ∙ comp-innersC q (i + 1 + size t) p
 
 -- no loop in front, and a shape
 abbrev Behind : Spots → Type 0
