@@ -8,7 +8,7 @@ use native.Mathlib.Omega.{arith}
 use lib.Dec.{eqb}
 use lib.ListN.{length, length-append}
 use lib.IntN.{ℤ, pos}
-use Rattle.calculus.specs.Lists.{guard, upd}
+use Rattle.calculus.specs.Lists.{upd}
 use Rattle.calculus.specs.Syntax.{Monoid, of, sum, max, some, all, Bin, plus, minus, times, equal, less, and, or}
 use Rattle.calculus.specs.Value.{Value, Values, vnil, vcons, num, truth, rec, coll, count, fromList, junk, fieldOf, binV, notV, rowsOf}
 use Rattle.calculus.specs.Monoid.{raw}

@@ -20,7 +20,7 @@ use Rattle.lines.specs.Printed.{Prints}
 use Rattle.lines.specs.Printed as Pr
 use Rattle.lines.specs.declared.Printed.{Printed}
 use Rattle.front.specs.Loaded.{Apart}
-use Rattle.front.specs.Prepares.{Accepts, PreparedBy, Prepares}
+use Rattle.front.specs.Prepares.{Accepts, Prepares}
 use Rattle.front.specs.declared.Checked.the-variants as Checked
 use Rattle.engine.specs.Replies.{BegunBy, Begins, Replies}
 use Rattle.engine.specs.declared.Begun.{Begun}

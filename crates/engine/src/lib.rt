@@ -1,6 +1,6 @@
 // The open calls.
 ghost use mathlib.Core.List.{[]};
-ghost use Prim.Native.Nat.{ℕ, _≤_};
+ghost use Prim.Native.Nat.{_≤_};
 ghost use lib.ListN.{length};
 ghost use Rattle.outcome.specs.Outcome.{byLoops, byPlan, checked, planLines};
 ghost use Rattle.prepared.specs.Gives.{Gives};

@@ -4,7 +4,7 @@ use mathlib.Core.List.{List}
 use Prim.Native.Nat.{ℕ, zero, suc, _+_, min}
 use lib.Dec.{leb}
 use Rattle.calculus.specs.Lists.{pick}
-use Rattle.normal_form.specs.Form.{Form, Forms, Clauses, fnil, fcons}
+use Rattle.normal_form.specs.Form.{fnil, fcons}
 use Rattle.form.specs.Packing.{places, wordAt, belowOf, next, nodeOf, nodeAt}
 use Rattle.form.specs.Tree.{clauseOf, formBy, clausesBy, headBy, formTree, formsTree, clausesTree, headTree}
 

@@ -1,7 +1,7 @@
 -- The joins and outers of the way that have offered a row still have, whatever a move writes.
 use native.Mathlib.Omega.{arith}
 use mathlib.Core.Path.{_≡_, sym, subst}
-use Prim.Native.Nat.{ℕ, suc, _≤_, _<_}
+use Prim.Native.Nat.{ℕ, _≤_, _<_}
 use Rattle.calculus.proofs.Lists.{upd-hit}
 use Rattle.plan.specs.Plan.{PTerm, Source}
 use Rattle.machine.specs.Program.{Program}

@@ -5,7 +5,7 @@ use native.Mathlib.Numerals.{one-add}
 use mathlib.Core.Path.{_≡_, refl, sym, ap, subst, _∙_}
 use mathlib.Core.List.{List, [], _∷_}
 use mathlib.Core.Bool.{true}
-use Prim.Native.Nat.{ℕ, zero, suc, pred, _+_, _*_, _^_, _≤_, _<_}
+use Prim.Native.Nat.{ℕ, pred, _+_, _*_, _^_, _≤_, _<_}
 use lib.ListN.{length}
 use Rattle.calculus.specs.Syntax.{Monoid, of, sum, max, some, all}
 use Rattle.calculus.specs.Value.{Tables, rowsOf}
@@ -21,7 +21,7 @@ use Rattle.form.specs.Tree.{clauseOf, formTree, clausesTree, left}
 use Rattle.form.specs.Flat.{size, sizeF, sizeC}
 use Rattle.form.proofs.ReadBack.{monoid-back, size-some}
 use Rattle.plan.specs.Plan.{PTerm}
-use Rattle.planner.specs.PlanIn.{monoidBy, termIn, headBy, headIn}
+use Rattle.planner.specs.PlanIn.{monoidBy, termIn, headIn}
 use Rattle.planner.proofs.Lies.{Lies, LiesF, LiesC}
 use Rattle.planner.proofs.Decoded.{head-in}
 use Rattle.links.specs.Spots.{Spots, end, loop, inner, compOf, loopsAt, gensAt, orUnit, inners, innersF, innersC, spotsOf}

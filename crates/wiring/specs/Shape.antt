@@ -1,6 +1,6 @@
 -- Every comprehension begins with a loop; those inside it stand behind its loops, and none of them is the outermost.
 use mathlib.Core.Path.{_≡_}
-use Prim.Native.Nat.{ℕ, _<_}
+use Prim.Native.Nat.{_<_}
 use Rattle.form.specs.Packing.{places}
 use Rattle.links.specs.Spots.{Spots, end, loop, inner, compOf}
 use Rattle.tracking.specs.Wired.{Starts, Looped}

@@ -1,7 +1,7 @@
 -- `magnitude` meets its contract. Assumes nothing.
 use mathlib.Core.Path.{_≡_, sym, subst, ap, _∙_}
 use mathlib.Core.Bool.{Bool, not}
-use Prim.Native.Nat.{ℕ, zero-le, suc, _+_}
+use Prim.Native.Nat.{ℕ, zero-le, _+_}
 use native.Mathlib.Omega.{arith}
 use native.Mathlib.Nat.{not-suc-le-zero}
 use lib.IntN.{ℤ, pos, negsuc, natAbs}
