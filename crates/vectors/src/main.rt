@@ -73,12 +73,12 @@ fn print_front(text: &[u8], count: usize)
     io::write_all(1, &text[0..count]);
 }
 
-// The plan's lines; none where it is refused.
+// The plan's lines, which 32,768 bytes hold whatever the question; none where it is refused.
 fn plan(tables: &[u8], question: &[u8], scratch: &mut [u64]) {
-    let mut text = [0u8; 16384];
+    let mut text = [0u8; 32768];
     let reply = engine::dislogha_plan_lines(tables, question, scratch, &mut text);
     let count = reply.length as usize;
-    if 16384 < count {
+    if 32768 < count {
         return;
     }
     print_front(&text, count);
