@@ -1,4 +1,4 @@
--- What counting the rows of a pass asks and gives.
+-- What counting the rows that a pass offers asks and gives.
 use mathlib.Core.Path.{_≡_}
 use mathlib.Core.List.{List}
 use Prim.Native.Nat.{ℕ, _≤_, min}
@@ -13,15 +13,16 @@ use Rattle.tracking.specs.Standing.{Question, Kept, Waits}
 use Rattle.tracking.specs.Reading.{Readable}
 use Rattle.offers.specs.Offered.{longest, rowsOf}
 
--- r rows are offered to a state, and the question's words stand
+-- r: how many rows are offered from the state S on, or the most that a length says; the question's words stand as before
 pub record Counted {d : Bytes} (Q : Question d) (S : State) (s : List ℕ) (r : ℕ) : Type 0 where
   pub kept : Kept (Q .base) s
   pub rows : r ≡ min (due (tablesIn d) S) longest
 
+-- counting on from where a row is wanted, with limit 0: nothing is written
 pub record Counts (d : Bytes) (s : List ℕ) (o : List ℤ) (code : ℕ) (s′ : List ℕ) (r : ℕ) : Type 0 where
   pub is : (Q : Question d) → Readable Q → (S : State) → Waits Q s o 0 code S → Counted Q S s′ r
 
--- with whatever question stands in scratch; words from 2,048 on stay
+-- counting all rows of whatever accepted question stands in scratch; words from 2,048 on stay
 pub record Tells (d : Bytes) (s s′ : List ℕ) (r : ℕ) : Type 0 where
   pub is : (a : Accepted) → Prepared d a s → r ≡ rowsOf a
   pub long : length s′ ≡ length s

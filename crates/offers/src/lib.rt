@@ -1,4 +1,4 @@
-// What the tests ask beside the open calls: how many rows a pass offers.
+// A call for the tests, beside the open ones and in an archive of its own: how many rows a pass offers.
 ghost use mathlib.Core.List.{[]};
 ghost use Rattle.executor.specs.Contract.{Waiting};
 ghost use Rattle.prepared.specs.Answering.{Asked};
@@ -14,7 +14,7 @@ use links::link;
 use passes::start;
 use planner::make_plan;
 
-// The rows still to be offered, one at a time and with nothing written. Answers how many they are, 2^64 - 1 at most.
+// Offers the rows that are left, one at a time and with nothing written. Answers how many they are, 2^64 - 1 at most.
 fn count(s: &mut [u64], data: &[u8], out: &mut [i64], code: usize) -> u64
     requires { ⌜ Waiting (now «data») (now s) (now out) 0 code ⌝ }
     ensures { λ r. ⌜ Counts (now («data» .entry)) (now (s .entry)) (now (out .entry)) code (now (s .exit)) r ⌝ }
@@ -31,7 +31,8 @@ fn count(s: &mut [u64], data: &[u8], out: &mut [i64], code: usize) -> u64
     n
 }
 
-// The rows that a pass offers over the accepted question in scratch.
+// How many rows a pass offers over the accepted question in scratch: it is planned, linked and run. With limit 0 nothing is
+// written, so any buffer does.
 fn rows_of(s: &mut [u64], data: &[u8]) -> u64
     requires { ⌜ Asked (now «data») (now s) ⌝ }
     ensures { λ r. ⌜ Tells (now («data» .entry)) (now (s .entry)) (now (s .exit)) r ⌝ }

@@ -1,4 +1,4 @@
--- "The desk program reads standard input": what it prints for the bytes that it read.
+-- "The desk program reads standard input": the text that it prints, as a function of the bytes that it read.
 use mathlib.Core.List.{List, [], _∷_, _++_}
 use Prim.Native.Nat.{ℕ, _+_}
 use lib.Dec.{leb}
@@ -21,10 +21,11 @@ spaced (z ∷ l) = ascii " " ++ (signedDecimal z ++ spaced l)
 unfoldable pub answerLine : List ℤ → Bytes
 answerLine l = ascii "answer" ++ (spaced l ++ ascii "\n")
 
+-- "refused" and the number
 unfoldable pub refusalLine : ℕ → Bytes
 refusalLine n = ascii "refused " ++ (decimal n ++ ascii "\n")
 
--- "the plan and answer, its answer buffer being 4,096 words"
+-- "the plan and answer, its answer buffer being 4,096 words": a longer answer is refusal 32
 unfoldable pub planAndAnswer : Accepted → Result Bytes
 planAndAnswer a = require 32 (leb (G a) 4096) (got (lines (planOf (a .form)) ++ answerLine (words (looped a))))
 
@@ -33,10 +34,11 @@ unfoldable pub orRefusal : Result Bytes → Bytes
 orRefusal (refused n) = refusalLine n
 orRefusal (got t) = t
 
+-- the reply to a question l over the tables d
 unfoldable pub asked : Bytes → Bytes → Bytes
 asked d l = orRefusal (andThen (examine d l) planAndAnswer)
 
--- "over 65,536 bytes it prints "too long""
+-- "over 65,536 bytes it prints "too long"", else the reply to the question behind the table records
 unfoldable pub desk : Bytes → Bytes
 desk b = pick (leb (length b) 65536) (asked (take (tablesEnd b) b) (drop (tablesEnd b) b)) (ascii "too long\n")
 

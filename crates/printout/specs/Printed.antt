@@ -5,7 +5,7 @@ use Prim.Native.Nat.{ℕ, _≤_}
 use lib.ListN.{length, take, drop}
 use Rattle.encoding.specs.Record.{Bytes}
 
--- the buffer was o and is o′, r is the text's length; bytes behind the text do not change
+-- t is printed: the buffer was o and is o′, t at its front and the bytes behind unchanged; r is the length of t
 pub record Prints (t o o′ : Bytes) (r : ℕ) : Type 0 where
   pub size : r ≡ length t
   pub text : o′ ≡ t ++ drop (length t) o

@@ -1,4 +1,4 @@
-// What the desk program prints, laid into a lent buffer: no input and no output here.
+// What the desk program prints, laid into a lent buffer. Reading and printing are the desk's.
 ghost use mathlib.Core.Path.{_≡_};
 ghost use Prim.Native.Nat.{_+_, _*_, _≤_};
 ghost use lib.ListN.{length};
@@ -36,7 +36,7 @@ fn tables_end(input: &[u8]) -> usize
     p
 }
 
-// Each word behind a space.
+// Each word behind a space, from place p on. Answers the place behind them, as the two below do.
 fn spaced_words(text: &mut [u8], limit: usize, p: usize, words: &[i64]) -> usize
     ensures { λ r. ⌜ Lays limit (spaced (now (words .entry))) (now (text .entry)) p (now (text .exit)) r ⌝ }
     ensures { λ _. ⌜ length (spaced (now (words .entry))) ≤ 21 * length (now (words .entry)) ⌝ }
@@ -51,6 +51,7 @@ fn spaced_words(text: &mut [u8], limit: usize, p: usize, words: &[i64]) -> usize
     q
 }
 
+// "answer", the words and byte 10.
 fn answer_line(text: &mut [u8], limit: usize, p: usize, words: &[i64]) -> usize
     ensures { λ r. ⌜ Lays limit (answerLine (now (words .entry))) (now (text .entry)) p (now (text .exit)) r ⌝ }
     ensures { λ _. ⌜ length (answerLine (now (words .entry))) ≤ 7 + 21 * length (now (words .entry)) ⌝ }
@@ -60,6 +61,7 @@ fn answer_line(text: &mut [u8], limit: usize, p: usize, words: &[i64]) -> usize
     put(text, limit, r, b'\n')
 }
 
+// "refused", the number and byte 10, at the buffer's front.
 fn refusal_line(text: &mut [u8], limit: usize, number: u64) -> usize
     ensures { λ r. ⌜ Lays limit (refusalLine number) (now (text .entry)) 0 (now (text .exit)) r ⌝ }
 {
@@ -75,7 +77,7 @@ fn answer(tables: &[u8], question: &[u8], scratch: &mut [u64], words: &mut [i64]
     dislogha_answer_by_loops(tables, question, scratch, words)
 }
 
-// "refused" and the number, or the plan and answer.
+// "refused" and the number, or the plan and answer. Answers the text's length.
 fn reply(
     tables: &[u8],
     question: &[u8],
@@ -96,7 +98,7 @@ fn reply(
     answer_line(text, limit, plan.length as usize, &words[..n])
 }
 
-// What is printed for the input: its length, and the text at the buffer's front.
+// What is printed for the input, at the buffer's front. Answers its length.
 pub fn printout(input: &[u8], scratch: &mut [u64], words: &mut [i64], text: &mut [u8]) -> usize
     requires { ⌜ (8192 ≤ length (now scratch)) × (length (now words) ≡ 4096) × (textBytes ≤ length (now text)) ⌝ }
     ensures { λ r. ⌜ Prints (desk (now (input .entry))) (now (text .entry)) (now (text .exit)) r ⌝ }
