@@ -16,6 +16,6 @@ unfoldable pub tablesFrom : ℕ → Bytes → ℕ
 tablesFrom zero l = 0
 tablesFrom (suc f) l = andOn (headerOf l) (λ n. tablesFrom f (drop (4 + n) l))
 
--- a record has four bytes or more: there are fewer records than bytes
+-- a record has four bytes or more: there are no more records than bytes
 unfoldable pub tablesEnd : Bytes → ℕ
 tablesEnd b = tablesFrom (length b) b
