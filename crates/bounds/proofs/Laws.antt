@@ -1,7 +1,7 @@
 -- Laws of the check of bounds: a bound cut at 2^62 + 1 can be computed from cut bounds and decides what the bound decides;
 -- and the size of a form by its node.
 use mathlib.Core.Path.{_≡_, refl, sym, ap, ap₂, subst, _∙_}
-use mathlib.Core.Bool.{Bool, true, false, _&&_, and-true, and-assoc}
+use mathlib.Core.Bool.{Bool, true, _&&_, and-true, and-assoc}
 use mathlib.Core.List.{List}
 use Prim.Native.Nat.{ℕ, zero, suc, _+_, _*_, _/_, _^_, _≤_, _<_}
 use native.Mathlib.Nat.{mul-le-mul-left, mul-le-mul, mul-assoc, mul-comm, pow-suc, zero-mul}
@@ -9,16 +9,13 @@ use native.Mathlib.Omega.{arith, div-fact, mod-fact}
 use borrow.Author.Tests.{leb-true, leb-false, le-leb, lt-leb}
 use lib.Dec.{T, leb}
 use lib.ListN.{length}
-use lib.IntN.{ℤ, pos, natAbs, _-ℤ_}
-use lib.Signed.{ltZ, nonNeg}
-use mir.Syntax.{w64}
-use mir.Val.{SFits, Fits, toZ, ofZ}
-use mir.Facts.{toZ-ofZ, sfits-lit}
+use lib.IntN.{ℤ, natAbs}
+use mir.Val.{Fits}
 use Rattle.calculus.specs.Syntax.{of, sum, max, some, all, Bin, plus, minus, times, equal, less, and, or}
 use Rattle.calculus.specs.Syntax as Sy
 use Rattle.normal_form.specs.Form.{Form, Clauses, NormalForm, asForm}
 use Rattle.normal_form.specs.Bound.{ownGens, binBound, compBound, bound, small, within, withinF, withinC, numbersFit}
-use Rattle.signed.proofs.Word.{sub-ok, sub-is, lt-is, mag-abs, negated, natural, by-test}
+use Rattle.signed.proofs.Word.{by-test}
 use Rattle.monoid.specs.declared.Monoid.{Monoid}
 use Rattle.monoid.specs.Word.{monoidOf}
 use Rattle.form.specs.declared.Op.{Op}
@@ -98,24 +95,7 @@ generator-bound max g a = refl
 generator-bound some g a = refl
 generator-bound all g a = refl
 
--- ---- the magnitude of a number
-module _ {z : ℤ} (fz : SFits w64 z) (p : natAbs z < 2 ^ 50) where
-  pub negative-ok : SFits w64 (toZ w64 (ofZ w64 (pos 0)) -ℤ toZ w64 (ofZ w64 z))
-  negative-ok = sub-ok (sfits-lit {z = pos 0} tt) fz (omega (arith, mag-abs z))
-
-  module _ (l : ltZ (toZ w64 (ofZ w64 z)) (toZ w64 (ofZ w64 (pos 0))) ≡ true) where
-    turned : toZ w64 (ofZ w64 (toZ w64 (ofZ w64 (pos 0)) -ℤ toZ w64 (ofZ w64 z))) ≡ pos (natAbs z)
-    turned = sub-is (sfits-lit {z = pos 0} tt) fz (omega (arith, mag-abs z)) ∙ negated z (lt-is fz (sfits-lit {z = pos 0} tt) l)
-
-    pub negative-cast : T (nonNeg (toZ w64 (ofZ w64 (toZ w64 (ofZ w64 (pos 0)) -ℤ toZ w64 (ofZ w64 z))))) × Fits w64 (natAbs (toZ w64 (ofZ w64 (toZ w64 (ofZ w64 (pos 0)) -ℤ toZ w64 (ofZ w64 z)))))
-    negative-cast = rw turned (tt, omega arith)
-
-    pub negative-is : natAbs (toZ w64 (ofZ w64 (toZ w64 (ofZ w64 (pos 0)) -ℤ toZ w64 (ofZ w64 z)))) ≡ natAbs z
-    negative-is = ap natAbs turned
-
-  pub positive-cast : ltZ (toZ w64 (ofZ w64 z)) (toZ w64 (ofZ w64 (pos 0))) ≡ false → T (nonNeg (toZ w64 (ofZ w64 z))) × Fits w64 (natAbs (toZ w64 (ofZ w64 z)))
-  positive-cast l = rw (toZ-ofZ fz ∙ natural z (lt-is fz (sfits-lit {z = pos 0} tt) l)) (tt, omega arith)
-
+-- ---- a number in the words is small
 pub small-number : {s : List ℕ} {i : ℕ} {z z′ : ℤ} → Looks s i (Number z) → z′ ≡ z → natAbs z′ < 2 ^ 50
 small-number H e = rw e (H .inside)
 

@@ -114,7 +114,7 @@ eqv-guard M true l m h = h
 eqv-guard M false l m h = refl
 
 -- a fold, as the library's
-fold-foldr : (E : Entry) (m : Monoid) (l : List Value) → foldBy E m l ≡ foldr (step E m) (start m) l
+pub fold-foldr : (E : Entry) (m : Monoid) (l : List Value) → foldBy E m l ≡ foldr (step E m) (start m) l
 unfolding foldBy
 fold-foldr E m [] = refl
 fold-foldr E m (v ∷ l) = ap (step E m v) (fold-foldr E m l)

@@ -146,17 +146,20 @@ bind-all P f g [] h k = refl
 bind-all P f g (a ∷ l) h k = ap₂ _++_ (k a (h .0)) (bind-all P f g l (h .1) k)
 
 -- a name that was just given, and another one
-pub upd-hit : {A : Type 0} (x : ℕ) (a : A) (ρ : ℕ → A) → upd x a ρ x ≡ a
+pub upd-same : {A : Type 0} (x : ℕ) (a : A) (ρ : ℕ → A) (y : ℕ) → eqb x y ≡ true → upd x a ρ y ≡ a
 unfolding upd
-upd-hit x a ρ = go (eqb x x) refl
-  where
-    go : (b : Bool) → eqb x x ≡ b → upd x a ρ x ≡ a
-    go true p = rw (p, upd)
-    go false p = let h : De.T false = rw p at (eqb-refl x) in absurd h
+upd-same x a ρ y p = rw (p, upd)
 
 pub upd-other : {A : Type 0} (x : ℕ) (a : A) (ρ : ℕ → A) (y : ℕ) → eqb x y ≡ false → upd x a ρ y ≡ ρ y
 unfolding upd
 upd-other x a ρ y p = rw (p, upd)
+
+pub upd-hit : {A : Type 0} (x : ℕ) (a : A) (ρ : ℕ → A) → upd x a ρ x ≡ a
+upd-hit x a ρ = go (eqb x x) refl
+  where
+    go : (b : Bool) → eqb x x ≡ b → upd x a ρ x ≡ a
+    go true p = upd-same x a ρ x p
+    go false p = let h : De.T false = rw p at (eqb-refl x) in absurd h
 
 pub upd-miss : {A : Type 0} (x : ℕ) (a : A) (ρ : ℕ → A) (y : ℕ) → y < x → upd x a ρ y ≡ ρ y
 upd-miss x a ρ y h = go (eqb x y) refl

@@ -131,7 +131,7 @@ pub fn depth_at(s: &[u64], i: usize) -> usize
     question::depth(question::node_word(s, i)) as usize
 }
 
-// The word of the node that binds name x; 0 where there is none.
+// One more than the number of the node that binds name x; 0 where none does.
 fn binder_word(s: &[u64], x: u64) -> u64
     ensures { λ r. ⌜ r ≡ binderWord (now (s .entry)) x ⌝ }
 {

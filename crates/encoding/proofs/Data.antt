@@ -2,17 +2,17 @@
 use mathlib.Core.Path.{_≡_, refl, sym, ap, subst}
 use mathlib.Core.List.{List, [], _∷_, map}
 use mathlib.Core.Bool.{Bool, true, false, _&&_, and-eq-true-iff}
-use Prim.Native.Nat.{ℕ, zero, suc, _-_, _*_, _^_, _≤_}
+use Prim.Native.Nat.{ℕ, zero, suc, _+_, _-_, _*_, _^_, _≤_}
 use native.Mathlib.Omega.{arith}
-use borrow.Author.Tests.{ltb-true, ltb-false, leb-true}
-use lib.Dec.{ltb, leb, eqb}
+use borrow.Author.Tests.{ltb-true, ltb-false, leb-true, eqb-true}
+use lib.Dec.{ltb, leb}
 use lib.IntN.{ℤ, pos, negsuc, natAbs}
 use lib.ListN.{length, drop}
 use Rattle.calculus.specs.Value.{vcons, num, rec, fromList, Table, Tables}
 use Rattle.calculus.proofs.Lists.{All}
 use Rattle.calculus.proofs.WellFormed.{Row, WellFormedTable, WellFormed}
-use Rattle.encoding.specs.Record.{Bytes, Result, refused, got, andThen, require, byte, two, four, signed, kindOf, contentOf, behind, isWhole}
-use Rattle.encoding.specs.Data.{cells, rowsFrom, fits, tableOf, tablesFrom, readData}
+use Rattle.encoding.specs.Record.{Bytes, Result, refused, got, andThen, require, byte, two, four, signed, contentOf, behind}
+use Rattle.encoding.specs.Data.{cells, rowsFrom, isTable, fits, tableOf, tablesFrom, readData}
 
 -- Four bytes read as a signed number are of magnitude at most 2^31.
 pub signed-small : (n : ℕ) → natAbs (signed n) ≤ 2 ^ 31
@@ -64,16 +64,38 @@ four-tests a b c d h =
     let r = and-eq-true-iff c d .0 (q .1) in
     (p .0, q .0, r .0, r .1)
 
+-- what 12 leaves
+pub record Fit (c : Bytes) : Type 0 where
+  pub collection-least : 1 ≤ byte c 0
+  pub collection-most : byte c 0 ≤ 3
+  pub columns-least : 1 ≤ byte c 1
+  pub columns-most : byte c 1 ≤ 8
+  pub rows-most : two c 2 ≤ 1024
+  pub long : length c ≡ 4 + 4 * (byte c 1 * two c 2)
+
+pub fit : (c : Bytes) → fits c ≡ true → Fit c
+unfolding fits
+fit c h =
+    let front = four-tests (leb 4 (length c)) (leb 1 (byte c 0)) (leb (byte c 0) 3) _ h in
+    let behind = four-tests (leb 1 (byte c 1)) (leb (byte c 1) 8) (leb (two c 2) 1024) _ (front .3) in
+    record {
+      collection-least = leb-true 1 (byte c 0) (front .1);
+      collection-most = leb-true (byte c 0) 3 (front .2);
+      columns-least = leb-true 1 (byte c 1) (behind .0);
+      columns-most = leb-true (byte c 1) 8 (behind .1);
+      rows-most = leb-true (two c 2) 1024 (behind .2);
+      long = eqb-true (length c) (4 + 4 * (byte c 1 * two c 2)) (behind .3);
+    }
+
 -- A table record that refusal 12 lets pass is a well formed table.
 pub table-read : (c : Bytes) → fits c ≡ true → WellFormedTable (tableOf c)
-unfolding fits tableOf
+unfolding tableOf
 table-read c h =
-    let front = four-tests (leb 4 (length c)) (leb 1 (byte c 0)) (leb (byte c 0) 3) _ h in
-    let (some, columns, rows, exact) = four-tests (leb 1 (byte c 1)) (leb (byte c 1) 8) (leb (two c 2) 1024) _ (front .3) in (
-      leb-true 1 (byte c 1) some,
+    let f = fit c h in (
+      f .columns-least,
       record {
-        columns-most = leb-true (byte c 1) 8 columns;
-        rows-most = subst (λ n. n ≤ 1024) (sym (rows-length (byte c 1) (two c 2) (drop 4 c))) (leb-true (two c 2) 1024 rows);
+        columns-most = f .columns-most;
+        rows-most = subst (λ n. n ≤ 1024) (sym (rows-length (byte c 1) (two c 2) (drop 4 c))) (f .rows-most);
         rows-are = rows-read (byte c 1) (two c 2) (drop 4 c);
       },
     )
@@ -106,7 +128,7 @@ tables-read zero (b ∷ l) T h = absurd (refused-got 13 T h)
 tables-read (suc n) [] T h = no-tables (suc n) T h
 tables-read (suc n) (b ∷ l) T h =
     let r = b ∷ l in
-    require-got 11 (isWhole r && eqb (kindOf r) 20) _ T h λ p h₁.
+    require-got 11 (isTable r) _ T h λ p h₁.
     require-got 12 (fits (contentOf r)) _ T h₁ λ f h₂.
     then-got (tablesFrom n (behind r)) (λ S. got (tableOf (contentOf r) ∷ S)) T h₂ λ S e h₃.
     one-more S (table-read (contentOf r) f) (tables-read n (behind r) S e) h₃

@@ -21,6 +21,10 @@ unfoldable pub rowsFrom : ℕ → ℕ → Bytes → List Value
 rowsFrom columns zero l = []
 rowsFrom columns (suc n) l = rec (cells columns l) ∷ rowsFrom columns n (drop (4 * columns) l)
 
+-- "11: a record cut short or not kind 20"
+abbrev pub isTable : Bytes → Bool
+isTable l = isWhole l && eqb (kindOf l) 20
+
 -- "12: collection, columns or rows outside their ranges, or a length that does not match"
 unfoldable pub fits : Bytes → Bool
 fits c = leb 4 (length c) && (leb 1 (byte c 0) && (leb (byte c 0) 3 && (leb 1 (byte c 1) && (leb (byte c 1) 8 && (leb (two c 2) 1024 &&
@@ -38,7 +42,7 @@ tablesFrom zero (b ∷ l) = refused 13
 tablesFrom (suc n) [] = got []
 tablesFrom (suc n) (b ∷ l) =
     let r = b ∷ l in
-    require 11 (isWhole r && eqb (kindOf r) 20)
+    require 11 (isTable r)
     (require 12 (fits (contentOf r))
     (andThen (tablesFrom n (behind r)) (λ T. got (tableOf (contentOf r) ∷ T))))
 

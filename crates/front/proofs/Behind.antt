@@ -118,7 +118,7 @@ module _ {s s₁ : List ℕ} {n k : ℕ} {a : Bool} (W : WritesForm s (n - 1) s�
 
 module _ {d l : Bytes} {s t : List ℕ} {x : Front} (P : Fronted d l s t x) where
   pub refused-before : {k : ℕ} → x ≡ Front.Refused k → Prepares d l s t (Checked.Refused k)
-  refused-before e = record { is = subst (FrontBy d l t) e (P .is); away = P .away }
+  refused-before e = record { is = subst (FrontBy d l t) e (P .is) .0; away = P .away }
 
   pub fine : {n : ℕ} → x ≡ Front.Nodes n → Fine d l t n
   fine e = subst (FrontBy d l t) e (P .is)

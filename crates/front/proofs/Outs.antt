@@ -7,8 +7,10 @@ use native.Mathlib.Omega.{arith}
 use lib.ListN.{length}
 use borrow.Author.Tests.{le-leb, lt-leb}
 use Rattle.calculus.specs.Syntax.{Question}
-use Rattle.encoding.specs.Record.{Bytes}
+use Rattle.encoding.specs.Record.{Bytes, refused}
+use Rattle.encoding.specs.Data.{readData}
 use Rattle.encoding.specs.Reader.{readQuestion}
+use Rattle.encoding.proofs.Refusals.{Only, data-only, question-only}
 use Rattle.outcome.proofs.Judging.{data-refused, question-refused, judged-as, names-decide, types-decide, generators-decide, size-decides}
 use Rattle.tables.specs.Reading.{ReadsData}
 use Rattle.tables.proofs.Laws.{tables-most, WellFormed, well-formed, not-well-formed, kept-word}
@@ -45,7 +47,7 @@ module _ {s r : List ℕ} {n : ℕ} (M : Measures s n r) (few : n ≤ 256) where
   module _ {z : ℕ} (e : z ≡ termCount r (n - 1) .size) where
     pub too-large : 512 < z → FromSizes s r n (Front.Refused 27)
     too-large h = record {
-      is = λ d T q R b c. size-decides T q (R .names) b c (sym (size-said M few R) ∙ lt-leb (termCount r (n - 1) .size) 512 (omega (arith, e, h)));
+      is = λ d T q R b c. (size-decides T q (R .names) b c (sym (size-said M few R) ∙ lt-leb (termCount r (n - 1) .size) 512 (omega (arith, e, h))), omega arith);
       away = measures-away;
     }
 
@@ -60,12 +62,12 @@ module _ {s r : List ℕ} {n : ℕ} (M : Measures s n r) (few : n ≤ 256) where
 -- ---- 25 and 26
 module _ {s t : List ℕ} {n : ℕ} {a : Bool} (A : Judges false s n t a) (few : n ≤ 256) where
   pub types-wrong : a ≡ false → FromTypes s t n (Front.Refused 25)
-  types-wrong e = record { is = λ d T q R. types-decide T q (R .names) (sym (types-fit (ready-checked R) A) ∙ e); away = judges-away A few }
+  types-wrong e = record { is = λ d T q R. (types-decide T q (R .names) (sym (types-fit (ready-checked R) A) ∙ e), omega arith); away = judges-away A few }
 
   module _ {u : List ℕ} {b : Bool} (p : a ≡ true) (B : Judges true t n u b) where
     pub generators-wrong : b ≡ false → FromTypes s u n (Front.Refused 26)
     generators-wrong e = record {
-      is = λ d T q R. generators-decide T q (R .names) (sym (types-fit (ready-checked R) A) ∙ p) (sym (generators-fit (ready-checked (judges-ready A R)) B) ∙ e);
+      is = λ d T q R. (generators-decide T q (R .names) (sym (types-fit (ready-checked R) A) ∙ p) (sym (generators-fit (ready-checked (judges-ready A R)) B) ∙ e), omega arith);
       away = apart-then (judges-away A few) (judges-away B few);
     }
 
@@ -78,7 +80,7 @@ module _ {s t : List ℕ} {n : ℕ} {a : Bool} (A : Judges false s n t a) (few :
 -- ---- 24
 module _ {s : List ℕ} {n : ℕ} {a : Bool} (A : Judged s n a) where
   pub names-wrong : a ≡ false → FromNames s s n (Front.Refused 24)
-  names-wrong e = record { is = λ d T q L. names-decide T q (sym (names-said L A) ∙ e); away = record { long = refl; above = λ j l. refl } }
+  names-wrong e = record { is = λ d T q L. (names-decide T q (sym (names-said L A) ∙ e), omega arith); away = record { long = refl; above = λ j l. refl } }
 
   pub names-right : a ≡ true → {t u : List ℕ} {r : Front} → t ≡ bindersOf s n → FromTypes t u n r → FromNames s u n r
   names-right e {t} {u} {r} w F = record {
@@ -87,19 +89,27 @@ module _ {s : List ℕ} {n : ℕ} {a : Bool} (A : Judged s n a) where
   }
 
 -- ---- the data, and the question
+data-low : (d : Bytes) {k : ℕ} → readData d ≡ refused k → k ≤ 27
+data-low d e = subst (Only (λ n. n ≤ 27)) e (data-only (λ n. n ≤ 27) (omega arith) (omega arith) (omega arith) d)
+
+question-low : (l : Bytes) {k : ℕ} → readQuestion l ≡ refused k → k ≤ 27
+question-low l e = subst (Only (λ n. n ≤ 27)) e (question-only (λ n. n ≤ 27) (omega arith) (omega arith) (omega arith) l)
+
 module _ {d : Bytes} {s t : List ℕ} {z : ℕ} (D : ReadsData d s t z) where
   data-away : Apart s t
   data-away = record { long = D .long; above = λ j h. kept-word D j (omega arith) }
 
   pub data-wrong : {l : Bytes} → (z ≡ 0 → ⊥) → Fronted d l s t (Front.Refused z)
-  data-wrong {l} h = record { is = data-refused d l (not-well-formed D h); away = data-away }
+  data-wrong {l} h = record { is = (data-refused d l (not-well-formed D h), data-low d (not-well-formed D h)); away = data-away }
 
   module _ (y : z ≡ 0) {l : Bytes} {u : List ℕ} {x : Read} (Q : QuestionRead l t u x) where
     both-away : Apart s u
     both-away = apart-then data-away (record { long = Q .kept .long; above = λ j h. Q .kept .above j (omega arith) })
 
     pub question-wrong : {k : ℕ} → x ≡ Answer.Refused k → Fronted d l s u (Front.Refused k)
-    question-wrong e = record { is = question-refused d l (well-formed D y .is) (subst (QuestionBy (readQuestion l) u) e (Q .is)); away = both-away }
+    question-wrong e =
+        let k = subst (QuestionBy (readQuestion l) u) e (Q .is) in
+        record { is = (question-refused d l (well-formed D y .is) k, question-low l k); away = both-away }
 
     module _ (W : WellFormed d) {n : ℕ} (H : Held (readQuestion l) u n) where
       loaded : 8192 ≤ length s → Loaded d (W .tables) (H .question) u n
@@ -120,7 +130,7 @@ module _ {d : Bytes} {s t : List ℕ} {z : ℕ} (D : ReadsData d s t z) where
           }
 
       carried : (v : List ℕ) (r : Front) → JudgedBy d (W .tables) (H .question) v r → FrontBy d l v r
-      carried v (Front.Refused k) p = judged-as d l (W .is) (H .is) ∙ p
+      carried v (Front.Refused k) p = (judged-as d l (W .is) (H .is) ∙ p .0, p .1)
       carried v (Front.Nodes m) p = record { tables = W .tables; question = H .question; asked = H .is; passed = p }
 
     pub question-right : 8192 ≤ length s → {n : ℕ} → x ≡ Answer.Question n → {v : List ℕ} {r : Front} → FromNames u v n r → Fronted d l s v r

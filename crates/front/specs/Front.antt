@@ -3,7 +3,7 @@
 use mathlib.Core.Path.{_≡_}
 use mathlib.Core.List.{List}
 use mathlib.Core.Bool.{true}
-use Prim.Native.Nat.{ℕ, _-_}
+use Prim.Native.Nat.{ℕ, _-_, _≤_}
 use Rattle.calculus.specs.Syntax.{Question}
 use Rattle.calculus.specs.Value.{Tables, kindOf}
 use Rattle.encoding.specs.Record.{Bytes, refused, got}
@@ -27,8 +27,9 @@ pub record Passed (d : Bytes) (T : Tables) (q : Question) (s : List ℕ) (n : �
   pub writable : Writable s (n - 1)
   pub form : formOf s (n - 1) ≡ asForm (normal (kindOf T) q)
 
+-- a refusal is one of these checks, never 28
 abbrev pub JudgedBy : Bytes → Tables → Question → List ℕ → Front → Type 0
-JudgedBy d T q s (Front.Refused k) = judge T q ≡ refused k
+JudgedBy d T q s (Front.Refused k) = (judge T q ≡ refused k) × (k ≤ 27)
 JudgedBy d T q s (Front.Nodes n) = Passed d T q s n
 
 -- 27, where 24 to 26 hold
@@ -54,7 +55,7 @@ pub record Fine (d l : Bytes) (s : List ℕ) (n : ℕ) : Type 0 where
   pub passed : Passed d tables question s n
 
 abbrev pub FrontBy : Bytes → Bytes → List ℕ → Front → Type 0
-FrontBy d l s (Front.Refused k) = examine d l ≡ refused k
+FrontBy d l s (Front.Refused k) = (examine d l ≡ refused k) × (k ≤ 27)
 FrontBy d l s (Front.Nodes n) = Fine d l s n
 
 pub record Fronted (d l : Bytes) (s s′ : List ℕ) (r : Front) : Type 0 where

@@ -1,14 +1,12 @@
 -- What an accumulator of a collection holds is a collection, over all moves; and the text at the end is the answer's words.
 use native.Mathlib.Omega.{arith}
-use native.Mathlib.Nat.{min-eq-left}
 use mathlib.Core.Path.{_≡_, refl, sym, ap, ap₂, _∙_, subst}
-use mathlib.Core.List.{List, _∷_, _++_}
 use mathlib.Core.Bool.{Bool, true, false}
-use Prim.Native.Nat.{ℕ, suc, _+_, _≤_, _<_}
-use lib.IntN.{ℤ, pos}
+use Prim.Native.Nat.{ℕ, suc, _+_, _<_}
+use lib.IntN.{pos}
 use lib.ListN.{length, length-append}
 use Rattle.calculus.specs.Lists.{pick, upd}
-use Rattle.calculus.specs.Value.{Value, Values, num, truth, rec, coll, vnil, vcons, count, Tables}
+use Rattle.calculus.specs.Value.{Value, Values, num, truth, rec, coll, vnil, vcons, Tables}
 use Rattle.calculus.specs.Monoid.{start}
 use Rattle.calculus.proofs.Lists.{upd-hit}
 use Rattle.plan.specs.Operators.{evalP, meets}
@@ -17,10 +15,10 @@ use Rattle.machine.specs.Program.{End, Program, end, loop, inner, endOf}
 use Rattle.machine.specs.Machine.{merge, takes, zeroOf}
 use Rattle.machine.specs.Flat.{Words, seek, Path, loopP, inP, pastP, before, Valid, last, row, ended, opened}
 use Rattle.machine.specs.Flat as Fl
-use Rattle.machine.specs.Text.{Written, wordsTo, wordsToL, collects, writes, textBack}
+use Rattle.machine.specs.Text.{wordsTo, wordsToL, collects}
 use Rattle.machine.proofs.Moves.{upd-miss, last-is}
 use Rattle.machine.proofs.Tidy.{When}
-use Rattle.machine.proofs.Telling.{Collection, merge-collection, start-collection, done-text}
+use Rattle.machine.proofs.Telling.{Collection, merge-collection, start-collection}
 
 -- where a comprehension that is open collects, its accumulator is a collection
 abbrev Gathered : End → Value → Type 0
@@ -101,39 +99,8 @@ module _ (T : Tables) (q : Program) where
   pub gathers-shut : (π : Path) (i p : Program) (w : Words) → collects (endOf i .monoid) ≡ true → Gathers q w (inP π i p) → Collection (w .acc (Fl.pos π + before i))
   gathers-shut π i p w h g = subst (λ b. When b (Collection (w .acc (Fl.pos π + before i)))) h (g .0)
 
--- The machine is done: below the limit the buffer has the words of the answer that it is done with.
-pub answer-told : {limit : ℕ} {lent out : List ℤ} (m : ℕ) (T : Tables) (q : Program) (w : Words) → writes q Fl.start ≡ true → Gathers q w Fl.start
-    → Written limit lent out (textBack m T q w Fl.start) → Written limit lent out (wordsTo m (w .acc (before q)))
-unfolding writes
-answer-told {limit} {lent} {out} m T q w h g W = subst (Written limit lent out) (done-text m T q w h (subst (λ b. When b (Collection (w .acc (before q)))) h g)) W
-
--- no count of a value is above m
-abbrev mutual
-  pub Counts : ℕ → Value → Type 0
-  Counts m (num z) = Unit {0}
-  Counts m (truth b) = Unit {0}
-  Counts m (rec vs) = CountsL m vs
-  Counts m (coll vs) = (count vs ≤ m) × CountsL m vs
-
-  pub CountsL : ℕ → Values → Type 0
-  CountsL m vnil = Unit {0}
-  CountsL m (vcons v vs) = Counts m v × CountsL m vs
-
+-- the words are as many where a count is cut
 module _ (m : ℕ) where
-  mutual
-    unfolding wordsTo words
-
-    -- where no count is cut the words are those of the written form; they are as many in any case
-    pub words-are : (v : Value) → Counts m v → wordsTo m v ≡ words v
-    words-are (num z) h = refl
-    words-are (truth b) h = refl
-    words-are (rec vs) h = wordsL-are vs h
-    words-are (coll vs) h = ap₂ (λ n l. pos n ∷ l) (min-eq-left (h .0)) (wordsL-are vs (h .1))
-
-    wordsL-are : (vs : Values) → CountsL m vs → wordsToL m vs ≡ wordsL vs
-    wordsL-are vnil h = refl
-    wordsL-are (vcons v vs) h = ap₂ _++_ (words-are v (h .0)) (wordsL-are vs (h .1))
-
   mutual
     unfolding wordsTo words
 

@@ -8,7 +8,6 @@ pub mod Pass
 pub mod Bound
 pub mod Moves
 pub mod Size
-pub mod Loops
 pub mod Written
 pub mod Tidy
 pub mod Telling
@@ -18,5 +17,4 @@ pub mod Standing
 pub mod Spans
 pub mod Fitting
 pub mod Straight
-pub mod Seen
 pub mod Accepted

@@ -5,9 +5,9 @@ use mathlib.Core.List.{List, [], _∷_, _++_, foldl, foldr, append-assoc, append
 use mathlib.Core.Bool.{true≢false}
 use Rattle.calculus.specs.Syntax.{Collection, list, Monoid, of, sum, max, some, all}
 use Rattle.calculus.specs.Value.{Value, coll, fromList, elems}
-use Rattle.calculus.specs.Monoid.{Entry, start, step, foldBy, ordered, canonical, raw}
+use Rattle.calculus.specs.Monoid.{start, step, ordered, canonical, raw}
 use Rattle.calculus.proofs.Sorting.{Commuting}
-use Rattle.calculus.proofs.Folds.{to-from, step-comm, raw-of, raw-canonical}
+use Rattle.calculus.proofs.Folds.{to-from, fold-foldr, step-comm, raw-of, raw-canonical}
 use Rattle.machine.specs.Machine.{behind, merge}
 
 -- every head of this list, in its order
@@ -34,14 +34,9 @@ module _ {A B : Type 0} (op : A → B → B) (c : Commuting op) where
   left-right b [] = refl
   left-right b (v ∷ l) = left-right (op v b) l ∙ first-in v b l
 
-fold-right : (E : Entry) (m : Monoid) (l : List Value) → foldBy E m l ≡ foldr (step E m) (start m) l
-unfolding foldBy
-fold-right E m [] = refl
-fold-right E m (v ∷ l) = ap (step E m v) (fold-right E m l)
-
 merges-scalar : (m : Monoid) → m ≢ of list → ((c : Collection) → m ≢ of c) → merge m ≡ (λ a v. step ordered m v a) → (l : List Value) → merges m (start m) l ≡ raw m l
 unfolding canonical
-merges-scalar m h k e l = ap (λ f. foldl f (start m) l) e ∙ left-right (step ordered m) (step-comm m h) (start m) l ∙ sym (fold-right ordered m l) ∙ sym (raw-canonical m k l)
+merges-scalar m h k e l = ap (λ f. foldl f (start m) l) e ∙ left-right (step ordered m) (step-comm m h) (start m) l ∙ sym (fold-foldr ordered m l) ∙ sym (raw-canonical m k l)
 
 pub merged : (m : Monoid) (l : List Value) → merges m (start m) l ≡ raw m l
 unfolding start merge step

@@ -9,7 +9,8 @@ use Rattle.calculus.specs.Lists.{pick}
 use Rattle.calculus.specs.Syntax.{Monoid}
 use Rattle.normal_form.specs.Form.{Form, Forms, Clauses, NormalForm, asForm, num, truth, row, cell, rec, bin, negate, comp, fnil, fcons, done, gen, cond}
 use Rattle.normal_form.specs.Size.{nodes, nodesF, nodesC}
-use Rattle.plan.specs.Planner.{free, Slots, next, nextL, Gen, gensOf, orUnit, planGens, early, late, slot, slots, after, noSlots}
+use Rattle.plan.specs.Planner.{free, Slots, next, nextL, Gen, gensOf, planGens, early, late, slot, slots, after, noSlots}
+use Rattle.plan.proofs.Slots.{unit-length}
 use Rattle.machine.specs.Program.{Program, end, loopsAt, loops, endAt, inners, innersF, innersC, programAt, programOf}
 use Rattle.machine.specs.Flat.{before}
 
@@ -21,11 +22,6 @@ loops-before (g ∷ gs) at k c p = omega (arith, loops-before gs (λ j. at (suc 
 loops-size : (gs : List Gen) (cs : List Form) (k : ℕ) (c : Slots) (p : Program) → before (loops gs cs k c p) ≡ length gs + before p
 unfolding loops
 loops-size gs cs k c p = loops-before gs _ k c p
-
-unit-length : (gs : List Gen) → length (orUnit gs) ≤ 1 + length gs
-unfolding orUnit
-unit-length [] = omega arith
-unit-length (g ∷ gs) = omega arith
 
 -- a comprehension, its generators' loops and its inner comprehensions
 program-before : (m : Monoid) (q : Clauses) (h : Form) (k : ℕ) (c : Slots)

@@ -4,4 +4,3 @@ pub mod Machine
 pub mod Offers
 pub mod Flat
 pub mod Text
-pub mod Seen

@@ -90,4 +90,6 @@ module _ (s r : List ℕ) (front : (j : ℕ) → j < sizesAt → getD r j 0 ≡ 
     qualifier = λ q. subst (λ (N : Nodes). Adds K N (depthAt r i) (ahead r i) i c p o) (sym table-same)
         (subst (λ (d : ℕ). Adds K (nodesOf s) d (ahead r i) i c p o) (sym (depths-same i l))
         (subst (λ (b : List ℕ). Adds K (nodesOf s) (depthAt s i) b i c p o) (sym (row-same i l)) (M .qualifier (ap (λ (N : Nodes). qualifies (N i)) (sym table-same) ∙ q))));
+    apart = λ q. M .apart (ap (λ (N : Nodes). qualifies (N i)) (sym table-same) ∙ q);
+    bare = λ q. M .bare (ap (λ (N : Nodes). qualifies (N i)) (sym table-same) ∙ q);
   }

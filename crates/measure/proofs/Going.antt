@@ -40,6 +40,8 @@ recast : {K : ℕ → Collection} {s : List ℕ} {i : ℕ} {t u : Count} {c d p 
 recast M x y z w = record {
   term = λ h. let W = M .term h in record { term = W .term ∙ x; condition = λ v. W .condition v ∙ y v; splice = λ v. W .splice v ∙ z v };
   qualifier = λ h. let W = M .qualifier h in record { writes = λ v. W .writes v ∙ y v; sum = λ v. W .sum v ∙ z v; offset = λ v. W .offset v ∙ w v };
+  apart = λ h v. sym (w v) ∙ M .apart h v;
+  bare = λ h. sym x ∙ M .bare h;
 }
 
 pub kept-words : {K : ℕ → Collection} {s₀ : List ℕ} (s r : List ℕ) (j : ℕ) → wordAt r j 0 ≡ wordAt s j 0 → wordAt r j 1 ≡ wordAt s j 1 → Kept K s₀ s j → Kept K s₀ r j

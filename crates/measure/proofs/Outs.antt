@@ -111,18 +111,28 @@ abbrev Given : (ℕ → Collection) → List ℕ → ℕ → Type 0
 Given K s i = (j : ℕ) → j < i → Kept K s s j
 
 module _ {s : List ℕ} {i : ℕ} where
-  right-term : {K : ℕ → Collection} (w : Weight) → TermAt s i → Writes K (nodesOf s) (depthAt s i) i (w .term) (way (w .condition)) (way (w .splice)) → Right K s i w
-  right-term w h W = record { term = λ q. W; qualifier = λ q. absurd (no-both q h) }
+  right-term : {K : ℕ → Collection} (w : Weight) → w .before ≡ noWays → TermAt s i → Writes K (nodesOf s) (depthAt s i) i (w .term) (way (w .condition)) (way (w .splice)) → Right K s i w
+  right-term w b h W = record {
+    term = λ q. W;
+    qualifier = λ q. absurd (no-both q h);
+    apart = λ q v. ap (λ (x : Ways). way x v .gens) b ∙ ap (λ (x : Count). x .gens) (sym (way-of (λ y. none) v));
+    bare = λ q. absurd (no-both q h);
+  }
 
-  right-qualifier : {K : ℕ → Collection} (w : Weight) → qualifies (nodesOf s i) ≡ true
+  right-qualifier : {K : ℕ → Collection} (w : Weight) → w .term ≡ none → qualifies (nodesOf s i) ≡ true
       → Adds K (nodesOf s) (depthAt s i) (ahead s i) i (way (w .condition)) (way (w .splice)) (λ v. way (w .before) v .gens) → Right K s i w
-  right-qualifier w h W = record { term = λ q. absurd (no-both h q); qualifier = λ q. W }
+  right-qualifier w t h W = record {
+    term = λ q. absurd (no-both h q);
+    qualifier = λ q. W;
+    apart = λ q. absurd (no-both h q);
+    bare = λ q. t;
+  }
 
   -- a term that is one condition, and no collection
   scalar-weighs : {t : Count} {w : Weight} → Small t → TermAt s i
       → ((n : ℕ) → i < n → Arranged s n → (K : ℕ → Collection) → Given K s i → Writes K (nodesOf s) (depthAt s i) i t (λ v. above t) (λ v. never)) → w ≡ scalarWeight t → Weighs s i w
   scalar-weighs {t} {w} h q f e = record {
-    is = λ n l A K B. subst (Right K s i) (sym e) (right-term (scalarWeight t) q (recast (f n l A K B) refl (way-of (λ v. above t)) (way-of (λ v. never))));
+    is = λ n l A K B. subst (Right K s i) (sym e) (right-term (scalarWeight t) refl q (recast (f n l A K B) refl (way-of (λ v. above t)) (way-of (λ v. never))));
     small = subst SmallWeight (sym e) (scalar-small h);
   }
 
@@ -142,7 +152,7 @@ module _ {s : List ℕ} {i : ℕ} where
   pub weigh-table : {n : Node} {k : ℕ} {w : Weight} → Looks s i n → n ≡ Table k → w ≡ tableWeight → Weighs s i w
   weigh-table H e q = record {
     is = λ n l A K B. subst (Right K s i) (sym q)
-        (right-term tableWeight (ap qualifies (named H e)) (recast (writes-table K (nodesOf s) (post-order s) (named H e)) refl (way-of (λ v. count 5 1)) (way-of (λ v. count 2 1))));
+        (right-term tableWeight refl (ap qualifies (named H e)) (recast (writes-table K (nodesOf s) (post-order s) (named H e)) refl (way-of (λ v. count 5 1)) (way-of (λ v. count 2 1))));
     small = subst SmallWeight (sym q) (record { term = count-small 4 1; condition = ways-small (λ v. count 5 1) (λ v. count-small 5 1); splice = ways-small (λ v. count 2 1) (λ v. count-small 2 1); before = none-small });
   }
 
@@ -187,7 +197,7 @@ module _ {s : List ℕ} {i : ℕ} where
 
   pub weigh-two : {n : Node} {o : Op} {a b : ℕ} {w : Weight} → Looks s i n → n ≡ Two o a b → w ≡ twoWeight s (binOf o) a b → Weighs s i w
   weigh-two {o = o} {a = a} {b = b} {w = w} H e r = record {
-    is = λ n l A K B. subst (Right K s i) (sym r) (right-term (twoWeight s (binOf o) a b) (ap qualifies k) (recast (writes-two K (nodesOf s) (post-order s) k) (ap₂ (λ x y. above (beside x y)) (first l A B .term) (second l A B .term))
+    is = λ n l A K B. subst (Right K s i) (sym r) (right-term (twoWeight s (binOf o) a b) refl (ap qualifies k) (recast (writes-two K (nodesOf s) (post-order s) k) (ap₂ (λ x y. above (beside x y)) (first l A B .term) (second l A B .term))
         (λ v. ap₂ (λ x y. pick (joins (binOf o)) x y) (ap₂ beside (first l A B .condition v) (second l A B .condition v)) (ap₂ (λ x y. above (above (beside x y))) (first l A B .term) (second l A B .term))
         ∙ ap₂ (λ x y. pick (joins (binOf o)) x y) (ap₂ beside (way-of (conditionCount s a) v) (way-of (conditionCount s b) v) ∙ way-both (conditionWays s a) (conditionWays s b) v) (way-of (λ x. above (twoTerm s a b)) v)
         ∙ way-pick (joins (binOf o)) (bothWays (conditionWays s a) (conditionWays s b)) (ways (λ x. above (twoTerm s a b))) v)
@@ -277,7 +287,7 @@ module _ {s : List ℕ} {i : ℕ} where
   qualifier-weighs {x} {w} h q f e =
       let b = rowWays s (depthAt s i) (startAt s i) in
       record {
-        is = λ n l A K B. subst (Right K s i) (sym e) (right-qualifier (qualifierWeight b x) q (record {
+        is = λ n l A K B. subst (Right K s i) (sym e) (right-qualifier (qualifierWeight b x) refl q (record {
           writes = f n l A K B;
           sum = λ v. total-append (λ c. qualifierOf K (nodesOf s) (depthAt s i) c v) none (ahead s i) (i ∷ []) ∙ ap₂ beside (row-counts B (depthAt s i) (startAt s i) (start-below s i) v) (f n l A K B v) ∙ way-both b x v;
           offset = λ v. ap (λ (c : Count). c .gens) (row-counts B (depthAt s i) (startAt s i) (start-below s i) v);
@@ -350,7 +360,7 @@ module _ {s : List ℕ} {i : ℕ} {m : Sy.Monoid} {h : ℕ} (k : nodesOf s i ≡
       let H = child B (inside k l A .1) (aligned k l A .1) (level k l A .1) in
       let t = compTerm m a (termCount s h) in
       let u : above (beside (allOf K N (suc D) (qualifiersOf s i) x) (termOf K N (suc D) h)) ≡ t = ap₂ (λ y z. above (beside y z)) (T x) (H .term) in
-      right-term (made s m h) (ap qualifies k) (recast (writes-comp K N (post-order s) k d) u
+      right-term (made s m h) refl (ap qualifies k) (recast (writes-comp K N (post-order s) k d) u
       (by-flag (λ v. pick (givesWay m v) (beside (allOf K N (suc D) (qualifiersOf s i) (v || x)) (conditionOf K N (suc D) h v)) (above (above (beside (allOf K N (suc D) (qualifiersOf s i) x) (termOf K N (suc D) h)))) ≡ way (made s m h .condition) v)
       (ap₂ (λ y z. pick (givesWay m true) y z) (ap₂ beside (T true) (H .condition true)) (ap above u))
       (ap (λ y. pick y (beside (allOf K N (suc D) (qualifiersOf s i) x) (conditionOf K N (suc D) h false)) (above (above (beside (allOf K N (suc D) (qualifiersOf s i) x) (termOf K N (suc D) h))))) (stays-false m) ∙ ap above u))
@@ -402,7 +412,7 @@ module _ {s : List ℕ} {i : ℕ} (F : follows (nodesOf s i) ≡ true) (T : Term
         let d : depthAt s j ≡ B = R .level n (A .levelled) k refl in
         let x : semN K s i (depthAt s i) (envOf l) ≡ semN K s j B (envOf g) = sym (h K) ∙ sym (sem-is K (nodesOf s) (post-order s) (offsets s) j B (envOf g) ∙ ap (λ z. semOf K (nodesOf s) (offsets s) (semN K s) z B (envOf g)) p) in
         let E = subst (λ (b : ℕ). Writes K (nodesOf s) b j (termCount s j) (conditionCount s j) (splicedCount s j)) d W in
-        subst (Right K s i) (sym e) (right-term (keptWeight s j) T (recast (writes-node K (nodesOf s) (post-order s) (offsets s) (envOf l) j B (envOf g) x) (E .term)
+        subst (Right K s i) (sym e) (right-term (keptWeight s j) refl T (recast (writes-node K (nodesOf s) (post-order s) (offsets s) (envOf l) j B (envOf g) x) (E .term)
         (λ v. E .condition v ∙ way-of (conditionCount s j) v) (λ v. E .splice v ∙ way-of (splicedCount s j) v)));
     small = subst SmallWeight (sym e) (kept-small s j);
   }

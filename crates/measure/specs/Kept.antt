@@ -10,7 +10,7 @@ use Rattle.question.specs.Layout.{sizesAt}
 use Rattle.sizes.specs.declared.Count.{Count}
 use Rattle.sizes.specs.Packing.{place, termCount, conditionCount, splicedCount, stored}
 use Rattle.decode.specs.Decode.{most, depthAt, nodesOf}
-use Rattle.measure.specs.Measure.{termOf, conditionOf, spliceOf, qualifierOf, allOf}
+use Rattle.measure.specs.Measure.{none, termOf, conditionOf, spliceOf, qualifierOf, allOf}
 use Rattle.measure.specs.Arranged.{qualifies, ahead, Arranged}
 
 -- a term: what it writes
@@ -25,10 +25,12 @@ pub record Adds (K : ℕ → Collection) (N : Nodes) (D : ℕ) (bs : List ℕ) (
   pub sum : (v : Bool) → allOf K N D (bs ++ (i ∷ [])) v ≡ s v
   pub offset : (v : Bool) → allOf K N D bs v .gens ≡ o v
 
--- node i of the table of s, whichever it is
+-- node i of the table of s, whichever it is: a term has no offsets, a qualifier writes nothing as a term
 pub record Measured (K : ℕ → Collection) (s : List ℕ) (i : ℕ) (t : Count) (c sp : Bool → Count) (o : Bool → ℕ) : Type 0 where
   pub term : qualifies (nodesOf s i) ≡ false → Writes K (nodesOf s) (depthAt s i) i t c sp
   pub qualifier : qualifies (nodesOf s i) ≡ true → Adds K (nodesOf s) (depthAt s i) (ahead s i) i c sp o
+  pub apart : qualifies (nodesOf s i) ≡ false → (v : Bool) → o v ≡ 0
+  pub bare : qualifies (nodesOf s i) ≡ true → t ≡ none
 
 -- scratch r keeps what is right for node i of the table of s
 abbrev pub Kept : (ℕ → Collection) → List ℕ → List ℕ → ℕ → Type 0

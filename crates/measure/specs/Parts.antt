@@ -84,7 +84,7 @@ twoWeight s o a b = termWeight (twoTerm s a b) (pick (joins o) (bothWays (condit
 abbrev pub tableWeight : Weight
 tableWeight = record { term = count 4 1; condition = ways (λ v. count 5 1); splice = ways (λ v. count 2 1); before = noWays }
 
--- what the row that ends at e writes
+-- what is stored of the row that ends at e
 abbrev pub rowWays : List ℕ → ℕ → ℕ → Ways
 rowWays s d e = pick (ends s d e) (spliceWays s (e - 1)) noWays
 
@@ -108,7 +108,7 @@ compAt s i m h = pick (ltb (depthAt s i) levels) (compWeight m (rowWays s (depth
 abbrev pub qualifierWeight : Ways → Ways → Weight
 qualifierWeight b w = record { term = none; condition = w; splice = bothWays b w; before = b }
 
--- what node j keeps
+-- what node j keeps, but for its offsets
 abbrev pub keptWeight : List ℕ → ℕ → Weight
 keptWeight s j = record { term = termCount s j; condition = conditionWays s j; splice = spliceWays s j; before = noWays }
 

@@ -192,7 +192,8 @@ fn is_qualifier(s: &[u64], i: usize) -> bool
     }
 }
 
-// What the qualifiers of depth d write that stand one behind the other and end at e.
+// What is stored for the qualifier of depth d that ends at e: once it is measured, what the qualifiers of its comprehension
+// write up to it. Nothing where none ends there.
 fn row(s: &[u64], d: usize, e: usize) -> Ways
     ensures { λ r. ⌜ r ≡ rowWays (now (s .entry)) d e ⌝ }
 {
@@ -301,7 +302,7 @@ fn table() -> Weight
     }
 }
 
-// What node j keeps.
+// What node j keeps, but for its offsets.
 fn copy(s: &[u64], j: usize) -> Weight
     ensures { λ r. ⌜ r ≡ keptWeight (now (s .entry)) j ⌝ }
 {
@@ -396,7 +397,8 @@ pub fn measure(s: &mut [u64], n: usize)
     }
 }
 
-// How many nodes the question of n nodes has in its normal form, counted to 513.
+// The size that is stored for the last of n nodes: once `measure` has run, how many nodes the question has in its normal
+// form, counted to 513.
 pub fn size(s: &[u64], n: usize) -> u64
     ensures { λ r. ⌜ r ≡ termCount (now (s .entry)) (n - 1) .size ⌝ }
 {

@@ -1,5 +1,5 @@
--- What the engine keeps of a monoid's value while it runs: one word, the first of the value's written form. That is the
--- number itself, the truth as 0 or 1, or a collection's count.
+-- A monoid as the engine has it: its number, and the one word that is kept of its value while it runs. That is the number
+-- itself, the truth as 0 or 1, or how many heads a collection was made of: equal heads of a set all count.
 use mathlib.Core.Bool.{true, false}
 use Prim.Native.Nat.{ℕ}
 use lib.IntN.{ℤ, pos, _+ℤ_}
@@ -31,6 +31,7 @@ numberOf Max = 5
 numberOf Some = 6
 numberOf All = 7
 
+-- a value as one word: the first of its written form; a record is never kept so
 abbrev pub firstWord : Value → ℤ
 firstWord (num z) = z
 firstWord (truth false) = pos 0

@@ -70,7 +70,7 @@ behind-append done q S = refl
 behind-append (Nf.gen g k w) q S = behind-append w q (upd g true S)
 behind-append (Nf.cond t w) q S = behind-append w q S
 
-behind-grows : (w : Clauses) (S : Scope) → Grows S (behind w S)
+pub behind-grows : (w : Clauses) (S : Scope) → Grows S (behind w S)
 unfolding behind
 behind-grows done S g s = s
 behind-grows (Nf.gen x k w) S g s = behind-grows w (upd x true S) g (upd-grows x S g s)

@@ -6,7 +6,7 @@ use Prim.Native.Nat.{ℕ}
 use lib.Dec.{eqb, eqb→eq}
 use Rattle.calculus.specs.Lists.{pick, upd}
 use Rattle.calculus.specs.Syntax.{Collection, Term, Terms, Quals, num, truth, name, field, rec, bin, negate, comp, table, tnil, tcons, qnil, gen, bind, cond}
-use Rattle.calculus.proofs.Lists.{All, upd-other}
+use Rattle.calculus.proofs.Lists.{All, upd-same, upd-other}
 use Rattle.checks.specs.Scope.{Scope, inScope, binders, bindersL, bindersQ}
 use Rattle.normal_form.specs.Form.{done}
 use Rattle.normal_form.specs.Form as Nf
@@ -44,10 +44,6 @@ Fresh S l = All (λ y. S y ≡ false) l
 pub fresh-split : (S : Scope) (l m : List ℕ) → Fresh S (l ++ m) → Fresh S l × Fresh S m
 fresh-split S [] m a = (tt, a)
 fresh-split S (y ∷ l) m a = let b = fresh-split S l m (a .1) in ((a .0, b .0), b .1)
-
-upd-same : (x : ℕ) (d : Sem) (δ : SemEnv) (y : ℕ) → eqb x y ≡ true → upd x d δ y ≡ d
-unfolding upd
-upd-same x d δ y p = rw (p, upd)
 
 upd-swap : (x y : ℕ) (d e : Sem) (δ : SemEnv) → ¬ (x ≡ y) → upd x d (upd y e δ) ≡ upd y e (upd x d δ)
 upd-swap x y d e δ n = fun-ext (λ z. go z (eqb x z) (eqb y z) refl refl)

@@ -1,9 +1,10 @@
 -- Demand 3, the value half: both ways of answering give the same.
-use mathlib.Core.Path.{_≡_, refl, sym, ap, subst, fun-ext, _∙_}
+use mathlib.Core.Path.{_≡_, refl, ap, subst, fun-ext, _∙_}
 use mathlib.Core.List.{List, [], _∷_, _++_}
 use mathlib.Core.Bool.{Bool, true, false}
-use Prim.Native.Nat.{ℕ, zero, suc, _-_, _≤_}
+use Prim.Native.Nat.{ℕ, zero, suc, _-_, _≤_, _<_}
 use native.Mathlib.Omega.{arith}
+use borrow.Author.Tests.{ltb-true, ltb-false, lt-ltb, le-ltb}
 use lib.Dec.{ltb, leb}
 use lib.ListN.{length, take, drop, replicate, length-append, length-replicate}
 use lib.IntN.{ℤ, pos}
@@ -68,20 +69,21 @@ unfolding settled
 settled-same s s′ b b′ g (refused n) k h = record { numbers = refl; sizes = refl; answers = λ e. absurd (k e) }
 settled-same s s′ b b′ g (got a) k h = record { numbers = refl; sizes = refl; answers = λ e. front-same g (a .front) (drop (length (a .front)) b) (drop (length (a .front)) b′) (h a refl) }
 
-scratch-short : (s : List ℕ) (b : List ℤ) (r : Result (Answer ℤ)) → ltb (length s) scratchWords ≡ true → withScratch s b r ≡ record { number = 31; size = 0; buffer = b; scratch = s }
+-- 31, or what stands behind it
+pub scratch-short : {A : Type 0} (s : List ℕ) (b : List A) (r : Result (Answer A)) → length s < scratchWords → withScratch s b r ≡ record { number = 31; size = 0; buffer = b; scratch = s }
 unfolding withScratch
-scratch-short s b r p = rw (p, withScratch)
+scratch-short s b r h = rw (lt-ltb (length s) scratchWords h, withScratch)
 
-scratch-long : (s : List ℕ) (b : List ℤ) (r : Result (Answer ℤ)) → ltb (length s) scratchWords ≡ false → withScratch s b r ≡ settled s b r
+pub scratch-long : {A : Type 0} (s : List ℕ) (b : List A) (r : Result (Answer A)) → scratchWords ≤ length s → withScratch s b r ≡ settled s b r
 unfolding withScratch
-scratch-long s b r p = rw (p, withScratch)
+scratch-long s b r h = rw (le-ltb (length s) scratchWords h, withScratch)
 
 scratch-same : (s s′ : List ℕ) (b b′ : List ℤ) (g : ℕ) (r : Result (Answer ℤ)) → length s ≡ length s′ → SameAnswer g (settled s b r) (settled s′ b′ r) → SameAnswer g (withScratch s b r) (withScratch s′ b′ r)
 scratch-same s s′ b b′ g r e h = go (ltb (length s) scratchWords) refl
   where
     go : (c : Bool) → ltb (length s) scratchWords ≡ c → SameAnswer g (withScratch s b r) (withScratch s′ b′ r)
-    go true p = rw (scratch-short s b r p, scratch-short s′ b′ r (ap (λ n. ltb n scratchWords) (sym e) ∙ p)) (record { numbers = refl; sizes = refl; answers = λ z. absurd (omega (arith, z)) })
-    go false p = rw (scratch-long s b r p, scratch-long s′ b′ r (ap (λ n. ltb n scratchWords) (sym e) ∙ p)) h
+    go true p = let l = ltb-true (length s) scratchWords p in rw (scratch-short s b r l, scratch-short s′ b′ r (omega (arith, e, l))) (record { numbers = refl; sizes = refl; answers = λ z. absurd (omega (arith, z)) })
+    go false p = let l = ltb-false (length s) scratchWords p in rw (scratch-long s b r l, scratch-long s′ b′ r (omega (arith, e, l))) h
 
 -- what an answer writes reaches up to G
 front-reaches : (g : ℕ) (ws : List ℤ) → g ≤ length (ws ++ replicate (g - length ws) (pos 0))

@@ -2,7 +2,7 @@
 use mathlib.Core.Path.{_≡_, refl, sym, ap, ap₂, _∙_, fun-ext}
 use mathlib.Core.List.{List, [], _∷_, _++_, append-assoc, append-nil}
 use mathlib.Core.Bool.{Bool, true, false, _&&_, and-true, and-assoc, and-eq-true-iff}
-use Prim.Native.Nat.{ℕ, suc, _≤_}
+use Prim.Native.Nat.{ℕ, suc, _+_, _≤_}
 use native.Mathlib.Omega.{arith}
 use lib.Dec.{eqb}
 use lib.ListN.{length}
@@ -17,9 +17,15 @@ use Rattle.normal_form.specs.Form.{Form, Forms, num, truth, cell, rec, bin, neg
 use Rattle.normal_form.specs.Form as Nf
 use Rattle.plan.specs.Plan.{PTerm, place, pbin}
 use Rattle.plan.specs.Operators.{Place, row, val, Row, valueOf, evalP, evalPs, meets, whole}
-use Rattle.plan.specs.Planner.{free, frees, Slots, next, nexts, term, terms, nextL, termL, joined, conj, Gen, from, fromUnit, slot, slots, after}
+use Rattle.plan.specs.Planner.{free, frees, Slots, next, nexts, term, terms, nextL, termL, joined, conj, Gen, from, fromUnit, orUnit, slot, slots, after}
 use Rattle.plan.proofs.Rows.{length-snoc, at-before, at-here, whole-val}
 use Rattle.plan.proofs.Conditions.{bindG, hold}
+
+-- where there is no generator there is one over unit
+pub unit-length : (gs : List Gen) → length (orUnit gs) ≤ 1 + length gs
+unfolding orUnit
+unit-length [] = omega arith
+unit-length (g ∷ gs) = omega arith
 
 -- the environment that a row holds
 abbrev pub envOf : Slots → Row → Env

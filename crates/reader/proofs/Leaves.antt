@@ -19,7 +19,7 @@ use Rattle.question.specs.Tree.{numberOf, argAt}
 use Rattle.question.specs.Laid.{nodes, Node, Laid}
 use Rattle.question.proofs.Laws.{put-is, put-arg}
 use Rattle.reader.specs.Scratch.{Kept, Finishing, Finished}
-use Rattle.reader.specs.Front.{ByteAt, TwoAt, Whole, Headed, HeadedBy, Begins}
+use Rattle.reader.specs.Front.{ByteAt, TwoAt, Whole, Headed, HeadedBy, Stops, none, deep, many, cut, Begins}
 use Rattle.reader.specs.Kinds.{LeafKind, is-number, is-truth, is-name, is-table, HasTerms, of-two, Shaped, Looks, Fixed, Leaf, a-number, a-truth, a-name, a-table, ValueIs, ValuedBy, Valued}
 use Rattle.reader.specs.Reads.{ContentRead}
 use Rattle.reader.specs.declared.Place.{Place}
@@ -82,16 +82,10 @@ part-none (suc v) q [] zero h = refl
 part-none (suc v) q [] (suc n) h = refl
 part-none (suc v) q (b ∷ l) n h = absurd (omega arith)
 
-pub begin-none : {l : Bytes} {p : Place} → length l ≡ 0 → Begins l p (Begun.Refused 22)
-begin-none {l} {p} h = record { is = λ q. part-none (p .levels) q l (p .left) h }
-
 part-deep : (levels : ℕ) (q : Bool) (l : Bytes) (n : ℕ) → (length l ≡ 0 → ⊥) → levels ≡ 0 → readPart levels q l n ≡ refused 23
 unfolding readPart
 part-deep zero q l n h e = no-more l h
 part-deep (suc v) q l n h e = absurd (omega arith)
-
-pub begin-deep : {l : Bytes} {p : Place} → (length l ≡ 0 → ⊥) → p .levels ≡ 0 → Begins l p (Begun.Refused 23)
-begin-deep {l} {p} h e = record { is = λ q. part-deep (p .levels) q l (p .left) h e }
 
 part-many : (levels : ℕ) (q : Bool) (l : Bytes) (n : ℕ) → (length l ≡ 0 → ⊥) → n ≡ 0 → readPart levels q l n ≡ refused 23
 unfolding readPart atRecord
@@ -99,17 +93,18 @@ part-many zero q l n h e = no-more l h
 part-many (suc v) q l zero h e = no-more l h
 part-many (suc v) q l (suc n) h e = absurd (omega arith)
 
-pub begin-many : {l : Bytes} {p : Place} → (length l ≡ 0 → ⊥) → p .left ≡ 0 → Begins l p (Begun.Refused 23)
-begin-many {l} {p} h e = record { is = λ q. part-many (p .levels) q l (p .left) h e }
-
 part-cut : (levels : ℕ) (q : Bool) (l : Bytes) (n : ℕ) → (levels ≡ 0 → ⊥) → (n ≡ 0 → ⊥) → isWhole l ≡ false → readPart levels q l n ≡ refused 22
 unfolding readPart atRecord require
 part-cut zero q l n h i w = absurd (h refl)
 part-cut (suc v) q l zero h i w = absurd (i refl)
 part-cut (suc v) q l (suc n) h i w = rw w
 
-pub begin-cut : {l : Bytes} {p : Place} → (p .levels ≡ 0 → ⊥) → (p .left ≡ 0 → ⊥) → isWhole l ≡ false → Begins l p (Begun.Refused 22)
-begin-cut {l} {p} h i w = record { is = λ q. part-cut (p .levels) q l (p .left) h i w }
+-- where no record begins, reading one is refused with that number
+pub stops-refuses : {l : Bytes} {p : Place} {x : ℕ} → Stops l p x → (q : Bool) → readPart (p .levels) q l (p .left) ≡ refused x
+stops-refuses {l} {p} (none h) q = part-none (p .levels) q l (p .left) h
+stops-refuses {l} {p} (deep h e) q = part-deep (p .levels) q l (p .left) h e
+stops-refuses {l} {p} (many h e) q = part-many (p .levels) q l (p .left) h e
+stops-refuses {l} {p} (cut h i w) q = part-cut (p .levels) q l (p .left) h i w
 
 pub begin-record : {l : Bytes} {p b : Place} {k e : ℕ} → (p .levels ≡ 0 → ⊥) → (p .left ≡ 0 → ⊥) → Whole l k e →
     b .levels ≡ p .levels - 1 → b .left ≡ p .left - 1 → b .node ≡ p .node → b .depth ≡ p .depth → Begins l p (Begun.Record k e b)
@@ -138,6 +133,7 @@ finished {s} {s′} {k} {a} {left} {i} {p} F e =
     subst (λ (t : List ℕ). Finished s k a p left i t (Filled.Read left (i + 1))) (sym e)
     (record {
       is = refl;
+      put = refl;
       node = put-is s i k a (p .node) (p .depth) (F .kind) (F .arg) (omega arith) (omega arith) (omega arith);
       arg = put-arg s i k a (p .node) (p .depth) (F .kind) (F .arg) (omega arith) (omega arith) (omega arith);
       kept = kept-put i (pack k a (p .node) (p .depth)) (F .below);

@@ -34,7 +34,7 @@ use Rattle.reader.specs.declared.value.Shape.the-variants as Shape
 use Rattle.reader.specs.declared.value.Ahead.{Ahead}
 use Rattle.reader.specs.declared.value.Ahead.the-variants as Ahead
 use Rattle.reader.specs.declared.value.Value.{Value}
-use Rattle.reader.proofs.Leaves.{kept-refl}
+use Rattle.reader.proofs.Leaves.{kept-refl, stops-refuses}
 
 -- ---- parts of the bytes: what stands behind so many bytes, and a record's content
 abbrev pub after : Bytes → ℕ → Bytes
@@ -75,7 +75,7 @@ pub began : {l : Bytes} {p : Place} {g : Begun} → Begins l p g → {k e : ℕ}
 began {l} {p} B e = subst (BeginsBy l p) e (B .is)
 
 refused-at : {l : Bytes} {p : Place} {g : Begun} → Begins l p g → {x : ℕ} → g ≡ Begun.Refused x → (q : Bool) → readPart (p .levels) q l (p .left) ≡ refused x
-refused-at {l} {p} B e = subst (BeginsBy l p) e (B .is)
+refused-at {l} {p} B e = stops-refuses (subst (BeginsBy l p) e (B .is))
 
 module _ {l : Bytes} {p b : Place} {k e : ℕ} (B : Began l p k e b) where
   opened : (q : Bool) → readPart (p .levels) q l (p .left) ≡ andThen (content (readPart (b .levels)) q (getD kinds k unknown) (inner l e) (b .left)) (λ s. yields (s .is) (drop e l) (s .left))

@@ -1,10 +1,9 @@
 -- The front of some bytes: what the header's reader finds, and whether a record may begin.
 use mathlib.Core.Path.{_≡_}
-use mathlib.Core.Bool.{Bool, true, false}
+use mathlib.Core.Bool.{true, false}
 use Prim.Native.Nat.{ℕ, suc, _+_, _≤_, _<_}
 use lib.ListN.{length}
-use Rattle.encoding.specs.Record.{Bytes, refused, byte, two, lengthOf, kindOf, isWhole}
-use Rattle.encoding.specs.Reader.{readPart}
+use Rattle.encoding.specs.Record.{Bytes, byte, two, lengthOf, kindOf, isWhole}
 use Rattle.reader.specs.declared.Place.{Place}
 use Rattle.reader.specs.declared.bytes.Header.{Header}
 use Rattle.reader.specs.declared.bytes.Header.the-variants as Header
@@ -40,9 +39,16 @@ pub record Began (l : Bytes) (p : Place) (k e : ℕ) (b : Place) : Type 0 where
   pub node : b .node ≡ p .node
   pub depth : b .depth ≡ p .depth
 
+-- why no record begins, and the number: no byte is left, a level or a record too many, or a record cut short
+pub data Stops (l : Bytes) (p : Place) : ℕ → Type 0 where
+  none : length l ≡ 0 → Stops l p 22
+  deep : (length l ≡ 0 → ⊥) → p .levels ≡ 0 → Stops l p 23
+  many : (length l ≡ 0 → ⊥) → p .left ≡ 0 → Stops l p 23
+  cut : (p .levels ≡ 0 → ⊥) → (p .left ≡ 0 → ⊥) → isWhole l ≡ false → Stops l p 22
+
 abbrev pub BeginsBy : Bytes → Place → Begun → Type 0
 BeginsBy l p (Begun.Record k e b) = Began l p k e b
-BeginsBy l p (Begun.Refused x) = (q : Bool) → readPart (p .levels) q l (p .left) ≡ refused x
+BeginsBy l p (Begun.Refused x) = Stops l p x
 
 pub record Begins (l : Bytes) (p : Place) (r : Begun) : Type 0 where
   pub is : BeginsBy l p r

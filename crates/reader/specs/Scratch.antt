@@ -2,9 +2,10 @@
 use mathlib.Core.Path.{_≡_}
 use mathlib.Core.List.{List}
 use Prim.Native.Nat.{ℕ, _+_, _≤_, _<_}
-use lib.ListN.{length, getD}
+use lib.ListN.{length, getD, set}
 use Rattle.encoding.specs.Reader.{kinds, unknown}
 use Rattle.question.specs.Layout.{nodesAt}
+use Rattle.question.specs.Packing.{pack}
 use Rattle.question.specs.Tree.{argAt}
 use Rattle.question.specs.Laid.{Node}
 use Rattle.reader.specs.declared.Place.{Place}
@@ -33,8 +34,10 @@ pub record Finishing (s : List ℕ) (k a : ℕ) (p : Place) (i : ℕ) : Type 0 w
   pub below : i < 256
   pub deep : p .depth ≤ 32
 
+-- node i is put and nothing else; what the node then says follows from its word
 pub record Finished (s : List ℕ) (k a : ℕ) (p : Place) (left i : ℕ) (s′ : List ℕ) (r : Filled) : Type 0 where
   pub is : r ≡ Filled.Read left (i + 1)
+  pub put : s′ ≡ set s (nodesAt + i) (pack k a (p .node) (p .depth))
   pub node : Node s′ (p .depth) (p .node) i (getD kinds k unknown)
   pub arg : argAt s′ i ≡ a
   pub kept : Kept i s s′

@@ -59,7 +59,8 @@ formSem K s i D e Bad = nothing
 abbrev pub placeSem : (ℕ → Collection) → List ℕ → Place → Sem
 placeSem K s r = formSem K s (r .node) (r .depth) (envOf (r .env)) (r .form)
 
--- A form at node i is that node's own, or a row or a cell, or nothing.
+-- A form at node i is that node's own, or a row or a cell, or nothing. `nothing` is the number 0, so `Bad` says as much of
+-- what a node comes to as that number would.
 abbrev pub FormAt : List ℕ → ℕ → ℕ → Form → Type 0
 FormAt s i D (Number z) = (nodesOf s i ≡ nnum z) × (mag z < 2 ^ 33)
 FormAt s i D (Truth b) = nodesOf s i ≡ ntruth b

@@ -75,7 +75,7 @@ pub fn joined(v: bool, m: Monoid) -> bool
     }
 }
 
-// The first number of what generator x writes, in the copy w.
+// The first number of what generator x writes, in the copy w; 513 where it is larger.
 pub fn first_number(s: &[u64], x: usize, w: u64) -> u64
     ensures { λ r. ⌜ (r ≡ offsets (now (s .entry)) x (odd w) (w / 2)) × (r ≤ limit) ⌝ }
 {

@@ -8,7 +8,7 @@ ghost use Rattle.scratch.specs.Wiped.{Wiped};
 // How many words a call needs, and clears.
 pub const WORDS: usize = 8192;
 
-// The words from a up to b are no longer needed.
+// The words from a up to b become 0, all others stay.
 pub fn wipe(s: &mut [u64], a: usize, b: usize)
     requires { ⌜ (a ≤ b) × (b ≤ length (now s)) ⌝ }
     ensures { λ r. ⌜ Wiped a b (now (s .entry)) (now (s .exit)) ⌝ }

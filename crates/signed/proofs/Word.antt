@@ -1,7 +1,7 @@
 -- Laws of i64 arithmetic. Sizes of sums and products are in ℕ, which `omega` reads; a signed local holds the bits of its
 -- number, and these laws say what they read back to.
 use mathlib.Core.Path.{_≡_, refl, sym, ap, subst, _∙_}
-use mathlib.Core.Bool.{Bool, true, false, cond, not}
+use mathlib.Core.Bool.{Bool, true, false, cond, not, true≢false}
 use Prim.Native.Nat.{ℕ, zero, suc, _+_, _-_, _*_, _^_, _≤_, _<_}
 use native.Mathlib.Nat.{mul-le-mul-left, mul-le-mul-right, le-trans, le-of-lt}
 use native.Mathlib.Omega.{arith}
@@ -14,7 +14,7 @@ use lib.IntN.{natAbs, ℤ, pos, negsuc, negℤ, _+ℤ_, _-ℤ_, _*ℤ_}
 use lib.Signed.{mag, ltZ, leZ, nonNeg, _<ℤ_, _≤ℤ_, ltZ-yes, ltZ-no, leZ-yes, <ℤ-≤ℤ-trans, clashℤ}
 use mir.Syntax.{w64}
 use mir.Val.{SFits, Fits, toZ, ofZ}
-use mir.Facts.{toZ-pos, toZ-ofZ}
+use mir.Facts.{toZ-pos, toZ-ofZ, sfits-lit}
 use Rattle.calculus.specs.Value.{eqZ}
 
 -- ---- sizes, in ℕ
@@ -101,10 +101,32 @@ pub natural : (z : ℤ) → ltZ z (pos 0) ≡ false → z ≡ pos (natAbs z)
 natural (pos n) e = refl
 natural (negsuc n) e = absurd (let y : _≡_ {A = ℕ} 0 1 = cc in omega arith)
 
+-- ... as they come of the machine's words
+module _ {z : ℤ} (f : SFits w64 z) (p : natAbs z ≤ 2 ^ 62) where
+  pub negative-ok : SFits w64 (toZ w64 (ofZ w64 (pos 0)) -ℤ toZ w64 (ofZ w64 z))
+  negative-ok = sub-ok (sfits-lit {z = pos 0} tt) f (omega (arith, mag-abs z))
+
+  module _ (l : ltZ (toZ w64 (ofZ w64 z)) (toZ w64 (ofZ w64 (pos 0))) ≡ true) where
+    turned : toZ w64 (ofZ w64 (toZ w64 (ofZ w64 (pos 0)) -ℤ toZ w64 (ofZ w64 z))) ≡ pos (natAbs z)
+    turned = sub-is (sfits-lit {z = pos 0} tt) f (omega (arith, mag-abs z)) ∙ negated z (lt-is f (sfits-lit {z = pos 0} tt) l)
+
+    pub negative-cast : T (nonNeg (toZ w64 (ofZ w64 (toZ w64 (ofZ w64 (pos 0)) -ℤ toZ w64 (ofZ w64 z))))) × Fits w64 (natAbs (toZ w64 (ofZ w64 (toZ w64 (ofZ w64 (pos 0)) -ℤ toZ w64 (ofZ w64 z)))))
+    negative-cast = rw turned (tt, omega arith)
+
+    pub negative-is : natAbs (toZ w64 (ofZ w64 (toZ w64 (ofZ w64 (pos 0)) -ℤ toZ w64 (ofZ w64 z)))) ≡ natAbs z
+    negative-is = ap natAbs turned
+
+  pub positive-cast : ltZ (toZ w64 (ofZ w64 z)) (toZ w64 (ofZ w64 (pos 0))) ≡ false → T (nonNeg (toZ w64 (ofZ w64 z))) × Fits w64 (natAbs (toZ w64 (ofZ w64 z)))
+  positive-cast l = rw (toZ-ofZ f ∙ natural z (lt-is f (sfits-lit {z = pos 0} tt) l)) (tt, omega arith)
+
 -- by the two outcomes of a test
 pub by-test : {P : Type 0} (t : Bool) → (t ≡ true → P) → (t ≡ false → P) → P
 by-test true y n = y refl
 by-test false y n = n refl
+
+-- no test has both
+pub no : {P : Type 0} → true ≡ false → P
+no e = absurd (true≢false e)
 
 -- ---- equality as a test
 pub eqZ-refl : (a : ℤ) → eqZ a a ≡ true

@@ -52,6 +52,6 @@ conditionCount s i v = pick v (thirdPair (wordAt s i 0)) (secondPair (wordAt s i
 unfoldable pub splicedCount : List ℕ → ℕ → Bool → Count
 splicedCount s i v = pick v (secondPair (wordAt s i 1)) (firstPair (wordAt s i 1))
 
--- how many generators the qualifiers before qualifier i write
+-- the offset of qualifier i: how many generators the qualifiers before it write
 unfoldable pub stored : List ℕ → ℕ → Bool → ℕ
 stored s i v = pick v (thirdPair (wordAt s i 1) .gens) (thirdPair (wordAt s i 1) .size)

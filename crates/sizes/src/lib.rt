@@ -62,7 +62,7 @@ pub fn spliced_count(s: &[u64], i: usize, v: bool) -> Count
     pair(w)
 }
 
-// How many generators the qualifiers before qualifier i write.
+// The offset that is stored for node i: once `measure` has run, how many generators the qualifiers before qualifier i write.
 pub fn offset(s: &[u64], i: usize, v: bool) -> u64
     ensures { λ r. ⌜ (r ≡ stored (now (s .entry)) i v) × (r < 1024) ⌝ }
 {

@@ -12,7 +12,8 @@ use Rattle.calculus.specs.Value.{vcons, num, rec, Table, Tables, junk, asInt, n
 use Rattle.encoding.specs.Record.{Bytes, byte, two, four, signed, lengthOf, contentOf}
 use Rattle.encoding.specs.Data.{collectionOf, cells, rowsFrom, tableOf}
 use Rattle.tables.specs.Description.{descriptionOf, collectionIn, columnsIn, rowsIn, positionIn, cellIn, cellsIn, collectionNumber, Describes}
-use Rattle.tables.proofs.Records.{Fit, content-length, ReadAt, read-whole, read-fit}
+use Rattle.encoding.proofs.Data.{rows-length, Fit}
+use Rattle.tables.proofs.Records.{content-length, ReadAt, read-whole, read-fit}
 
 -- the fields of a description
 module _ (c : Bytes) (p : ℕ) (f : Fit c) where
@@ -41,11 +42,6 @@ number-of (suc (suc (suc zero))) p q = refl
 number-of (suc (suc (suc (suc k)))) p q = absurd (omega arith)
 
 -- the rows of a table's content, and the cells of a row
-rows-length : (m n : ℕ) (l : Bytes) → length (rowsFrom m n l) ≡ n
-unfolding rowsFrom
-rows-length m zero l = refl
-rows-length m (suc n) l = ap suc (rows-length m n (drop (4 * m) l))
-
 row-at : (m n r : ℕ) (l : Bytes) → r < n → getD (rowsFrom m n l) r junk ≡ rec (cells m (drop (4 * (m * r)) l))
 unfolding rowsFrom
 row-at m zero r l p = absurd (omega arith)

@@ -11,11 +11,12 @@ use lib.Seq.{getD-drop}
 use Rattle.calculus.specs.Value.{Table, Tables}
 use Rattle.encoding.specs.Record.{Bytes, Result, refused, got, andThen, require, contentOf, behind}
 use Rattle.encoding.specs.Data.{tableOf, tablesFrom, readData}
+use Rattle.signed.proofs.Word.{no}
 use Rattle.tables.specs.Description.{Describes}
 use Rattle.tables.specs.Reading.{tableAt, descriptionsFrom, descriptions, numberOf, Stored, ReadsData}
 use Rattle.tables.specs.declared.TableRead.{TableRead}
 use Rattle.tables.specs.declared.TableRead.the-variants.{Is, Refused}
-use Rattle.tables.proofs.Records.{never, front, tables-ninth, tables-none, refused-at, ReadAt, read-at, read-tables, read-descriptions}
+use Rattle.tables.proofs.Records.{front, tables-ninth, tables-none, refused-at, ReadAt, read-at, read-tables, read-descriptions}
 use Rattle.tables.proofs.Content.{described-here, described-behind}
 
 -- at most n tables at p
@@ -45,19 +46,19 @@ module _ (d : Bytes) (n : ℕ) (I : (p : ℕ) → Described d n p) where
     where
       behind-it : {w e : ℕ} (R : ReadAt d p w e) (S : Result Tables) → tablesFrom n (drop e d) ≡ S → front (tableOf (contentOf (drop p d))) S ≡ got T →
           Describes d T k (getD (w ∷ descriptionsFrom n e (drop e d)) k 0)
-      behind-it R (refused x) y z = never (cc)
+      behind-it R (refused x) y z = no (cc)
       behind-it R (got T′) y z =
           let o : T ≡ tableOf (contentOf (drop p d)) ∷ T′ = cc in
           rw o (described-all R T′ y k (rw o at q))
 
       at-record : (r : TableRead) → tableAt d p ≡ r → Describes d T k (getD (descriptionsFrom (suc n) p (drop p d)) k 0)
-      at-record (Refused x) y = never (cc (refused-at d p n m y))
+      at-record (Refused x) y = no (cc (refused-at d p n m y))
       at-record (Is w e) y =
           let R = read-at d p y in
           rw (read-descriptions R n m) (behind-it R (tablesFrom n (drop e d)) refl (sym (read-tables R n m) ∙ h))
 
 described-from : (d : Bytes) (n p : ℕ) → Described d n p
-described-from d zero p T h k q = ⊎-elim (λ e. none-left d zero p e T h k q) (λ m. never (cc (tables-ninth (drop p d) m))) (some-or-none (drop p d))
+described-from d zero p T h k q = ⊎-elim (λ e. none-left d zero p e T h k q) (λ m. no (cc (tables-ninth (drop p d) m))) (some-or-none (drop p d))
 described-from d (suc n) p T h k q =
     ⊎-elim (λ e. none-left d (suc n) p e T h k q) (λ m. one-more d n (described-from d n) p m T h k q) (some-or-none (drop p d))
 

@@ -1,6 +1,6 @@
 -- Laws of the tables' descriptions and of the data's reading.
-mod Records
-mod Readers
+pub mod Records
+pub mod Readers
 mod Loop
 mod Content
 pub mod Laws

@@ -10,9 +10,10 @@ use lib.Seq.{drop-set-lt, getD-set-same, getD-set-other}
 use Rattle.calculus.specs.Value.{Table, Tables}
 use Rattle.encoding.specs.Record.{Bytes, Result, refused, got, andThen, contentOf}
 use Rattle.encoding.specs.Data.{tableOf, tablesFrom, readData}
+use Rattle.signed.proofs.Word.{no}
 use Rattle.tables.specs.Reading.{tableAt, descriptionsFrom, descriptions, numberOf, Stored, ReadsData}
 use Rattle.tables.specs.declared.TableRead.the-variants.{Is, Refused}
-use Rattle.tables.proofs.Records.{never, front, tables-ninth, tables-none, refused-at, ReadAt, read-at, next-far, next-within, next-near, read-tables, read-descriptions}
+use Rattle.tables.proofs.Records.{front, tables-ninth, tables-none, refused-at, ReadAt, read-at, next-far, next-within, next-near, read-tables, read-descriptions}
 
 -- the readings of the records so far, done, and of those that follow
 abbrev after : Tables → Result Tables → Result Tables
@@ -40,6 +41,7 @@ pub record Going (d : Bytes) (s₀ s : List ℕ) (p n : ℕ) : Type 0 where
   pub rest : readData d ≡ after done (tablesFrom (8 - n) (drop p d))
   pub words : (k : ℕ) → getD (descriptions d) (n + k) 0 ≡ getD (descriptionsFrom (8 - n) p (drop p d)) k 0
   pub each : 9 ≤ length s₀ → (k : ℕ) → k < n → getD s (1 + k) 0 ≡ getD (descriptions d) k 0
+  pub others : (j : ℕ) → n < j → getD s j 0 ≡ getD s₀ j 0
 
 pub going-first : (d : Bytes) (s : List ℕ) → Going d s s 0 0
 unfolding readData descriptions
@@ -55,6 +57,7 @@ going-first d s =
       rest = after-none (tablesFrom 8 d);
       words = λ k. rw zero-add;
       each = λ l k q. absurd (omega arith);
+      others = λ j h. refl;
     }
 
 module _ {d : Bytes} {s₀ s : List ℕ} {p n : ℕ} (g : Going d s₀ s p n) where
@@ -69,7 +72,8 @@ module _ {d : Bytes} {s₀ s : List ℕ} {p n : ℕ} (g : Going d s₀ s p n) wh
           number = rw e;
           long = g .long;
           kept = g .kept;
-          stored = λ T h m. never (cc);
+          stored = λ T h m. no (cc);
+          others = λ T h j m. no (cc);
         }
 
     pub going-ninth : n ≡ 8 → ReadsData d s₀ s 13
@@ -113,6 +117,7 @@ module _ {d : Bytes} {s₀ s : List ℕ} {p n : ℕ} (g : Going d s₀ s p n) wh
               rest = g .rest ∙ rw (left, read-tables R (8 - (n + 1)) some) (after-front (g .done) _ _);
               words = λ k. ap (λ i. getD (descriptions d) i 0) (index k) ∙ rw words-now at (g .words (suc k));
               each = λ m k q. ⊎-elim (λ i. rw i (word-last m)) (λ i. rw z (getD-set-other s (n + 1) (1 + k) w 0 (λ j. omega arith)) ∙ g .each m k i) (eq-or-lt-of-le {n = k} {m = n} (omega arith));
+              others = λ j h. rw z (getD-set-other s (n + 1) j w 0 (λ i. omega arith)) ∙ g .others j (omega arith);
             }
           where
             index : (k : ℕ) → n + 1 + k ≡ n + suc k
@@ -131,11 +136,15 @@ module _ {d : Bytes} {s₀ s : List ℕ} {p n : ℕ} (g : Going d s₀ s p n) wh
           long = rw (z, length-set) (g .long);
           kept = rw z (drop-set-lt 9 s 0 n (omega arith) ∙ g .kept);
           stored = λ T h m. store T (cc all) m;
+          others = λ T h j m. rw z (getD-set-other s 0 j n 0 (λ i. omega arith)) ∙ g .others j (omega (arith, counted T (cc all)));
         }
       where
+        counted : (T : Tables) → T ≡ g .done ++ [] → length T ≡ n
+        counted T h = rw h (length-append (g .done) [] ∙ omega (arith, g .count))
+
         store : (T : Tables) → T ≡ g .done ++ [] → 9 ≤ length s₀ → Stored d T s′
         store T h m =
-            let c : length T ≡ n = rw h (length-append (g .done) [] ∙ omega (arith, g .count)) in
+            let c : length T ≡ n = counted T h in
             record {
               count = rw (z, c) (getD-set-same s 0 n 0 (omega (arith, g .long)));
               each = λ k q. rw z (getD-set-other s 0 (1 + k) n 0 (λ j. omega arith)) ∙ g .each m k (omega arith);

@@ -13,13 +13,14 @@ use mir.Val.{SFits, toZ, ofZ}
 use mir.Facts.{toZ-ofZ}
 use borrow.Author.Tests.{lt-ltb, le-ltb, eqb-true, eqb-false}
 use Rattle.calculus.specs.Lists.{pick}
-use Rattle.signed.proofs.Word.{up, mag-sub}
+use Rattle.signed.proofs.Word.{up, mag-sub, no}
 use Rattle.signed.proofs.Word as Wo
 use Rattle.encoding.specs.Record.{Bytes, byte, two, four, signed, lengthOf, contentOf}
-use Rattle.encoding.specs.Data.{fits}
+use Rattle.encoding.specs.Data.{isTable, fits}
+use Rattle.encoding.proofs.Data.{Fit, fit}
 use Rattle.tables.specs.Description.{descriptionOf, columnsIn, rowsIn, positionIn, cellIn, CellOf}
-use Rattle.tables.specs.Reading.{isTable, headerOf, tableAt}
-use Rattle.tables.proofs.Records.{never, passes, Whole, whole, whole-is, Fit, fit, fit-is}
+use Rattle.tables.specs.Reading.{headerOf, tableAt}
+use Rattle.tables.proofs.Records.{passes, Whole, whole, whole-is, fit-is}
 use Rattle.tables.specs.declared.Header.{Header}
 use Rattle.tables.specs.declared.Header.the-variants.{Record, Bad}
 use Rattle.tables.specs.declared.TableRead.the-variants.{Is, Refused}
@@ -95,20 +96,20 @@ module _ {d : Bytes} {w r c : ℕ} where
         }
 
 -- what a header that was found says of the bytes
-found : (l : Bytes) {n : ℕ} → headerOf l ≡ Record n → (isTable l ≡ true) × (lengthOf l ≡ n)
+pub found : (l : Bytes) {n : ℕ} → headerOf l ≡ Record n → (isTable l ≡ true) × (lengthOf l ≡ n)
 unfolding headerOf pick
 found l {n} e = go (isTable l) e
   where
     go : (t : Bool) → pick t (Record (lengthOf l)) Bad ≡ Record n → (t ≡ true) × (lengthOf l ≡ n)
     go true h = (refl, cc)
-    go false h = never (cc)
+    go false h = no (cc)
 
-not-found : (l : Bytes) → headerOf l ≡ Bad → isTable l ≡ false
+pub not-found : (l : Bytes) → headerOf l ≡ Bad → isTable l ≡ false
 unfolding headerOf pick
 not-found l e = go (isTable l) e
   where
     go : (t : Bool) → pick t (Record (lengthOf l)) Bad ≡ Bad → t ≡ false
-    go true h = never (cc)
+    go true h = no (cc)
     go false h = refl
 
 -- table_at

@@ -1,6 +1,6 @@
 -- Laws of the data's records: what 11 and 12 leave, and how a reading goes on behind a record. Assumes nothing.
 use mathlib.Core.Path.{_≡_, refl, ap, _∙_}
-use mathlib.Core.Bool.{Bool, true, false, _&&_}
+use mathlib.Core.Bool.{Bool, true, false, _&&_, and-eq-true-iff}
 use mathlib.Core.List.{[], _∷_}
 use Prim.Native.Nat.{ℕ, zero, suc, _+_, _*_, _≤_, _<_}
 use native.Mathlib.Nat.{le-trans, mul-le-mul-left, mul-le-mul-right}
@@ -12,23 +12,17 @@ use borrow.Author.Tests.{leb-true, eqb-true, le-leb, eq-eqb}
 use Rattle.calculus.specs.Lists.{pick}
 use Rattle.calculus.specs.Value.{Table, Tables}
 use Rattle.encoding.specs.Record.{Bytes, Result, refused, got, andThen, require, byte, two, lengthOf, kindOf, contentOf, behind, isWhole}
-use Rattle.encoding.specs.Data.{fits, tableOf, tablesFrom}
+use Rattle.encoding.specs.Data.{isTable, fits, tableOf, tablesFrom}
+use Rattle.encoding.proofs.Data.{Fit, fit}
+use Rattle.signed.proofs.Word.{no}
 use Rattle.tables.specs.Description.{descriptionOf}
-use Rattle.tables.specs.Reading.{isTable, tableAt, descriptionsFrom}
+use Rattle.tables.specs.Reading.{tableAt, descriptionsFrom}
 use Rattle.tables.specs.declared.TableRead.the-variants.{Is, Refused}
-
--- what two constructors that are equal prove
-pub never : {A : Type 0} → _≡_ {A = ℕ} 0 1 → A
-never e = absurd (omega arith)
 
 -- a test, and the facts that it tests
 pub passes : (t : Bool) {F : Type 0} → (t ≡ true → F) → (F → ⊥) → t ≡ false
 passes true h k = absurd (k (h refl))
 passes false h k = refl
-
-and-both : (a b : Bool) → (a && b) ≡ true → (a ≡ true) × (b ≡ true)
-and-both true b e = (refl, e)
-and-both false b e = never (cc)
 
 -- what 11 leaves
 pub record Whole (l : Bytes) : Type 0 where
@@ -41,9 +35,9 @@ whole l e = go (leb 4 (length l)) e
   where
     go : (t : Bool) → (pick t (leb (4 + lengthOf l) (length l)) false && eqb (kindOf l) 20) ≡ true → Whole l
     go true h =
-        let f = and-both (leb (4 + lengthOf l) (length l)) (eqb (kindOf l) 20) h in
+        let f = and-eq-true-iff (leb (4 + lengthOf l) (length l)) (eqb (kindOf l) 20) .0 h in
         record { within = leb-true (4 + lengthOf l) (length l) (f .0); kind = eqb-true (kindOf l) 20 (f .1) }
-    go false h = never (cc)
+    go false h = no (cc)
 
 pub whole-is : (l : Bytes) → Whole l → isTable l ≡ true
 unfolding isWhole pick
@@ -53,33 +47,7 @@ whole-is l w =
 pub content-length : (l : Bytes) → Whole l → length (contentOf l) ≡ lengthOf l
 content-length l w = length-take-le (lengthOf l) (drop 4 l) (rw length-drop (omega (arith, w .within)))
 
--- what 12 leaves
-pub record Fit (c : Bytes) : Type 0 where
-  pub collection-least : 1 ≤ byte c 0
-  pub collection-most : byte c 0 ≤ 3
-  pub columns-least : 1 ≤ byte c 1
-  pub columns-most : byte c 1 ≤ 8
-  pub rows-most : two c 2 ≤ 1024
-  pub long : length c ≡ 4 + 4 * (byte c 1 * two c 2)
-
-pub fit : (c : Bytes) → fits c ≡ true → Fit c
-unfolding fits
-fit c e =
-    let f1 = and-both (leb 4 (length c)) _ e in
-    let f2 = and-both (leb 1 (byte c 0)) _ (f1 .1) in
-    let f3 = and-both _ _ (f2 .1) in
-    let f4 = and-both (leb 1 (byte c 1)) _ (f3 .1) in
-    let f5 = and-both _ _ (f4 .1) in
-    let f6 = and-both _ _ (f5 .1) in
-    record {
-      collection-least = leb-true 1 (byte c 0) (f2 .0);
-      collection-most = leb-true (byte c 0) 3 (f3 .0);
-      columns-least = leb-true 1 (byte c 1) (f4 .0);
-      columns-most = leb-true (byte c 1) 8 (f5 .0);
-      rows-most = leb-true (two c 2) 1024 (f6 .0);
-      long = eqb-true (length c) (4 + 4 * (byte c 1 * two c 2)) (f6 .1);
-    }
-
+-- ---- what 12 leaves
 pub fit-is : (c : Bytes) → Fit c → fits c ≡ true
 unfolding fits
 fit-is c f =
@@ -139,8 +107,8 @@ read-at d p {w} {e} h = go _ _ refl refl h
         pick a (pick b (Is (descriptionOf (contentOf (drop p d)) (p + 8)) (p + 4 + lengthOf (drop p d))) (Refused 12)) (Refused 11) ≡ Is w e →
         ReadAt d p w e
     go true true f g h = record { good = f; fitting = g; word = cc; next = cc }
-    go true false f g h = never (cc)
-    go false b f g h = never (cc)
+    go true false f g h = no (cc)
+    go false b f g h = no (cc)
 
 module _ {d : Bytes} {p w e : ℕ} (R : ReadAt d p w e) where
   pub read-whole : Whole (drop p d)
@@ -180,6 +148,6 @@ refused-at d p n {x} q h = tables-one n (drop p d) q ∙ go (isTable (drop p d))
     go : (a b : Bool) →
         pick a (pick b (Is (descriptionOf (contentOf (drop p d)) (p + 8)) (p + 4 + lengthOf (drop p d))) (Refused 12)) (Refused 11) ≡ Refused x →
         require 11 a (require 12 b (front (tableOf (contentOf (drop p d))) (tablesFrom n (behind (drop p d))))) ≡ refused x
-    go true true h = never (cc)
+    go true true h = no (cc)
     go true false h = cc
     go false b h = cc

@@ -1,23 +1,17 @@
 -- The reading of the data: each record's header and content, and what is kept in scratch.
 use mathlib.Core.Path.{_≡_}
 use mathlib.Core.List.{List, [], _∷_}
-use mathlib.Core.Bool.{Bool, _&&_}
 use Prim.Native.Nat.{ℕ, zero, suc, _+_, _≤_, _<_}
-use lib.Dec.{eqb}
 use lib.ListN.{length, getD, drop}
 use Rattle.calculus.specs.Lists.{pick}
 use Rattle.calculus.specs.Value.{Tables}
-use Rattle.encoding.specs.Record.{Bytes, Result, refused, got, lengthOf, kindOf, contentOf, behind, isWhole}
-use Rattle.encoding.specs.Data.{fits, readData}
+use Rattle.encoding.specs.Record.{Bytes, Result, refused, got, lengthOf, contentOf, behind}
+use Rattle.encoding.specs.Data.{isTable, fits, readData}
 use Rattle.tables.specs.Description.{descriptionOf}
 use Rattle.tables.specs.declared.Header.{Header}
 use Rattle.tables.specs.declared.Header.the-variants.{Record, Bad}
 use Rattle.tables.specs.declared.TableRead.{TableRead}
 use Rattle.tables.specs.declared.TableRead.the-variants.{Is, Refused}
-
--- "11: a record cut short or not kind 20"
-abbrev pub isTable : Bytes → Bool
-isTable l = isWhole l && eqb (kindOf l) 20
 
 unfoldable pub headerOf : Bytes → Header
 headerOf l = pick (isTable l) (Record (lengthOf l)) Bad
@@ -51,9 +45,10 @@ pub record Stored (d : Bytes) (T : Tables) (s : List ℕ) : Type 0 where
   pub count : getD s 0 0 ≡ length T
   pub each : (k : ℕ) → k < length T → getD s (1 + k) 0 ≡ getD (descriptions d) k 0
 
--- what `read_data` does with scratch s: it leaves s′ and answers r
+-- what `read_data` does with scratch s: it leaves s′ and answers r. Behind the last description every word is as before
 pub record ReadsData (d : Bytes) (s s′ : List ℕ) (r : ℕ) : Type 0 where
   pub number : r ≡ numberOf (readData d)
   pub long : length s′ ≡ length s
   pub kept : drop 9 s′ ≡ drop 9 s
   pub stored : (T : Tables) → readData d ≡ got T → 9 ≤ length s → Stored d T s′
+  pub others : (T : Tables) → readData d ≡ got T → (j : ℕ) → length T < j → getD s′ j 0 ≡ getD s j 0

@@ -1,20 +1,20 @@
 -- 25 and 26 for words in which tables were read, and whose nodes hold a question.
-use mathlib.Core.Path.{_≡_, refl, ap, _∙_}
+use mathlib.Core.Path.{_≡_, ap, _∙_}
 use mathlib.Core.List.{List}
 use mathlib.Core.Bool.{Bool, true, false}
 use Prim.Native.Nat.{ℕ, _-_, _≤_}
 use lib.ListN.{length}
-use Rattle.calculus.specs.Syntax.{Collection, list, bag, set, Question, asTerm}
+use Rattle.calculus.specs.Syntax.{Question, asTerm}
 use Rattle.calculus.specs.Value.{Tables, kindOf}
 use Rattle.checks.specs.Types.{typesFit, generatorsFit}
 use Rattle.decode.specs.Decode.{nodesOf}
 use Rattle.encoding.specs.Data.{readData}
 use Rattle.encoding.specs.Record.{Bytes, got}
 use Rattle.nodes.specs.Tree.{noNames, Holds}
-use Rattle.tables.specs.Description.{collectionNumber}
 use Rattle.tables.specs.Reading.{Stored}
 use Rattle.tables.proofs.Laws.{described-word, tables-most}
 use Rattle.types.specs.Words.{collectionBy, knownIn, Judges}
+use Rattle.types.proofs.Laws.{by-number}
 use Rattle.types.proofs.Represents.{Knows}
 use Rattle.types.proofs.Fitting.{types-fit-is, generators-fit-is}
 
@@ -27,12 +27,6 @@ pub record Checked (d : Bytes) (T : Tables) (q : Question) (s : List ℕ) (n : �
   pub long : 784 ≤ length s
   pub depth : ℕ → ℕ
   pub holds : Holds (nodesOf s) depth (asTerm q) (n - 1) 0 noNames
-
-by-number : (c : Collection) → collectionBy (collectionNumber c) ≡ c
-unfolding collectionNumber
-by-number list = refl
-by-number bag = refl
-by-number set = refl
 
 module _ {d : Bytes} {T : Tables} {q : Question} {s : List ℕ} {n : ℕ} (C : Checked d T q s n) where
   knows : Knows (knownIn s) T

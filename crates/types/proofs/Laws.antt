@@ -26,16 +26,18 @@ use Rattle.monoid.specs.declared.Monoid.{Monoid}
 use Rattle.monoid.specs.declared.Monoid.the-variants as Mo
 use Rattle.monoid.specs.Word.{monoidOf, numberOf}
 use Rattle.nodes.specs.Node.{Nodes}
+use Rattle.nodes.specs.Node as Nd
 use Rattle.question.specs.Layout.{shapesAt}
 use Rattle.question.specs.Packing.{argOf, nodeWord}
 use Rattle.question.specs.Tree.{startAt}
+use Rattle.tables.specs.Description.{collectionNumber}
 use Rattle.types.specs.declared.Shape.{Shape}
 use Rattle.types.specs.declared.Shape.the-variants.{Wrong, Number, Truth, Record, Row, Table, Coll}
 use Rattle.types.specs.declared.Made.{Made}
 use Rattle.types.specs.declared.Made.the-variants as Ma
 use Rattle.types.specs.Typing.{Rule}
 use Rattle.types.specs.Shapes.{Known, fits, partsOf, collects, collectionOf, headOf, partShape, fieldShape, elementShape, stands, allFit, qualFits, qualsFit, shapeBy}
-use Rattle.types.specs.Words.{shapeIn, shapesIn, collectionBy, knownIn, rules, MadeBy, Makes, fieldAt, elementAt, mayRange, qualFitsAt, shapeWord, shapeOf, shaped, shapedUpTo, Judges}
+use Rattle.types.specs.Words.{shapeIn, shapesIn, collectionBy, knownIn, rules, Plain, MadeBy, Makes, fieldAt, elementAt, mayRange, qualFitsAt, shapeWord, shapeOf, shaped, shapedUpTo, Judges}
 
 -- ---- tests
 pub pick-yes : {A : Type 0} {b : Bool} {x : A} (y : A) → b ≡ true → x ≡ pick b x y
@@ -139,35 +141,66 @@ module _ {s : List ℕ} {j : ℕ} {n : Node} (H : Looks s j n) where
 abbrev pub others : List ℕ
 others = 0 ∷ 1 ∷ 2 ∷ 3 ∷ 5 ∷ 6 ∷ 8 ∷ 9 ∷ 10 ∷ 11 ∷ 12 ∷ []
 
-other-made : (s : List ℕ) (j : ℕ) (n : Node) → OneOf others (tagOf node.the-type n) →
-    (partsOf (nodeNamed s j n) ≡ []) × (collectionOf (nodeNamed s j n) ≡ list) × (headOf (nodeNamed s j n) ≡ 0)
-other-made s j (No.Number z) h = (refl, refl, refl)
-other-made s j (No.Truth b) h = (refl, refl, refl)
-other-made s j (No.Name x d) h = (refl, refl, refl)
-other-made s j (No.Field k c) h = (refl, refl, refl)
-other-made s j No.Record h = absurd (miss others 4 tt h)
-other-made s j (No.Two o a b) h = (refl, refl, refl)
-other-made s j (No.Not c) h = (refl, refl, refl)
-other-made s j (No.Comp m c) h = absurd (miss others 7 tt h)
-other-made s j (No.Table k) h = (refl, refl, refl)
-other-made s j (No.Gen c) h = (refl, refl, refl)
-other-made s j (No.Bind c) h = (refl, refl, refl)
-other-made s j (No.Cond c) h = (refl, refl, refl)
-other-made s j No.Bad h = (refl, refl, refl)
+other-made : (s : List ℕ) (j : ℕ) (n : Node) → OneOf others (tagOf node.the-type n) → Plain (nodeNamed s j n)
+other-made s j (No.Number z) h = tt
+other-made s j (No.Truth b) h = tt
+other-made s j (No.Name x d) h = tt
+other-made s j (No.Field k c) h = tt
+other-made s j No.Record h = miss others 4 tt h
+other-made s j (No.Two o a b) h = tt
+other-made s j (No.Not c) h = tt
+other-made s j (No.Comp m c) h = miss others 7 tt h
+other-made s j (No.Table k) h = tt
+other-made s j (No.Gen c) h = tt
+other-made s j (No.Bind c) h = tt
+other-made s j (No.Cond c) h = tt
+other-made s j No.Bad h = tt
 
 pub makes-other : {s : List ℕ} {j : ℕ} {n : Node} → Looks s j n → OneOf others (tagOf node.the-type n) → Makes s j Ma.Other
-makes-other {s} {j} {n} H h =
-    let o = other-made s j n h in
-    record { is = (ap partsOf (H .is) ∙ o .0, ap collectionOf (H .is) ∙ o .1, ap headOf (H .is) ∙ o .2) }
+makes-other {s} {j} {n} H h = record { is = subst Plain (sym (H .is)) (other-made s j n h) }
 
-by-number : (m : Monoid) → collectionBy (numberOf m) ≡ collects (monoidOf m)
-by-number Mo.List = refl
-by-number Mo.Bag = refl
-by-number Mo.Set = refl
-by-number Mo.Sum = refl
-by-number Mo.Max = refl
-by-number Mo.Some = refl
-by-number Mo.All = refl
+-- what makes neither has no parts, no collection of its own and no head
+plain-none : (y : Nd.Node) → Plain y → (partsOf y ≡ []) × (collectionOf y ≡ list) × (headOf y ≡ 0)
+plain-none (Nd.nnum z) p = (refl, refl, refl)
+plain-none (Nd.ntruth b) p = (refl, refl, refl)
+plain-none (Nd.nname x d) p = (refl, refl, refl)
+plain-none (Nd.nfield k c) p = (refl, refl, refl)
+plain-none (Nd.nrec cs) p = absurd p
+plain-none (Nd.nbin o a b) p = (refl, refl, refl)
+plain-none (Nd.nnegate c) p = (refl, refl, refl)
+plain-none (Nd.ncomp m cs h) p = absurd p
+plain-none (Nd.ntable k) p = (refl, refl, refl)
+plain-none (Nd.ngen c) p = (refl, refl, refl)
+plain-none (Nd.nbind c) p = (refl, refl, refl)
+plain-none (Nd.ncond c) p = (refl, refl, refl)
+plain-none Nd.nbad p = (refl, refl, refl)
+
+-- ---- a collection's number
+pub by-number : (c : Sy.Collection) → collectionBy (collectionNumber c) ≡ c
+unfolding collectionNumber
+by-number list = refl
+by-number bag = refl
+by-number set = refl
+
+pub number-low : (m : Monoid) → numberOf m < 4 → numberOf m ≡ collectionNumber (collects (monoidOf m))
+unfolding collectionNumber
+number-low Mo.List h = refl
+number-low Mo.Bag h = refl
+number-low Mo.Set h = refl
+number-low Mo.Sum h = absurd (omega arith)
+number-low Mo.Max h = absurd (omega arith)
+number-low Mo.Some h = absurd (omega arith)
+number-low Mo.All h = absurd (omega arith)
+
+pub number-high : (m : Monoid) → 4 ≤ numberOf m → 1 ≡ collectionNumber (collects (monoidOf m))
+unfolding collectionNumber
+number-high Mo.List h = absurd (omega arith)
+number-high Mo.Bag h = absurd (omega arith)
+number-high Mo.Set h = absurd (omega arith)
+number-high Mo.Sum h = refl
+number-high Mo.Max h = refl
+number-high Mo.Some h = refl
+number-high Mo.All h = refl
 
 same-at : (d c : ℕ) → _≡_ {A = Found} (At d) (At c) → c ≡ d
 same-at d c e = cc
@@ -191,17 +224,22 @@ module _ {s : List ℕ} {j : ℕ} {r : Made} (H : Makes s j r) where
   pub head-record : r ≡ Ma.Record → 0 ≡ headOf (nodesOf s j)
   head-record e = sym (ap headOf (subst (MadeBy s j) e (H .is)))
 
+  other : r ≡ Ma.Other → (partsOf (nodesOf s j) ≡ []) × (collectionOf (nodesOf s j) ≡ list) × (headOf (nodesOf s j) ≡ 0)
+  other e = plain-none (nodesOf s j) (subst (MadeBy s j) e (H .is))
+
   pub head-other : r ≡ Ma.Other → 0 ≡ headOf (nodesOf s j)
-  head-other e = sym (subst (MadeBy s j) e (H .is) .2)
+  head-other e = sym (other e .2)
 
-  pub gathered-comp : {m : Monoid} {h k : ℕ} → r ≡ Ma.Comp m h → k ≡ numberOf m → collectionBy k ≡ collectionOf (nodesOf s j)
-  gathered-comp {m} e q = ap collectionBy q ∙ by-number m ∙ sym (ap collectionOf (subst (MadeBy s j) e (H .is)))
+  pub gathered-comp : {m : Monoid} {h k : ℕ} → r ≡ Ma.Comp m h → k ≡ collectionNumber (collects (monoidOf m)) → k ≡ collectionNumber (collectionOf (nodesOf s j))
+  gathered-comp e q = q ∙ sym (ap (λ y. collectionNumber (collectionOf y)) (subst (MadeBy s j) e (H .is)))
 
-  pub gathered-record : r ≡ Ma.Record → list ≡ collectionOf (nodesOf s j)
-  gathered-record e = sym (ap collectionOf (subst (MadeBy s j) e (H .is)))
+  pub gathered-record : r ≡ Ma.Record → 1 ≡ collectionNumber (collectionOf (nodesOf s j))
+  unfolding collectionNumber
+  gathered-record e = sym (ap (λ y. collectionNumber (collectionOf y)) (subst (MadeBy s j) e (H .is)))
 
-  pub gathered-other : r ≡ Ma.Other → list ≡ collectionOf (nodesOf s j)
-  gathered-other e = sym (subst (MadeBy s j) e (H .is) .1)
+  pub gathered-other : r ≡ Ma.Other → 1 ≡ collectionNumber (collectionOf (nodesOf s j))
+  unfolding collectionNumber
+  gathered-other e = sym (ap collectionNumber (other e .1))
 
   pub part-none : (k : ℕ) {m : Monoid} {h : ℕ} → r ≡ Ma.Comp m h → Wrong ≡ partShape (shapesIn s) k (partsOf (nodesOf s j))
   unfolding partShape
@@ -209,7 +247,7 @@ module _ {s : List ℕ} {j : ℕ} {r : Made} (H : Makes s j r) where
 
   pub part-other : (k : ℕ) → r ≡ Ma.Other → Wrong ≡ partShape (shapesIn s) k (partsOf (nodesOf s j))
   unfolding partShape
-  part-other k e = sym (ap (partShape (shapesIn s) k) (subst (MadeBy s j) e (H .is) .0))
+  part-other k e = sym (ap (partShape (shapesIn s) k) (other e .0))
 
   module _ (e : r ≡ Ma.Record) {k : ℕ} {f : Found} (C : Picks s j k f) where
     part-is : partShape (shapesIn s) k (partsOf (nodesOf s j)) ≡ partShape (shapesIn s) k (childrenOf s j)

@@ -6,12 +6,12 @@ use Prim.Native.Nat.{ℕ, zero, suc, _+_, _-_, _*_, _/_, _%_, _^_}
 use lib.Dec.{ltb}
 use lib.ListN.{getD, set}
 use Rattle.calculus.specs.Lists.{pick}
-use Rattle.calculus.specs.Syntax.{Collection, list, Monoid}
+use Rattle.calculus.specs.Syntax.{Collection, Monoid}
 use Rattle.encoding.specs.Data as Data
 use Rattle.checks.specs.Types.{mayStand}
 use Rattle.decode.specs.Decode.{childrenOf, qualifiersOf, nodesOf}
 use Rattle.monoid.specs.Word.{monoidOf}
-use Rattle.nodes.specs.Node.{nrec, ncomp}
+use Rattle.nodes.specs.Node.{Node, nnum, ntruth, nname, nfield, nrec, nbin, nnegate, ncomp, ntable, ngen, nbind, ncond, nbad}
 use Rattle.question.specs.Layout.{shapesAt}
 use Rattle.tables.specs.Description.{collectionIn, columnsIn}
 use Rattle.types.specs.declared.Shape.{Shape}
@@ -19,7 +19,7 @@ use Rattle.types.specs.declared.Shape.the-variants.{Wrong, Number, Truth
 use Rattle.types.specs.declared.Made.{Made}
 use Rattle.types.specs.declared.Made.the-variants as Ma
 use Rattle.types.specs.Typing.{Rule}
-use Rattle.types.specs.Shapes.{Known, fits, partsOf, collectionOf, headOf, partShape, fieldShape, elementShape, stands, compShape, allFit, qualFits, qualsFit, shapeBy}
+use Rattle.types.specs.Shapes.{Known, fits, partsOf, partShape, fieldShape, elementShape, stands, compShape, allFit, qualFits, qualsFit, shapeBy}
 
 -- a shape's word: its class, and above it the number that it has; no number is that large
 abbrev pub numbered : ℕ → ℕ → ℕ
@@ -54,11 +54,27 @@ abbrev pub rules : Bool → Rule
 rules false c m = true
 rules true c m = mayStand c m
 
+-- what makes neither a record nor a comprehension
+abbrev pub Plain : Node → Type 0
+Plain (nnum z) = Unit {0}
+Plain (ntruth b) = Unit {0}
+Plain (nname x d) = Unit {0}
+Plain (nfield k c) = Unit {0}
+Plain (nrec cs) = ⊥
+Plain (nbin o a b) = Unit {0}
+Plain (nnegate c) = Unit {0}
+Plain (ncomp m cs h) = ⊥
+Plain (ntable k) = Unit {0}
+Plain (ngen c) = Unit {0}
+Plain (nbind c) = Unit {0}
+Plain (ncond c) = Unit {0}
+Plain nbad = Unit {0}
+
 -- what node j makes: a record, or a comprehension with its monoid and its head
 abbrev pub MadeBy : List ℕ → ℕ → Made → Type 0
 MadeBy s j Ma.Record = nodesOf s j ≡ nrec (childrenOf s j)
 MadeBy s j (Ma.Comp m h) = nodesOf s j ≡ ncomp (monoidOf m) (qualifiersOf s j) h
-MadeBy s j Ma.Other = (partsOf (nodesOf s j) ≡ []) × (collectionOf (nodesOf s j) ≡ list) × (headOf (nodesOf s j) ≡ 0)
+MadeBy s j Ma.Other = Plain (nodesOf s j)
 
 pub record Makes (s : List ℕ) (j : ℕ) (r : Made) : Type 0 where
   pub is : MadeBy s j r

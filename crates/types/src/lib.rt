@@ -7,7 +7,8 @@ ghost use Rattle.checks.specs.Types.{mayStand};
 ghost use Rattle.decode.specs.Decode.{nodesOf};
 ghost use Rattle.decode.specs.Look.{binOf};
 ghost use Rattle.monoid.specs.Word.{monoidOf};
-ghost use Rattle.types.specs.Shapes.{classOf, fits, isNumber, isTruth, collectionOf, headOf, cellShape, numberShape, truthShape, gathersShape, twoNumbers, twoTruths, binShape, compShape};
+ghost use Rattle.tables.specs.Description.{collectionNumber};
+ghost use Rattle.types.specs.Shapes.{classOf, fits, isNumber, isTruth, collects, collectionOf, headOf, cellShape, numberShape, truthShape, gathersShape, twoNumbers, twoTruths, binShape, compShape};
 ghost use Rattle.types.specs.Words.{numbered as numberedWord, shapeWord, shapeIn, shapesIn, collectionBy, rules, Makes, tableAt, partAt, fieldAt, elementAt, partsFit, mayRange, qualFitsAt, qualsFitAt, recordAt, compAt, shapeOf, shapedUpTo, Judges};
 use decode::Found;
 use decode::Node;
@@ -153,6 +154,7 @@ fn table(s: &[u64], k: usize) -> Shape
 
 // ---- what a shape refers to
 
+// What node j makes.
 fn maker(s: &[u64], j: usize) -> Made
     ensures { λ r. ⌜ Makes (now (s .entry)) j r ⌝ }
 {
@@ -188,12 +190,20 @@ fn head(s: &[u64], j: usize) -> usize
     }
 }
 
-// Its collection's number.
+// The number of the collection that m makes; a list's where it makes none.
+fn collection_of(m: Monoid) -> u64
+    ensures { λ r. ⌜ r ≡ collectionNumber (collects (monoidOf m)) ⌝ }
+{
+    let k = m.number();
+    if k < 4 { k } else { 1 }
+}
+
+// The number of the collection that the comprehension at node j makes; a list's where it makes none.
 fn gathered(s: &[u64], j: usize) -> u64
-    ensures { λ r. ⌜ collectionBy r ≡ collectionOf (nodesOf (now (s .entry)) j) ⌝ }
+    ensures { λ r. ⌜ r ≡ collectionNumber (collectionOf (nodesOf (now (s .entry)) j)) ⌝ }
 {
     match maker(s, j) {
-        Made::Comp(m, _) => m.number(),
+        Made::Comp(m, _) => collection_of(m),
         Made::Record => 1,
         Made::Other => 1,
     }

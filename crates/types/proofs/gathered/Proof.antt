@@ -5,7 +5,7 @@ use Rattle.types.proofs.gathered.Statement.{statement}
 use Rattle.types.proofs.gathered.Tie as tie
 
 returns : tie.Need-returns
-returns c = gathered-comp (c .before .before .before .before .maker .ensures) (c .before .before .m .given .1) (c .number .ensures)
+returns c = gathered-comp (c .before .before .before .before .maker .ensures) (c .before .before .m .given .1) (c .collection-of .ensures)
 
 returns-2 : tie.Need-returns-2
 returns-2 c = gathered-record (c .before .before .maker .ensures) (c .enum-told .given .1)

@@ -1,11 +1,12 @@
 -- `types::may_range` meets its contract.
 use mathlib.Core.Path.{sym, ap, _∙_}
 use Rattle.calculus.specs.Syntax.{Collection}
-use Rattle.types.specs.Shapes.{stands}
+use Rattle.types.specs.Shapes.{collectionOf, stands}
 use Rattle.types.specs.Words.{rules, collectionBy, mayRange}
+use Rattle.decode.specs.Decode.{nodesOf}
 use Rattle.monoid.specs.Word.{monoidOf}
 use Rattle.tables.specs.Description.{collectionIn}
-use Rattle.types.proofs.Laws.{no-range}
+use Rattle.types.proofs.Laws.{by-number, no-range}
 use borrow.Author.Needs.{needs}
 use Rattle.types.proofs.may_range.Statement.{statement}
 use Rattle.types.proofs.may_range.Tie as tie
@@ -16,7 +17,7 @@ returns c = c .allowed .ensures ∙ ap (λ (k : Collection). rules (c .before .b
 
 returns-2 : tie.Need-returns-2
 unfolding stands
-returns-2 c = c .allowed2 .ensures ∙ ap (λ (k : Collection). rules (c .before .before .before .before .before .before .args .rule) k (monoidOf (c .before .before .before .before .before .before .args .m))) (c .before .gathered .ensures) ∙ sym (ap (mayRange (c .before .before .before .before .before .before .args .rule) (c .before .before .before .before .before .before .args .s .now) (monoidOf (c .before .before .before .before .before .before .args .m))) (c .before .before .before .a2 .given .1))
+returns-2 c = c .allowed2 .ensures ∙ ap (λ (k : Collection). rules (c .before .before .before .before .before .before .args .rule) k (monoidOf (c .before .before .before .before .before .before .args .m))) (ap collectionBy (c .before .gathered .ensures) ∙ by-number (collectionOf (nodesOf (c .before .before .before .before .before .before .args .s .now) (c .before .before .before .a2 .given .0 .0)))) ∙ sym (ap (mayRange (c .before .before .before .before .before .before .args .rule) (c .before .before .before .before .before .before .args .s .now) (monoidOf (c .before .before .before .before .before .before .args .m))) (c .before .before .before .a2 .given .1))
 
 returns-3 : tie.Need-returns-3
 returns-3 c = no-range (c .before .before .args .rule) (c .before .before .args .s .now) (monoidOf (c .before .before .args .m)) (c .before .before .args .a) (c .match .keys3)

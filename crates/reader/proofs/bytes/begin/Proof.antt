@@ -1,18 +1,19 @@
 -- `reader::bytes::begin` meets its contract.
 use mathlib.Core.Path.{refl}
-use Rattle.reader.proofs.Leaves.{headed, not-headed, begin-none, begin-deep, begin-many, begin-cut, begin-record}
+use Rattle.reader.specs.Front.{none, deep, many, cut}
+use Rattle.reader.proofs.Leaves.{headed, not-headed, begin-record}
 use borrow.Author.Needs.{needs}
 use Rattle.reader.proofs.bytes.begin.Statement.{statement}
 use Rattle.reader.proofs.bytes.begin.Tie as tie
 
 returns : tie.Need-returns
-returns c = begin-none (c .if1 .taken)
+returns c = record { is = none (c .if1 .taken) }
 
 returns-2 : tie.Need-returns-2
-returns-2 c = begin-deep (c .before .before .if1 .left) (c .if2 .taken)
+returns-2 c = record { is = deep (c .before .before .if1 .left) (c .if2 .taken) }
 
 returns-3 : tie.Need-returns-3
-returns-3 c = begin-many (c .before .before .before .before .if1 .left) (c .if3 .taken)
+returns-3 c = record { is = many (c .before .before .before .before .if1 .left) (c .if3 .taken) }
 
 read-header-requires : tie.Need-read-header-requires
 read-header-requires c κs = search needs
@@ -30,7 +31,7 @@ sub-t11 : tie.Need-sub-t11
 sub-t11 c = search needs
 
 returns-4 : tie.Need-returns-4
-returns-4 c = begin-cut (c .before .before .before .before .before .if2 .left) (c .before .before .before .if3 .left) (not-headed (c .before .before .read-header .ensures) (c .enum-told .given .1))
+returns-4 c = record { is = cut (c .before .before .before .before .before .if2 .left) (c .before .before .before .if3 .left) (not-headed (c .before .before .read-header .ensures) (c .enum-told .given .1)) }
 
 returns-5 : tie.Need-returns-5
 returns-5 c = begin-record (c .before .before .before .before .before .before .before .before .if2 .left) (c .before .before .before .before .before .before .if3 .left) (headed (c .before .before .before .before .before .read-header .ensures) (c .before .before .before .k .given .1)) refl refl refl refl
