@@ -9,7 +9,7 @@ use Rattle.form.specs.Packing.{places, wordAt, belowOf, next, nodeOf, nodeAt}
 use Rattle.form.specs.Tree.{clauseOf, formBy, clausesBy, headBy, formTree, formsTree, clausesTree, headTree}
 
 module _ (s t : List ℕ) (w : (i : ℕ) → wordAt s i ≡ wordAt t i) where
-  next-same : (i : ℕ) → next s i ≡ next t i
+  pub next-same : (i : ℕ) → next s i ≡ next t i
   unfolding next
   next-same i = ap (λ x. min (i + 1 + belowOf x) places) (w i)
 

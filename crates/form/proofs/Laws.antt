@@ -2,12 +2,12 @@
 -- tree is read from its node.
 use mathlib.Core.Path.{_≡_, refl, sym, ap, subst, _∙_}
 use mathlib.Core.Bool.{Bool, true, false, cond}
-use mathlib.Core.List.{List}
+use mathlib.Core.List.{List, [], _∷_}
 use Prim.Native.Nat.{ℕ, zero, suc, _+_, _-_, _/_, _%_, _^_, _≤_, _<_}
 use native.Mathlib.Omega.{arith}
 use borrow.Author.Tests.{le-leb, lt-leb}
-use lib.Dec.{ltb, eqb}
-use lib.ListN.{List·getD-eq-default}
+use lib.Dec.{ltb, leb, eqb}
+use lib.ListN.{getD, List·getD-eq-default}
 use lib.IntN.{ℤ, pos, negsuc, natAbs, _-ℤ_}
 use mir.Syntax.{w64}
 use mir.Val.{SFits, toZ, ofZ}
@@ -21,10 +21,14 @@ use Rattle.form.specs.declared.Op.{Op}
 use Rattle.form.specs.declared.Op.the-variants.{Plus}
 use Rattle.form.specs.declared.Node.{Node}
 use Rattle.form.specs.declared.Node.the-variants.{Number, Truth, Row, Cell, Record, Binary, Negation, Comprehension, Generator, Condition, Nothing}
+use Rattle.form.specs.declared.Leaf.{Leaf}
+use Rattle.form.specs.declared.Leaf.the-variants as Le
 use Rattle.form.specs.declared.Clause.{Clause}
+use Rattle.form.specs.declared.Clause.the-variants as Cl
 use Rattle.form.specs.Packing.{places, wordAt, kindOf, belowOf, argOf, pack, next, numberOf, operators, opAt, monoids, monoidAt, kinds, nodeOf, nodeAt}
 use Rattle.form.specs.Tree.{formBy, clauseOf, clausesBy, headBy, formTree, formsTree, clausesTree, headTree}
-use Rattle.form.specs.Look.{Inside, Looks, InsideC, LooksC}
+use Rattle.form.specs.Head as Hd
+use Rattle.form.specs.Look.{Inside, Looks, leafOf, LeafAt, LooksC}
 
 -- ---- packing
 module _ (k b a : ℕ) (hk : k < 16) (hb : b < 1024) where
@@ -92,8 +96,29 @@ monoid-rest (suc zero) n2 n3 n4 n5 n6 n7 = refl
 monoid-rest (suc (suc a)) n2 n3 n4 n5 n6 n7 = sym (List·getD-eq-default monoids Mo.List {n = suc (suc a)} (omega arith))
 
 -- ---- nodes
-above : {m k : ℕ} → m ≤ k → (k ≡ m → ⊥) → suc m ≤ k
-above p n = omega arith
+-- P of each node of a list whose place, counted from j on, may be k
+abbrev Each : (Node → Type 0) → ℕ → ℕ → List Node → Type 0
+Each P k j [] = Unit {0}
+Each P k j (n ∷ l) = (k ≡ j → P n) × Each P k (suc j) l
+
+each-at : (P : Node → Type 0) (l : List Node) (k i j : ℕ) → k ≡ j + i → P Nothing → Each P k j l → P (getD l i Nothing)
+each-at P [] k i j e z h = z
+each-at P (n ∷ l) k zero j e z h = h .0 (omega arith)
+each-at P (n ∷ l) k (suc i) j e z h = each-at P l k i (suc j) (omega arith) z (h .1)
+
+-- what holds of nothing, and of the node of each of the ten kinds that the word w at a place may have
+pub node-by : (P : Node → Type 0) (s : List ℕ) (i : ℕ) {w : ℕ} → w ≡ wordAt s i → P Nothing →
+    (kindOf w ≡ 1 → P (Number (numberOf (argOf w)))) → (kindOf w ≡ 2 → P (Truth (eqb (argOf w) 1))) → (kindOf w ≡ 3 → P (Row (argOf w % 1024))) →
+    (kindOf w ≡ 4 → P (Cell (argOf w / 1024 % 1024) (argOf w % 1024))) → (kindOf w ≡ 5 → P (Record (next s i))) →
+    (kindOf w ≡ 6 → P (Binary (opAt (argOf w)) (next s (i + 1)))) → (kindOf w ≡ 7 → P Negation) →
+    (kindOf w ≡ 8 → P (Comprehension (monoidAt (argOf w % 8)))) → (kindOf w ≡ 9 → P (Generator (argOf w / 1024 % 1024) (argOf w % 1024))) →
+    (kindOf w ≡ 10 → P (Condition (next s i))) → P (nodeAt s i)
+unfolding nodeAt nodeOf pick
+node-by P s i {w} e z h1 h2 h3 h4 h5 h6 h7 h8 h9 h10 = subst (λ x. P (pick (leb places i) Nothing (nodeOf s i (kindOf x) (argOf x)))) e (go (leb places i))
+  where
+    go : (b : Bool) → P (pick b Nothing (nodeOf s i (kindOf w) (argOf w)))
+    go true = z
+    go false = each-at P (kinds s i (argOf w)) (kindOf w) (kindOf w) 0 (omega arith) z ((λ q. z), (h1, (h2, (h3, (h4, (h5, (h6, (h7, (h8, (h9, (h10, tt)))))))))))
 
 pub look-out : {s : List ℕ} {i : ℕ} → places ≤ i → Looks s i Nothing
 unfolding nodeAt pick
@@ -144,34 +169,79 @@ module _ {s : List ℕ} {i w : ℕ} (p : i < places) (e : w ≡ wordAt s i) wher
   unfolding nodeOf
   look-condition k q = look-by (rw q (next-past s i p), rw q (next-most s i)) (rw (k, q))
 
-  -- a kind that is none of the ten
-  pub look-rest :
-      (kindOf w ≡ 1 → ⊥) → (kindOf w ≡ 2 → ⊥) → (kindOf w ≡ 3 → ⊥) → (kindOf w ≡ 4 → ⊥) → (kindOf w ≡ 5 → ⊥) → (kindOf w ≡ 6 → ⊥) →
-      (kindOf w ≡ 7 → ⊥) → (kindOf w ≡ 8 → ⊥) → (kindOf w ≡ 9 → ⊥) → (kindOf w ≡ 10 → ⊥) → Looks s i Nothing
-  unfolding nodeOf
-  look-rest n1 n2 n3 n4 n5 n6 n7 n8 n9 n10 = look-by tt (go (kindOf w) refl)
-    where
-      go : (k : ℕ) → kindOf w ≡ k → Nothing ≡ nodeOf s i k (argOf w)
-      go zero h = refl
-      go (suc k) h = sym (List·getD-eq-default (kinds s i (argOf w)) Nothing {n = suc k} (subst (λ x. 11 ≤ x) h
-          (above (above (above (above (above (above (above (above (above (above (omega (arith, h)) n1) n2) n3) n4) n5) n6) n7) n8) n9) n10)))
+-- a kind that is none of the ten
+pub look-rest : {s : List ℕ} {i w : ℕ} → w ≡ wordAt s i →
+    (kindOf w ≡ 1 → ⊥) → (kindOf w ≡ 2 → ⊥) → (kindOf w ≡ 3 → ⊥) → (kindOf w ≡ 4 → ⊥) → (kindOf w ≡ 5 → ⊥) → (kindOf w ≡ 6 → ⊥) →
+    (kindOf w ≡ 7 → ⊥) → (kindOf w ≡ 8 → ⊥) → (kindOf w ≡ 9 → ⊥) → (kindOf w ≡ 10 → ⊥) → Looks s i Nothing
+look-rest {s} {i} e n1 n2 n3 n4 n5 n6 n7 n8 n9 n10 = record {
+  is = node-by (λ n. Nothing ≡ n) s i e refl (λ q. absurd (n1 q)) (λ q. absurd (n2 q)) (λ q. absurd (n3 q)) (λ q. absurd (n4 q)) (λ q. absurd (n5 q)) (λ q. absurd (n6 q)) (λ q. absurd (n7 q)) (λ q. absurd (n8 q)) (λ q. absurd (n9 q)) (λ q. absurd (n10 q));
+  inside = tt;
+}
+
+-- the monoid of a comprehension, read off its word
+pub monoid-word : (s : List ℕ) (i : ℕ) {w : ℕ} {m : Monoid} → w ≡ wordAt s i → nodeAt s i ≡ Comprehension m → monoidAt (argOf w % 8) ≡ m
+monoid-word s i {w} {m} e = node-by (λ n. n ≡ Comprehension m → monoidAt (argOf w % 8) ≡ m) s i e (λ q. cc q) (λ _ q. cc q) (λ _ q. cc q) (λ _ q. cc q) (λ _ q. cc q) (λ _ q. cc q) (λ _ q. cc q) (λ _ q. cc q) (λ _ q. cc q) (λ _ q. cc q) (λ _ q. cc q)
+
+-- ---- leaves
+pub leaf-out : {s : List ℕ} {i : ℕ} → places ≤ i → LeafAt s i Le.Other
+leaf-out p = record { is = ap leafOf (look-out p .is) }
+
+module _ {s : List ℕ} {i w : ℕ} (p : i < places) (e : w ≡ wordAt s i) where
+  pub leaf-number : {z : ℤ} → w < 2 ^ 64 → kindOf w ≡ 1 → z ≡ numberOf (argOf w) → LeafAt s i (Le.Number z)
+  leaf-number l k q = record { is = ap leafOf (look-number p e l k q .is) }
+
+  pub leaf-cell : {c g : ℕ} → kindOf w ≡ 4 → (c ≡ argOf w / 1024 % 1024) × (c < 1024) → (g ≡ argOf w % 1024) × (g < 1024) → LeafAt s i (Le.Cell c g)
+  leaf-cell k q r = record { is = ap leafOf (look-cell p e k q r .is) }
+
+-- a kind that is neither a number's nor a cell's
+pub leaf-rest : {s : List ℕ} {i w : ℕ} → w ≡ wordAt s i → (kindOf w ≡ 1 → ⊥) → (kindOf w ≡ 4 → ⊥) → LeafAt s i Le.Other
+leaf-rest {s} {i} e n1 n4 = record {
+  is = node-by (λ n. Le.Other ≡ leafOf n) s i e refl (λ q. absurd (n1 q)) (λ q. refl) (λ q. refl) (λ q. absurd (n4 q)) (λ q. refl) (λ q. refl) (λ q. refl) (λ q. refl) (λ q. refl) (λ q. refl);
+}
+
+-- the node that a leaf was read from
+abbrev LeafIs : Node → Leaf → Type 0
+LeafIs n (Le.Number z) = n ≡ Number z
+LeafIs n (Le.Cell c g) = n ≡ Cell c g
+LeafIs n Le.Other = Unit {0}
+
+pub record LeafHere (s : List ℕ) (i : ℕ) (r : Leaf) : Type 0 where
+  pub is : LeafIs (nodeAt s i) r
+
+leaf-node : (n : Node) → LeafIs n (leafOf n)
+leaf-node (Number z) = refl
+leaf-node (Truth b) = tt
+leaf-node (Row g) = tt
+leaf-node (Cell c g) = refl
+leaf-node (Record e) = tt
+leaf-node (Binary o j) = tt
+leaf-node Negation = tt
+leaf-node (Comprehension m) = tt
+leaf-node (Generator g k) = tt
+leaf-node (Condition j) = tt
+leaf-node Nothing = tt
+
+pub leaf-recast : {s : List ℕ} {i : ℕ} {r n : Leaf} → LeafAt s i r → r ≡ n → LeafHere s i n
+leaf-recast {s} {i} H e = record { is = subst (LeafIs (nodeAt s i)) (sym (H .is) ∙ e) (leaf-node (nodeAt s i)) }
 
 -- ---- clauses
-inside-clause : (i : ℕ) (n : Node) → Inside i n → InsideC i (clauseOf n)
-inside-clause i (Number z) h = tt
-inside-clause i (Truth b) h = tt
-inside-clause i (Row g) h = tt
-inside-clause i (Cell c g) h = tt
-inside-clause i (Record e) h = tt
-inside-clause i (Binary o j) h = tt
-inside-clause i Negation h = tt
-inside-clause i (Comprehension m) h = tt
-inside-clause i (Generator g k) h = h
-inside-clause i (Condition j) h = h
-inside-clause i Nothing h = tt
+pub clause-out : {s : List ℕ} {i : ℕ} → places ≤ i → LooksC s i Cl.Head
+unfolding nodeAt pick
+clause-out {s} {i} p = record { is = rw (le-leb places i p); inside = tt }
 
-pub clause-found : {s : List ℕ} {i : ℕ} {r n : Node} {c : Clause} → Looks s i r → r ≡ n → c ≡ clauseOf n → LooksC s i c
-clause-found {s} {i} {r} H e q = subst (LooksC s i) (ap clauseOf e ∙ sym q) (record { is = ap clauseOf (H .is); inside = inside-clause i r (H .inside) })
+module _ {s : List ℕ} {i w : ℕ} (p : i < places) (e : w ≡ wordAt s i) where
+  pub clause-generator : {g t : ℕ} → kindOf w ≡ 9 → (g ≡ argOf w / 1024 % 1024) × (g < 1024) → (t ≡ argOf w % 1024) × (t < 1024) → LooksC s i (Cl.Generator g t)
+  clause-generator k q r = let L = look-generator p e k q r in record { is = ap clauseOf (L .is); inside = L .inside }
+
+  pub clause-condition : {j : ℕ} → kindOf w ≡ 10 → j ≡ next s i → LooksC s i (Cl.Condition j)
+  clause-condition k q = let L = look-condition p e k q in record { is = ap clauseOf (L .is); inside = L .inside }
+
+-- a kind that is neither a generator's nor a condition's
+pub clause-head : {s : List ℕ} {i w : ℕ} → w ≡ wordAt s i → (kindOf w ≡ 9 → ⊥) → (kindOf w ≡ 10 → ⊥) → LooksC s i Cl.Head
+clause-head {s} {i} e n9 n10 = record {
+  is = node-by (λ n. Cl.Head ≡ clauseOf n) s i e refl (λ q. refl) (λ q. refl) (λ q. refl) (λ q. refl) (λ q. refl) (λ q. refl) (λ q. refl) (λ q. refl) (λ q. absurd (n9 q)) (λ q. absurd (n10 q));
+  inside = tt;
+}
 
 -- ---- trees, by the node that was looked at; one law each, to be used at every fuel
 abbrev pub formNode : ℕ → List ℕ → ℕ → Node → Form
@@ -202,6 +272,10 @@ module _ {s : List ℕ} {i : ℕ} {n : Clause} (H : LooksC s i n) (f : ℕ) wher
   pub head-is : headTree (suc f) s i ≡ headNode f s i n
   unfolding formTree
   head-is = ap (headNode f s i) (sym (H .is))
+
+  pub head-node-is : Hd.headNode (suc f) s i ≡ Hd.headBy (λ j. Hd.headNode f s j) i n
+  unfolding Hd.headNode
+  head-node-is = ap (Hd.headBy (λ j. Hd.headNode f s j) i) (sym (H .is))
 
 module _ (f : ℕ) (s : List ℕ) (i e : ℕ) where
   pub forms-end : e ≤ i → formsTree (suc f) s i e ≡ fnil

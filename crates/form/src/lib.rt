@@ -4,7 +4,7 @@ ghost use mathlib.Core.Path.{_≡_};
 ghost use Prim.Native.Nat.{_+_, _%_, _<_, _^_};
 ghost use lib.ListN.{set};
 ghost use Rattle.form.specs.Packing.{formAt, wordAt, pack, next, numberOf, opAt, monoidAt};
-ghost use Rattle.form.specs.Look.{Looks, LooksC};
+ghost use Rattle.form.specs.Look.{Looks, LeafAt, LooksC};
 use monoid::Monoid;
 
 // The words of the normal form stand from word 1,296 on, at most 512 of them.
@@ -36,6 +36,13 @@ pub enum Node {
     Generator(usize, usize),
     Condition(usize),
     Nothing,
+}
+
+// A number, a cell, or some other node.
+pub enum Leaf {
+    Number(i64),
+    Cell(usize, usize),
+    Other,
 }
 
 // A node that stands among the clauses of a comprehension: all but generators and conditions are its head.
@@ -83,14 +90,15 @@ pub fn next(s: &[u64], i: usize) -> usize
     if e < PLACES { e } else { PLACES }
 }
 
-fn number(a: u64) -> i64
+// A number is kept as its distance from -2^31.
+pub fn number(a: u64) -> i64
     requires { ⌜ a < 2 ^ 50 ⌝ }
     ensures { λ r. ⌜ r ≡ numberOf a ⌝ }
 {
     a as i64 - 2147483648
 }
 
-fn operator(a: u64) -> Op
+pub fn operator(a: u64) -> Op
     ensures { λ r. ⌜ r ≡ opAt a ⌝ }
 {
     match a {
@@ -104,7 +112,7 @@ fn operator(a: u64) -> Op
     }
 }
 
-fn monoid_of(a: u64) -> Monoid
+pub fn monoid_of(a: u64) -> Monoid
     ensures { λ r. ⌜ r ≡ monoidAt a ⌝ }
 {
     match a {
@@ -119,7 +127,7 @@ fn monoid_of(a: u64) -> Monoid
 }
 
 // The low ten bits.
-fn low(a: u64) -> usize
+pub fn low(a: u64) -> usize
     ensures { λ r. ⌜ (r ≡ a % 1024) × (r < 1024) ⌝ }
 {
     (a % 1024) as usize
@@ -148,20 +156,34 @@ pub fn look(s: &[u64], i: usize) -> Node
     }
 }
 
+// By the word itself: `look` would be a call for each operand.
+pub fn leaf_at(s: &[u64], i: usize) -> Leaf
+    ensures { λ r. ⌜ LeafAt (now (s .entry)) i r ⌝ }
+{
+    if PLACES <= i {
+        return Leaf::Other;
+    }
+    let w = word(s, i);
+    let a = w / 16384;
+    match w % 16 {
+        1 => Leaf::Number(number(a)),
+        4 => Leaf::Cell(low(a / 1024), low(a)),
+        _ => Leaf::Other,
+    }
+}
+
+// By the word itself: a clause is looked at for each row, and `look` would make a node first.
 pub fn look_clause(s: &[u64], i: usize) -> Clause
     ensures { λ r. ⌜ LooksC (now (s .entry)) i r ⌝ }
 {
-    match look(s, i) {
-        Node::Number(z) => Clause::Head,
-        Node::Truth(b) => Clause::Head,
-        Node::Row(g) => Clause::Head,
-        Node::Cell(c, g) => Clause::Head,
-        Node::Record(e) => Clause::Head,
-        Node::Binary(o, j) => Clause::Head,
-        Node::Negation => Clause::Head,
-        Node::Comprehension(m) => Clause::Head,
-        Node::Generator(g, k) => Clause::Generator(g, k),
-        Node::Condition(j) => Clause::Condition(j),
-        Node::Nothing => Clause::Head,
+    if PLACES <= i {
+        return Clause::Head;
+    }
+    let w = word(s, i);
+    let a = w / 16384;
+    match w % 16 {
+        9 => Clause::Generator(low(a / 1024), low(a)),
+        10 => Clause::Condition(next(s, i)),
+        _ => Clause::Head,
     }
 }

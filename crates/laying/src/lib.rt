@@ -1,12 +1,15 @@
-// The words of the answer, laid into its buffer behind a limit; how a value is written, and the words of a row.
+// The words of the answer, laid into its buffer below a limit; how a value is written, and the words of a row.
 ghost use mathlib.Core.Path.{_≡_};
 ghost use Rattle.laying.specs.Laying.{bump, laid, Puts};
 ghost use Rattle.laying.specs.Shapes.{comprehensionShape, ShapeAt};
 ghost use Rattle.laying.specs.Contract.{Rows};
 use environment::description;
 use environment::slot;
-use form::Node;
-use form::look;
+use form::low;
+use form::monoid_of;
+use form::next;
+use form::operator;
+use form::word;
 use monoid::Monoid;
 use operators::Sort;
 use operators::result;
@@ -22,7 +25,7 @@ pub enum Shape {
     Collection,
 }
 
-// One more, at most 2^62: G can be any number, and nothing wraps.
+// One more below 2^62, and from there on the same: G can be any number, and nothing wraps.
 pub fn more(p: usize) -> usize
     ensures { λ r. ⌜ r ≡ bump p ⌝ }
 {
@@ -61,25 +64,27 @@ fn comprehension_shape(m: Monoid) -> Shape
     }
 }
 
+// By the word itself: `look` would make a node first.
 pub fn shape_at(s: &[u64], i: usize) -> Shape
     ensures { λ r. ⌜ ShapeAt (now (s .entry)) i r ⌝ }
 {
-    match look(s, i) {
-        Node::Number(z) => Shape::Word(Sort::Number),
-        Node::Truth(b) => Shape::Word(Sort::Truth),
-        Node::Row(g) => Shape::Row(g),
-        Node::Cell(c, g) => Shape::Word(Sort::Number),
-        Node::Record(e) => Shape::Record(e),
-        Node::Binary(o, j) => Shape::Word(result(o)),
-        Node::Negation => Shape::Word(Sort::Truth),
-        Node::Comprehension(m) => comprehension_shape(m),
-        Node::Generator(g, k) => Shape::Word(Sort::Number),
-        Node::Condition(j) => Shape::Word(Sort::Number),
-        Node::Nothing => Shape::Word(Sort::Number),
+    if 512 <= i {
+        return Shape::Word(Sort::Number);
+    }
+    let w = word(s, i);
+    let a = w / 16384;
+    match w % 16 {
+        2 => Shape::Word(Sort::Truth),
+        3 => Shape::Row(low(a)),
+        5 => Shape::Record(next(s, i)),
+        6 => Shape::Word(result(operator(a))),
+        7 => Shape::Word(Sort::Truth),
+        8 => comprehension_shape(monoid_of(a % 8)),
+        _ => Shape::Word(Sort::Number),
     }
 }
 
-// The columns of the row that generator g stands for.
+// The columns of the row that generator g stands for; one 0 where there is no row.
 pub fn row(s: &[u64], data: &[u8], out: &mut [i64], limit: usize, g: usize, p: usize) -> usize
     ensures { λ r. ⌜ Rows (now («data» .entry)) (now (s .entry)) limit (now (out .entry)) g p (now (out .exit)) r ⌝ }
 {

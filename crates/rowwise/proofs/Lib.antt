@@ -1,3 +1,5 @@
 -- Laws of plain forms: on rows, and at places.
 pub mod Rows
+pub mod Looking
 pub mod Places
+pub mod Answers

@@ -35,4 +35,4 @@ look-spec =
     (λ c. look-comprehension (c .before .before .before .if1 .left) (c .before .before .word .ensures) (c .before .match .keys8) (c .monoid-of .ensures))
     (λ c. look-generator (c .before .before .before .before .if1 .left) (c .before .before .before .word .ensures) (c .before .before .match .keys9) (c .before .low4 .ensures) (c .low5 .ensures))
     (λ c. look-condition (c .before .before .before .if1 .left) (c .before .before .word .ensures) (c .before .match .keys10) (c .next3 .ensures))
-    (λ c. let m = c .match .rest in look-rest (c .before .before .if1 .left) (c .before .word .ensures) (m .0 .0 .0 .0 .0 .0 .0 .0 .0 .1) (m .0 .0 .0 .0 .0 .0 .0 .0 .1) (m .0 .0 .0 .0 .0 .0 .0 .1) (m .0 .0 .0 .0 .0 .0 .1) (m .0 .0 .0 .0 .0 .1) (m .0 .0 .0 .0 .1) (m .0 .0 .0 .1) (m .0 .0 .1) (m .0 .1) (m .1)))
+    (λ c. let m = c .match .rest in look-rest (c .before .word .ensures) (m .0 .0 .0 .0 .0 .0 .0 .0 .0 .1) (m .0 .0 .0 .0 .0 .0 .0 .0 .1) (m .0 .0 .0 .0 .0 .0 .0 .1) (m .0 .0 .0 .0 .0 .0 .1) (m .0 .0 .0 .0 .0 .1) (m .0 .0 .0 .0 .1) (m .0 .0 .0 .1) (m .0 .0 .1) (m .0 .1) (m .1)))

@@ -1,6 +1,5 @@
 use borrow.Author.Needs.{needs}
-use mathlib.Core.Path.{refl}
-use Rattle.form.proofs.Laws.{clause-found}
+use Rattle.form.proofs.Laws.{clause-out, clause-generator, clause-condition, clause-head}
 use Rattle.form.proofs.look_clause.Statement.{statement}
 use Rattle.form.proofs.look_clause.Tie as tie
 
@@ -8,26 +7,11 @@ pub look-clause-spec : {M : Type 1} → statement M
 look-clause-spec =
     tie.close
     (tie.spec
+    (λ c. clause-out (c .if1 .taken))
     (λ c κs. search needs)
-    (λ c. search needs)
-    (λ c. search needs)
-    (λ c. search needs)
-    (λ c. search needs)
-    (λ c. search needs)
-    (λ c. search needs)
-    (λ c. search needs)
-    (λ c. search needs)
-    (λ c. search needs)
-    (λ c. search needs)
-    (λ c. search needs)
-    (λ c. clause-found (c .before .before .before .look .ensures) (c .before .z .given .1) refl)
-    (λ c. clause-found (c .before .before .before .look .ensures) (c .before .b .given .1) refl)
-    (λ c. clause-found (c .before .before .before .look .ensures) (c .before .g .given .1) refl)
-    (λ c. clause-found (c .before .before .before .look .ensures) (c .before .c .given .1) refl)
-    (λ c. clause-found (c .before .before .before .look .ensures) (c .before .e .given .1) refl)
-    (λ c. clause-found (c .before .before .before .look .ensures) (c .before .o .given .1) refl)
-    (λ c. clause-found (c .before .before .look .ensures) (c .enum-told .given .1) refl)
-    (λ c. clause-found (c .before .before .before .look .ensures) (c .before .m .given .1) refl)
-    (λ c. clause-found (c .before .before .before .look .ensures) (c .before .g2 .given .1) refl)
-    (λ c. clause-found (c .before .before .before .look .ensures) (c .before .j .given .1) refl)
-    (λ c. clause-found (c .before .before .look .ensures) (c .enum-told2 .given .1) refl))
+    (λ c κs. search needs)
+    (λ c κs. search needs)
+    (λ c κs. search needs)
+    (λ c. clause-generator (c .before .before .before .before .if1 .left) (c .before .before .before .word .ensures) (c .before .before .match .keys1) (c .before .low .ensures) (c .low2 .ensures))
+    (λ c. clause-condition (c .before .before .before .if1 .left) (c .before .before .word .ensures) (c .before .match .keys2) (c .next .ensures))
+    (λ c. clause-head (c .before .word .ensures) (c .match .rest .0 .1) (c .match .rest .1)))
