@@ -14,6 +14,7 @@ use Rattle.normal_form.specs.Form.{asForm, normalValue}
 use Rattle.outcome.specs.Written.{words}
 use Rattle.outcome.specs.Accepted.{Accepted}
 use Rattle.outcome.specs.Outcome.{G, written}
+use Rattle.outcome.proofs.Checks.{form-numbered, form-nodes}
 use Rattle.form.specs.Packing.{next, nodeAt}
 use Rattle.form.specs.Tree.{formTree, left}
 use Rattle.prepared.specs.Prepared.{Prepared}
@@ -27,7 +28,7 @@ use Rattle.widths.proofs.Laws.{Away, away-notes, away-form}
 use Rattle.widths.proofs.Rooted.{noted-rooted}
 use Rattle.written.specs.Walk.{Finished}
 use Rattle.written.proofs.Answer.{Answered, normal-written, answer-front}
-use Rattle.asked.proofs.Standing.{tables-are, well-formed, few-nodes, form-numbered, form-in-scope}
+use Rattle.asked.proofs.Standing.{tables-are, well-formed, form-in-scope, passed}
 
 -- t has the question's tables and nodes still, as s had them when the question was prepared
 pub record Still (d : Bytes) (a : Accepted) (s t : List ℕ) : Type 0 where
@@ -43,7 +44,7 @@ module _ {d : Bytes} {a : Accepted} {s t u : List ℕ} (P : Prepared d a s) (S :
   -- each row is of a generator that encloses it, with the columns that are noted
   all-rooted : Rooted (columns u) (a .tables) (λ g. false) (asForm (a .form))
   all-rooted = subst (λ (T : Tables). Rooted (columns u) T (λ g. false) (asForm (a .form))) (tables-are P)
-      (noted-rooted s (asForm (a .form)) N (S .held) (S .nodes) (S .whole) (P .fits) (P .few) (P .held) (few-nodes P) (form-numbered P) (form-in-scope P))
+      (noted-rooted s (asForm (a .form)) N (S .held) (S .nodes) (S .whole) (P .fits) (P .few) (P .held) (form-nodes (passed P)) (form-numbered (passed P)) (form-in-scope P))
 
   module _ {o₁ o₂ : List ℤ} {n : ℕ} (K : Finished u 0 o₁ o₂ n) (o : List ℤ) (e : o₁ ≡ words (normalValue raw (a .tables) (a .form)) ++ drop (G a) o) where
     finished : Answered (a .tables) (a .form) (drop (G a) o) o₂ n

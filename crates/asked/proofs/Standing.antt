@@ -2,9 +2,8 @@
 use mathlib.Core.Path.{_≡_, sym, ap, subst, _∙_}
 use mathlib.Core.Bool.{true, false}
 use mathlib.Core.List.{List}
-use Prim.Native.Nat.{ℕ, _+_, _≤_, _<_}
+use Prim.Native.Nat.{ℕ, _+_, _<_}
 use native.Mathlib.Omega.{arith}
-use borrow.Author.Tests.{leb-true}
 use Rattle.calculus.specs.Value.{Tables, junk, kindOf}
 use Rattle.calculus.specs.Monoid.{raw}
 use Rattle.calculus.specs.Meaning.{Env}
@@ -13,9 +12,7 @@ use Rattle.encoding.specs.Record.{Bytes, got}
 use Rattle.encoding.specs.Reader.{readQuestion}
 use Rattle.encoding.proofs.Data.{read-well-formed}
 use Rattle.normal_form.specs.Form.{asForm, value, normalValue}
-use Rattle.normal_form.specs.Size.{nodes, sizeFits}
 use Rattle.normal_form.proofs.Proper.{Ordered, normal-in-scope}
-use Rattle.normal_form.proofs.Numbered.{Numbered, normal-numbered}
 use Rattle.outcome.specs.Accepted.{Accepted}
 use Rattle.outcome.proofs.Checks.{Passed, judged}
 use Rattle.tables.specs.Reading.{Stored}
@@ -56,12 +53,6 @@ module _ {d : Bytes} {a : Accepted} {s : List ℕ} (P : Prepared d a s) where
 
   pub well-formed : WellFormed (a .tables)
   well-formed = read-well-formed d (P .tables)
-
-  pub few-nodes : nodes (asForm (a .form)) ≤ 512
-  few-nodes = unfold sizeFits in leb-true (nodes (asForm (a .form))) 512 (passed .size)
-
-  pub form-numbered : Numbered (asForm (a .form)) 0
-  form-numbered = subst (λ t. Numbered (asForm t) 0) (sym (passed .form-is)) (normal-numbered (kindOf (a .tables)) (a .question) (passed .names))
 
   pub form-in-scope : Ordered (asForm (a .form)) (λ g. false) 0
   form-in-scope = subst (λ t. Ordered (asForm t) (λ g. false) 0) (sym (passed .form-is)) (normal-in-scope (kindOf (a .tables)) (a .question) (passed .names))

@@ -42,6 +42,17 @@ times-some (suc n) F p l = ap (λ (m : ℕ). times m F (F p)) (less n)
     less : (k : ℕ) → k ≡ suc k - 1
     less k = omega arith
 
+pub times-sum : (m n : ℕ) (F : ℕ → ℕ) (p : ℕ) → times n F (times m F p) ≡ times (m + n) F p
+unfolding times
+times-sum zero n F p = ap (λ (k : ℕ). times k F p) (none n)
+  where
+    none : (k : ℕ) → k ≡ 0 + k
+    none k = omega arith
+times-sum (suc m) n F p = times-sum m n F (F p) ∙ ap (λ (k : ℕ). times k F p) (more m n)
+  where
+    more : (j k : ℕ) → suc (j + k) ≡ suc j + k
+    more j k = omega arith
+
 pub times-within : (n : ℕ) (F : ℕ → ℕ) (L : ℕ) → ((q : ℕ) → q ≤ L → F q ≤ L) → (p : ℕ) → p ≤ L → times n F p ≤ L
 unfolding times
 times-within zero F L h p l = l

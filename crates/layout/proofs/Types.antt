@@ -5,7 +5,7 @@ use Prim.Native.Nat.{ℕ, zero, suc, _+_, _-_, _≤_, _<_}
 use native.Mathlib.Omega.{arith}
 use lib.ListN.{length, getD, List·getD-eq-default}
 use Rattle.calculus.specs.Syntax.{of, Bin, plus, minus, times, equal, less, and, or}
-use Rattle.checks.specs.Types.{Ty, Tys, number, truth, record′, coll, ynil, ycons, cells}
+use Rattle.checks.specs.Types.{Ty, Tys, record′, coll, ynil, ycons, cells}
 use Rattle.checks.proofs.Judgement.{result}
 use Rattle.checks.proofs.Refold.{gathered}
 use Rattle.normal_form.specs.Form.{Form}
@@ -18,12 +18,15 @@ use Rattle.form.specs.Packing.{places, next}
 use Rattle.form.specs.Tree.{binOf, formTree, headTree, left}
 use Rattle.form.specs.declared.Clause.the-variants as Cl
 use Rattle.form.specs.Look.{Looks, LooksC}
-use Rattle.form.proofs.Laws.{next-past, formNode, form-is, head-is, forms-end, forms-more}
+use Rattle.form.specs.Head.{headNode}
+use Rattle.form.proofs.Laws.{next-past, formNode, form-is, head-is, head-node-is, forms-end, forms-more}
 use Rattle.layout.specs.declared.Kind.{Kind}
+use Rattle.layout.specs.declared.Layout.{Layout}
 use Rattle.layout.specs.declared.Shape.{Shape}
 use Rattle.layout.specs.declared.Shape.the-variants as Sh
 use Rattle.layout.specs.Columns.{columnsAt, columns}
-use Rattle.layout.specs.Shape.{typeOf, typesOf, typeAt, typesAt, collectionOf, Heads, ClauseEnds, Single, Shaped}
+use Rattle.layout.specs.Shape.{typeOf, typesOf, typeAt, typesAt, collectionOf, Heads, endBy, ClauseEnds, gatherOf, shapeBy, shapeIn, Shaped, ShapeAt, Laid, LaidBy}
+use Rattle.layout.specs.Flat.{Flat, FlatEach, widthOf, widthEach}
 
 -- ---- columns
 module _ (s : List ℕ) (g : ℕ) where
@@ -38,23 +41,23 @@ module _ (s : List ℕ) (g : ℕ) where
 -- ---- clauses and heads
 module _ {s : List ℕ} {j : ℕ} where
   pub clause-generator : {g k : ℕ} → LooksC s j (Cl.Generator g k) → ClauseEnds s j (j + 1)
-  clause-generator H = record { past = omega arith; upto = λ l. omega (arith, H .inside .0); over = λ l f. head-is H f; none = λ l. absurd (omega arith) }
+  clause-generator H = record { is = ap (endBy j) (H .is); past = omega arith; upto = λ l. omega (arith, H .inside .0); over = λ l f. (head-is H f, head-node-is H f); none = λ l. absurd (omega arith) }
 
   pub clause-condition : {e : ℕ} → LooksC s j (Cl.Condition e) → ClauseEnds s j e
-  clause-condition H = record { past = omega (arith, H .inside .0); upto = λ l. H .inside .1; over = λ l f. head-is H f; none = λ l. absurd (omega (arith, H .inside .0)) }
+  clause-condition H = record { is = ap (endBy j) (H .is); past = omega (arith, H .inside .0); upto = λ l. H .inside .1; over = λ l f. (head-is H f, head-node-is H f); none = λ l. absurd (omega (arith, H .inside .0)) }
 
   pub clause-none : LooksC s j Cl.Head → ClauseEnds s j j
-  clause-none H = record { past = omega arith; upto = λ l. absurd (omega arith); over = λ l. absurd (omega arith); none = λ l f. head-is H f }
+  clause-none H = record { is = ap (endBy j) (H .is); past = omega arith; upto = λ l. absurd (omega arith); over = λ l. absurd (omega arith); none = λ l f. (head-is H f, head-node-is H f) }
 
 -- on the way from i to the head, at j, where a clause ends at e
 pub record Seeking (s : List ℕ) (i j e : ℕ) : Type 0 where
   pub past : i ≤ j
   pub upto : i ≤ places → j ≤ places
   pub clause : ClauseEnds s j e
-  pub same : (f : ℕ) → left i + 1 < f → (g : ℕ) × (left j + 1 < g) × (headTree f s i ≡ headTree g s j)
+  pub same : (f : ℕ) → left i + 1 < f → (g : ℕ) × (left j + 1 < g) × (headTree f s i ≡ headTree g s j) × (headNode f s i ≡ headNode g s j)
 
 pub seek-first : {s : List ℕ} {i e : ℕ} → ClauseEnds s i e → Seeking s i i e
-seek-first C = record { past = omega arith; upto = λ l. l; clause = C; same = λ f l. (f, l, refl) }
+seek-first C = record { past = omega arith; upto = λ l. l; clause = C; same = λ f l. (f, l, refl, refl) }
 
 module _ {s : List ℕ} {i j e : ℕ} (I : Seeking s i j e) where
   pub seek-less : j < e → places - e < places - j
@@ -65,19 +68,29 @@ module _ {s : List ℕ} {i j e : ℕ} (I : Seeking s i j e) where
     past = omega (arith, I .past);
     upto = λ m. I .clause .upto l;
     clause = C;
-    same = λ f m. let (g, p, q) = I .same f m in on f g p q;
+    same = λ f m. let (g, p, q, r) = I .same f m in on f g p q r;
   }
     where
-      on : (f g : ℕ) → left j + 1 < g → headTree f s i ≡ headTree g s j → (k : ℕ) × (left e + 1 < k) × (headTree f s i ≡ headTree k s e)
-      on f zero p q = absurd (omega arith)
-      on f (suc g) p q = (g, omega (arith, I .clause .upto l), q ∙ I .clause .over l g)
+      on : (f g : ℕ) → left j + 1 < g → headTree f s i ≡ headTree g s j → headNode f s i ≡ headNode g s j →
+          (k : ℕ) × (left e + 1 < k) × (headTree f s i ≡ headTree k s e) × (headNode f s i ≡ headNode k s e)
+      on f zero p q r = absurd (omega arith)
+      on f (suc g) p q r = (g, omega (arith, I .clause .upto l), q ∙ I .clause .over l g .0, r ∙ I .clause .over l g .1)
 
   pub seek-last : e ≤ j → Heads s i j
-  seek-last l = record { past = I .past; upto = I .upto; is = λ f m. let (g, p, q) = I .same f m in on f g p q }
+  seek-last l = record {
+    is = λ f m. let (g, p, q, r) = I .same f m in at f g p r;
+    past = I .past;
+    upto = I .upto;
+    form = λ f m. let (g, p, q, r) = I .same f m in on f g p q;
+  }
     where
+      at : (f g : ℕ) → left j + 1 < g → headNode f s i ≡ headNode g s j → j ≡ headNode f s i
+      at f zero p r = absurd (omega arith)
+      at f (suc g) p r = sym (r ∙ I .clause .none l g .1)
+
       on : (f g : ℕ) → left j + 1 < g → headTree f s i ≡ headTree g s j → (k : ℕ) × (left j < k) × (headTree f s i ≡ formTree k s j)
       on f zero p q = absurd (omega arith)
-      on f (suc g) p q = (g, omega arith, q ∙ I .clause .none l g)
+      on f (suc g) p q = (g, omega arith, q ∙ I .clause .none l g .0)
 
 -- ---- shapes
 -- what holds of the form at a place, by the node there
@@ -105,77 +118,127 @@ OneWord (Generator g k) = Unit {0}
 OneWord (Condition j) = Unit {0}
 OneWord Nothing = Unit {0}
 
-single-result : (o : Bin) → Single (result o)
-unfolding result
-single-result plus = tt
-single-result minus = tt
-single-result times = tt
-single-result equal = tt
-single-result less = tt
-single-result and = tt
-single-result or = tt
+-- of n words, each a number or a truth
+abbrev Has : ℕ → Ty → Type 0
+Has n t = Flat t × (n ≡ widthOf t)
 
-single-node : (s : List ℕ) (i f : ℕ) (n : Node) → OneWord n → Single (typeOf (columns s) (formNode f s i n))
-unfolding typeOf gathered
-single-node s i f (Number z) p = tt
-single-node s i f (Truth b) p = tt
-single-node s i f (Row g) p = absurd p
-single-node s i f (Cell c g) p = tt
-single-node s i f (Record e) p = absurd p
-single-node s i f (Binary o j) p = single-result (binOf o)
-single-node s i f Negation p = tt
-single-node s i f (Comprehension Mo.List) p = absurd p
-single-node s i f (Comprehension Mo.Bag) p = absurd p
-single-node s i f (Comprehension Mo.Set) p = absurd p
-single-node s i f (Comprehension Mo.Sum) p = tt
-single-node s i f (Comprehension Mo.Max) p = tt
-single-node s i f (Comprehension Mo.Some) p = tt
-single-node s i f (Comprehension Mo.All) p = tt
-single-node s i f (Generator g k) p = tt
-single-node s i f (Condition j) p = tt
-single-node s i f Nothing p = tt
+one-result : (o : Bin) → Has 1 (result o)
+unfolding result widthOf
+one-result plus = (tt, refl)
+one-result minus = (tt, refl)
+one-result times = (tt, refl)
+one-result equal = (tt, refl)
+one-result less = (tt, refl)
+one-result and = (tt, refl)
+one-result or = (tt, refl)
+
+one-node : (s : List ℕ) (i f : ℕ) (n : Node) → OneWord n → Has 1 (typeOf (columns s) (formNode f s i n))
+unfolding typeOf gathered widthOf
+one-node s i f (Number z) p = (tt, refl)
+one-node s i f (Truth b) p = (tt, refl)
+one-node s i f (Row g) p = absurd p
+one-node s i f (Cell c g) p = (tt, refl)
+one-node s i f (Record e) p = absurd p
+one-node s i f (Binary o j) p = one-result (binOf o)
+one-node s i f Negation p = (tt, refl)
+one-node s i f (Comprehension Mo.List) p = absurd p
+one-node s i f (Comprehension Mo.Bag) p = absurd p
+one-node s i f (Comprehension Mo.Set) p = absurd p
+one-node s i f (Comprehension Mo.Sum) p = (tt, refl)
+one-node s i f (Comprehension Mo.Max) p = (tt, refl)
+one-node s i f (Comprehension Mo.Some) p = (tt, refl)
+one-node s i f (Comprehension Mo.All) p = (tt, refl)
+one-node s i f (Generator g k) p = (tt, refl)
+one-node s i f (Condition j) p = (tt, refl)
+one-node s i f Nothing p = (tt, refl)
+
+pub row-width : (n : ℕ) → FlatEach (cells n) × (n ≡ widthEach (cells n))
+unfolding cells widthOf
+row-width zero = (tt, refl)
+row-width (suc n) = let h = row-width n in ((tt, h .0), omega (arith, h .1))
+
+-- its shape, too, is one word
+one-shape : (C : ℕ → ℕ) (H : ℕ → ℕ) (i : ℕ) (n : Node) → OneWord n → Sh.Words 1 ≡ shapeBy C H i n
+one-shape C H i (Number z) p = refl
+one-shape C H i (Truth b) p = refl
+one-shape C H i (Row g) p = absurd p
+one-shape C H i (Cell c g) p = refl
+one-shape C H i (Record e) p = absurd p
+one-shape C H i (Binary o j) p = refl
+one-shape C H i Negation p = refl
+one-shape C H i (Comprehension Mo.List) p = absurd p
+one-shape C H i (Comprehension Mo.Bag) p = absurd p
+one-shape C H i (Comprehension Mo.Set) p = absurd p
+one-shape C H i (Comprehension Mo.Sum) p = refl
+one-shape C H i (Comprehension Mo.Max) p = refl
+one-shape C H i (Comprehension Mo.Some) p = refl
+one-shape C H i (Comprehension Mo.All) p = refl
+one-shape C H i (Generator g k) p = refl
+one-shape C H i (Condition j) p = refl
+one-shape C H i Nothing p = refl
 
 module _ {s : List ℕ} {i : ℕ} where
-  pub shape-word : {n : Node} → Looks s i n → OneWord n → Shaped s i Sh.Word
-  shape-word {n} H p = record { is = at-node H (λ t. Single (typeOf (columns s) t)) (λ f l. single-node s i f n p) }
+  -- the shape by the node that was looked at
+  shape-node : {n : Node} → Looks s i n → (f : ℕ) → shapeBy (columns s) (λ j. headNode f s j) i n ≡ shapeIn f s i
+  unfolding shapeIn
+  shape-node H f = ap (shapeBy (columns s) (λ j. headNode f s j) i) (H .is)
 
-  pub shape-row : {g r : ℕ} → Looks s i (Row g) → r ≡ columns s g → Shaped s i (Sh.Row r)
-  unfolding typeOf
-  shape-row {g} {r} H e = record { is = at-node H (λ t. typeOf (columns s) t ≡ record′ (cells r)) (λ f l. ap (λ n. record′ (cells n)) (sym e)) }
+  pub shape-word : {n : Node} → Looks s i n → OneWord n → ShapeAt s i (Sh.Words 1)
+  shape-word {n} H p = record {
+    is = λ f l. one-shape (columns s) (λ j. headNode f s j) i n p ∙ shape-node H f;
+    shaped = record { is = at-node H (λ t. Has 1 (typeOf (columns s) t)) (λ f l. one-node s i f n p) };
+  }
 
-  pub shape-fields : {e : ℕ} → Looks s i (Record e) → Shaped s i (Sh.Fields e)
+  pub shape-row : {g r : ℕ} → Looks s i (Row g) → r ≡ columns s g → ShapeAt s i (Sh.Words r)
+  unfolding typeOf widthOf
+  shape-row {g} {r} H e = let h = row-width (columns s g) in
+      record {
+        is = λ f l. ap Sh.Words e ∙ shape-node H f;
+        shaped = record { is = at-node H (λ t. Has r (typeOf (columns s) t)) (λ f l. (h .0, e ∙ h .1)) };
+      }
+
+  pub shape-fields : {e : ℕ} → Looks s i (Record e) → ShapeAt s i (Sh.Fields e)
   unfolding typeOf
   shape-fields {e} H = let p = H .inside in
-      record { is = (omega arith, p .1, at-node H (λ t. (g : ℕ) × (left (i + 1) + 1 < g) × (typeOf (columns s) t ≡ record′ (typesAt g s (i + 1) e))) (λ f l. (f, omega arith, refl))) }
-
-  pub shape-elements : {m : Monoid} {h : ℕ} (k : Kind) → Looks s i (Comprehension m) → Heads s (i + 1) h → monoidOf m ≡ of (collectionOf k) → Shaped s i (Sh.Elements k h)
-  unfolding typeOf gathered
-  shape-elements {m} {h} k H D e = let p = H .inside in
       record {
-        is = (
-          omega (arith, D .past),
-          D .upto (omega arith),
-          at-node H (λ t. (g : ℕ) × (left h < g) × (typeOf (columns s) t ≡ coll (collectionOf k) (typeAt g s h)))
-              (λ f l. let (g, q, r) = D .is f (omega arith) in (g, q, ap (λ x. gathered x (typeOf (columns s) (headTree f s (i + 1)))) e ∙ ap (λ t. coll (collectionOf k) (typeOf (columns s) t)) r)),
-        );
+        is = λ f l. shape-node H f;
+        shaped = record { is = (omega arith, p .1, at-node H (λ t. (g : ℕ) × (left (i + 1) + 1 < g) × (typeOf (columns s) t ≡ record′ (typesAt g s (i + 1) e))) (λ f l. (f, omega arith, refl))) };
+      }
+
+  pub shape-elements : {m : Monoid} {h : ℕ} (k : Kind) → Looks s i (Comprehension m) → Heads s (i + 1) h → monoidOf m ≡ of (collectionOf k) → Sh.Elements k h ≡ gatherOf m h → ShapeAt s i (Sh.Elements k h)
+  unfolding typeOf gathered
+  shape-elements {m} {h} k H D e w = let p = H .inside in
+      record {
+        is = λ f l. w ∙ ap (gatherOf m) (D .is f (omega arith)) ∙ shape-node H f;
+        shaped = record {
+          is = (
+            omega (arith, D .past),
+            D .upto (omega arith),
+            at-node H (λ t. (g : ℕ) × (left h < g) × (typeOf (columns s) t ≡ coll (collectionOf k) (typeAt g s h)))
+                (λ f l. let (g, q, r) = D .form f (omega arith) in (g, q, ap (λ x. gathered x (typeOf (columns s) (headTree f s (i + 1)))) e ∙ ap (λ t. coll (collectionOf k) (typeOf (columns s) t)) r)),
+          );
+        };
       }
 
 -- ---- what holds of the type at a place, by its shape, at every fuel
 pub reshape : {s : List ℕ} {i : ℕ} {r n : Shape} → Shaped s i r → r ≡ n → Shaped s i n
 reshape {s} {i} H e = subst (Shaped s i) e H
 
-on-single : (t : Ty) → Single t → (P : Ty → Type 0) → P number → P truth → P t
-on-single number h P p q = p
-on-single truth h P p q = q
-on-single (record′ ts) h P p q = absurd h
-on-single (coll c t) h P p q = absurd h
+-- a layout made of a place and the shape there
+pub laid : {s : List ℕ} {i : ℕ} {n : Shape} {r : Layout} → r .place ≡ i → r .shape ≡ n → Shaped s i n → Laid s i r
+laid {s} {i} {r = r} ei es H = record { at-place = ei; shaped = subst (λ (j : ℕ). Shaped s j (r .shape)) (sym ei) (subst (Shaped s i) (sym es) H) }
+
+-- a layout by any definition of its shape
+pub laid-as : {S : ℕ → List ℕ → ℕ → Shape} {s : List ℕ} {i : ℕ} {r : Layout} → LaidBy S s i r → Laid s i r
+laid-as L = record { at-place = L .at-place; shaped = L .shaped }
+
+-- what holds of a layout's place holds of the place it was read at
+pub at-laid : {s : List ℕ} {i : ℕ} {r : Layout} → Laid s i r → (P : ℕ → Type 0) → P (r .place) → P i
+at-laid L P p = subst P (L .at-place) p
 
 module _ {s : List ℕ} {i : ℕ} (P : Ty → Type 0) where
-  pub by-word : Shaped s i Sh.Word → P number → P truth → (f : ℕ) → left i < f → P (typeAt f s i)
-  by-word H p q f l = on-single (typeAt f s i) (H .is f l) P p q
-
-  pub by-row : {n : ℕ} → Shaped s i (Sh.Row n) → P (record′ (cells n)) → (f : ℕ) → left i < f → P (typeAt f s i)
-  by-row H p f l = subst P (sym (H .is f l)) p
+  pub by-words : {n : ℕ} → Shaped s i (Sh.Words n) → ((t : Ty) → Flat t → n ≡ widthOf t → P t) → (f : ℕ) → left i < f → P (typeAt f s i)
+  by-words H p f l = let h = H .is f l in p (typeAt f s i) (h .0) (h .1)
 
   pub by-fields : {e : ℕ} → Shaped s i (Sh.Fields e) → ((g : ℕ) → left (i + 1) + 1 < g → P (record′ (typesAt g s (i + 1) e))) → (f : ℕ) → left i < f → P (typeAt f s i)
   by-fields H p f l = let (g, q, r) = H .is .2 f l in subst P (sym r) (p g q)

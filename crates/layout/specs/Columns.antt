@@ -1,5 +1,5 @@
 -- How many columns the table of a generator has: a word for each generator, behind the words of the generators' rows and below
--- those of the normal form. Nothing else says where these words are.
+-- those of the normal form. While a plan runs its words stand there; the columns are noted when it has run.
 use mathlib.Core.List.{List}
 use Prim.Native.Nat.{ℕ, _+_}
 use lib.Dec.{ltb}

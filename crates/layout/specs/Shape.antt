@@ -8,15 +8,24 @@ use Rattle.checks.proofs.Judgement.{result}
 use Rattle.checks.proofs.Refold.{gathered}
 use Rattle.normal_form.specs.Form.{Form, Forms, row, cell, rec, bin, negate, comp, fnil, fcons}
 use Rattle.normal_form.specs.Form as Fo
-use Rattle.form.specs.Packing.{places}
-use Rattle.form.specs.Tree.{formTree, formsTree, headTree, left}
+use Rattle.monoid.specs.declared.Monoid.{Monoid}
+use Rattle.monoid.specs.declared.Monoid.the-variants as Mo
+use Rattle.form.specs.declared.Node.{Node}
+use Rattle.form.specs.declared.Node.the-variants.{Number, Truth, Row, Cell, Record, Binary, Negation, Comprehension, Generator, Condition, Nothing}
+use Rattle.form.specs.declared.Clause.{Clause}
+use Rattle.form.specs.declared.Clause.the-variants as Cl
+use Rattle.form.specs.Packing.{places, nodeAt}
+use Rattle.form.specs.Tree.{clauseOf, formTree, formsTree, headTree, left}
+use Rattle.form.specs.Head.{headNode}
 use Rattle.layout.specs.Columns.{columns}
+use Rattle.layout.specs.Flat.{Flat, widthOf}
 use Rattle.layout.specs.declared.Kind.{Kind}
 use Rattle.layout.specs.declared.Kind.the-variants as Ki
+use Rattle.layout.specs.declared.Layout.{Layout}
 use Rattle.layout.specs.declared.Order.{Order}
 use Rattle.layout.specs.declared.Order.the-variants.{Less, Equal, Greater}
 use Rattle.layout.specs.declared.Shape.{Shape}
-use Rattle.layout.specs.declared.Shape.the-variants.{Word, Row, Fields, Elements}
+use Rattle.layout.specs.declared.Shape.the-variants.{Words, Fields, Elements}
 
 -- C: how many columns the rows of a generator have
 unfoldable mutual
@@ -52,32 +61,77 @@ orderingOf Less = Ordering·lt
 orderingOf Equal = Ordering·eq
 orderingOf Greater = Ordering·gt
 
--- the head behind the clauses from place j on stands at h
+-- the head behind the clauses from place j on stands at h; that form is read there
 pub record Heads (s : List ℕ) (j h : ℕ) : Type 0 where
+  pub is : (f : ℕ) → left j + 1 < f → h ≡ headNode f s j
   pub past : j ≤ h
   pub upto : j ≤ places → h ≤ places
-  pub is : (f : ℕ) → left j + 1 < f → (g : ℕ) × (left h < g) × (headTree f s j ≡ formTree g s h)
+  pub form : (f : ℕ) → left j + 1 < f → (g : ℕ) × (left h < g) × (headTree f s j ≡ formTree g s h)
+
+-- where the clause at place j ends: at j itself where a head stands
+abbrev pub endBy : ℕ → Clause → ℕ
+endBy j (Cl.Generator g k) = j + 1
+endBy j (Cl.Condition e) = e
+endBy j Cl.Head = j
 
 -- the clause at place j ends at e; no clause stands there where that is j
 pub record ClauseEnds (s : List ℕ) (j e : ℕ) : Type 0 where
+  pub is : e ≡ endBy j (clauseOf (nodeAt s j))
   pub past : j ≤ e
   pub upto : j < e → e ≤ places
-  pub over : j < e → (f : ℕ) → headTree (suc f) s j ≡ headTree f s e
-  pub none : e ≤ j → (f : ℕ) → headTree (suc f) s j ≡ formTree f s j
+  pub over : j < e → (f : ℕ) → (headTree (suc f) s j ≡ headTree f s e) × (headNode (suc f) s j ≡ headNode f s e)
+  pub none : e ≤ j → (f : ℕ) → (headTree (suc f) s j ≡ formTree f s j) × (headNode (suc f) s j ≡ j)
 
--- A type as the words show it: number and truth are one word, a table row as many as it has columns, a record's fields and a
--- collection's elements have types of their own, at places further on.
-abbrev pub Single : Ty → Type 0
-Single number = Unit {0}
-Single truth = Unit {0}
-Single (record′ ts) = ⊥
-Single (coll c t) = ⊥
+-- ---- the shape of a type
+-- of a comprehension with its head at h: a collection of its heads, or one word
+abbrev pub gatherOf : Monoid → ℕ → Shape
+gatherOf Mo.List h = Elements Ki.List h
+gatherOf Mo.Bag h = Elements Ki.Bag h
+gatherOf Mo.Set h = Elements Ki.Set h
+gatherOf Mo.Sum h = Words 1
+gatherOf Mo.Max h = Words 1
+gatherOf Mo.Some h = Words 1
+gatherOf Mo.All h = Words 1
 
+-- by the node at i: C is how many columns the rows of a generator have, H where the head stands behind the clauses from a place
+abbrev pub shapeBy : (ℕ → ℕ) → (ℕ → ℕ) → ℕ → Node → Shape
+shapeBy C H i (Number z) = Words 1
+shapeBy C H i (Truth b) = Words 1
+shapeBy C H i (Row g) = Words (C g)
+shapeBy C H i (Cell c g) = Words 1
+shapeBy C H i (Record e) = Fields e
+shapeBy C H i (Binary o j) = Words 1
+shapeBy C H i Negation = Words 1
+shapeBy C H i (Comprehension m) = gatherOf m (H (i + 1))
+shapeBy C H i (Generator g k) = Words 1
+shapeBy C H i (Condition j) = Words 1
+shapeBy C H i Nothing = Words 1
+
+unfoldable pub shapeIn : ℕ → List ℕ → ℕ → Shape
+shapeIn f s i = shapeBy (columns s) (λ j. headNode f s j) i (nodeAt s i)
+
+-- A type as the words show it: so many words, each a number or a truth; a record's fields and a collection's elements have types
+-- of their own, at places further on.
 abbrev pub ShapedAs : List ℕ → ℕ → Shape → Type 0
-ShapedAs s i Word = (f : ℕ) → left i < f → Single (typeAt f s i)
-ShapedAs s i (Row n) = (f : ℕ) → left i < f → typeAt f s i ≡ record′ (cells n)
+ShapedAs s i (Words n) = (f : ℕ) → left i < f → Flat (typeAt f s i) × (n ≡ widthOf (typeAt f s i))
 ShapedAs s i (Fields e) = (i < places) × (e ≤ places) × ((f : ℕ) → left i < f → (g : ℕ) × (left (i + 1) + 1 < g) × (typeAt f s i ≡ record′ (typesAt g s (i + 1) e)))
 ShapedAs s i (Elements k h) = (i < h) × (h ≤ places) × ((f : ℕ) → left i < f → (g : ℕ) × (left h < g) × (typeAt f s i ≡ coll (collectionOf k) (typeAt g s h)))
 
 pub record Shaped (s : List ℕ) (i : ℕ) (r : Shape) : Type 0 where
   pub is : ShapedAs s i r
+
+-- what reading the type at place i answers, at every fuel that suffices
+pub record ShapeAt (s : List ℕ) (i : ℕ) (r : Shape) : Type 0 where
+  pub is : (f : ℕ) → left i < f → r ≡ shapeIn f s i
+  pub shaped : Shaped s i r
+
+-- the type at place i, read once
+pub record Laid (s : List ℕ) (i : ℕ) (r : Layout) : Type 0 where
+  pub at-place : r .place ≡ i
+  pub shaped : Shaped s (r .place) (r .shape)
+
+-- the same, by the definition S of its shape
+pub record LaidBy (S : ℕ → List ℕ → ℕ → Shape) (s : List ℕ) (i : ℕ) (r : Layout) : Type 0 where
+  pub is : (f : ℕ) → left i < f → r .shape ≡ S f s i
+  pub at-place : r .place ≡ i
+  pub shaped : Shaped s (r .place) (r .shape)

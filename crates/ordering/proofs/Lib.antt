@@ -1,4 +1,4 @@
 -- Laws of the ordering step.
-pub mod Elements
 pub mod Inserting
+pub mod Wide
 pub mod Repeats

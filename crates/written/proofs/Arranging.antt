@@ -1,8 +1,9 @@
--- Laws of arranging: it keeps types, leaves a collection no more elements, and does not see how many columns a row has.
+-- Laws of arranging: it keeps types, leaves a collection no more elements and a value without a collection as it is, and does not
+-- see how many columns a row has.
 use mathlib.Core.Path.{_≡_, refl, sym, ap, ap₂, subst, fun-ext}
 use mathlib.Core.Bool.{Bool, true, false}
 use mathlib.Core.List.{List, [], _∷_, map}
-use Prim.Native.Nat.{ℕ, zero, suc, _≤_}
+use Prim.Native.Nat.{ℕ, suc, _≤_}
 use native.Mathlib.Omega.{arith}
 use lib.ListN.{length}
 use Rattle.calculus.specs.Syntax.{Collection, list, bag, set, Monoid, of, sum, max, some, all}
@@ -14,16 +15,17 @@ use Rattle.calculus.proofs.Lists.{All}
 use Rattle.calculus.proofs.Sorting.{rearranged-sym, all-rearranged, all-repeated, sortDistinct, put-eq, put-lt, put-gt, sort-rearranges, distinct-repeats}
 use Rattle.calculus.proofs.Order.{V-total}
 use Rattle.calculus.proofs.Folds.{arranged}
-use Rattle.checks.specs.Types.{Ty, Tys, record′, coll, cells}
-use Rattle.checks.proofs.Refold.{onParts, refold, refolds, gathered, arrangeAs, arrange-coll, rows-kept}
+use Rattle.checks.specs.Types.{Ty, Tys, number, truth, record′, coll, ynil, ycons, cells}
+use Rattle.checks.proofs.Refold.{onParts, refold, refolds, gathered, arrangeAs, arrange-coll, by-parts}
 use Rattle.normal_form.specs.Form.{Form, Forms, row, cell, rec, bin, negate, comp, fnil, fcons}
 use Rattle.normal_form.specs.Form as Fo
 use Rattle.normal_form.proofs.Arranged.{shape, shapes, arrange}
-use Rattle.outcome.specs.Written.{words, wordsL}
+use Rattle.layout.specs.Flat.{Flat, FlatEach}
 use Rattle.layout.specs.Shape.{typeOf, typesOf}
 use Rattle.layout.specs.Typed.{Of, a-number, a-truth, a-record, a-collection, OfEach, no-field, field, AllOf, no-element, element}
+use Rattle.layout.proofs.Types.{row-width}
 use Rattle.layout.proofs.Values.{from-all}
-use Rattle.ordering.proofs.Elements.{rearranged-count}
+use Rattle.layout.proofs.Elements.{rearranged-count}
 
 -- ---- elements as a list
 pub count-from : (l : List Value) → count (fromList l) ≡ length l
@@ -81,14 +83,20 @@ pub arrange-list : (t : Ty) (l : List Value) → All (Of t) l → All (Of t) (ma
 arrange-list t [] h = tt
 arrange-list t (v ∷ l) h = (arrange-of t v (h .0), arrange-list t l (h .1))
 
--- ---- a table row is as it is
-pub row-words : (n : ℕ) (vs : Values) → OfEach (cells n) vs → length (wordsL vs) ≡ n
-unfolding cells words
-row-words zero vs no-field = refl
-row-words (suc n) vs (field {vs = ws} (a-number z) k) = ap suc (row-words n ws k)
+-- ---- a value without a collection is as it is
+mutual
+  unfolding refold
 
-pub row-same : (n : ℕ) (v : Value) → arrangeAs (record′ (cells n)) v ≡ v
-row-same n v = let e = rows-kept ordered n (v ∷ []) in cc
+  pub flat-same : (t : Ty) (v : Value) → Flat t → arrangeAs t v ≡ v
+  flat-same number v h = refl
+  flat-same truth v h = refl
+  flat-same (record′ ts) v h = by-parts (λ a b. a ≡ b) (λ w. refl) (λ vs. Va.rec (refolds ordered ts vs)) Va.coll (λ vs. ap Va.rec (flat-sames ts vs h)) (λ vs. refl) v
+  flat-same (coll c t) v h = absurd h
+
+  flat-sames : (ts : Tys) (vs : Values) → FlatEach ts → refolds ordered ts vs ≡ vs
+  flat-sames ynil vs h = refl
+  flat-sames (ycons t ts) vnil h = refl
+  flat-sames (ycons t ts) (vcons v vs) h = ap₂ vcons (flat-same t v (h .0)) (flat-sames ts vs (h .1))
 
 gathered-same : (m : Monoid) (t u : Ty) → ((w : Value) → arrangeAs t w ≡ arrangeAs u w) → (v : Value) → arrangeAs (gathered m t) v ≡ arrangeAs (gathered m u) v
 unfolding gathered refold
@@ -105,7 +113,7 @@ mutual
   pub arrange-type : (C : ℕ → ℕ) (t : Form) (v : Value) → arrangeAs (typeOf C t) v ≡ arrange t v
   arrange-type C (Fo.num z) v = refl
   arrange-type C (Fo.truth b) v = refl
-  arrange-type C (row g) v = row-same (C g) v
+  arrange-type C (row g) v = flat-same (record′ (cells (C g))) v (row-width (C g) .0)
   arrange-type C (cell i g) v = refl
   arrange-type C (rec ts) v = ap (λ r. onParts r Va.coll v) (fun-ext λ vs. ap Va.rec (arrange-types C ts vs))
   arrange-type C (bin o t u) v = refl

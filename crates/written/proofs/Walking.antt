@@ -12,7 +12,7 @@ use Rattle.calculus.specs.Value as Va
 use Rattle.calculus.specs.Monoid.{ordered}
 use Rattle.calculus.proofs.Lists.{All}
 use Rattle.calculus.proofs.Folds.{arranged, from-to}
-use Rattle.checks.specs.Types.{Ty, Tys, number, truth, record′, coll, ynil, ycons, cells}
+use Rattle.checks.specs.Types.{Ty, Tys, record′, coll, ynil, ycons}
 use Rattle.checks.proofs.Refold.{onParts, refold, refolds, arrangeAs, arrange-coll}
 use Rattle.outcome.specs.Written.{words, wordsL}
 use Rattle.form.specs.Packing.{places, next}
@@ -21,18 +21,22 @@ use Rattle.buffer.specs.Reading.{natOf, countAt, behind, times}
 use Rattle.buffer.specs.Blocks.{Shifted, Marked, Cleared}
 use Rattle.buffer.proofs.Places.{ahead-in}
 use Rattle.layout.specs.declared.Kind.{Kind}
-use Rattle.layout.specs.declared.Shape.the-variants.{Word, Row, Fields, Elements}
-use Rattle.layout.specs.Shape.{typeAt, typesAt, collectionOf, Shaped}
-use Rattle.layout.specs.Typed.{Of, a-number, a-truth, a-record, a-collection, OfEach, no-field, field}
-use Rattle.layout.proofs.Types.{by-word, by-row, by-fields, by-elements, by-none, by-more}
+use Rattle.layout.specs.declared.Shape.the-variants.{Words, Fields, Elements}
+use Rattle.layout.specs.declared.Layout.{Layout}
+use Rattle.layout.specs.Flat.{Flat, widthOf}
+use Rattle.layout.specs.Elements.{wordsOf}
+use Rattle.layout.specs.Shape.{typeAt, typesAt, collectionOf, Shaped, Laid}
+use Rattle.layout.specs.Typed.{Of, a-record, a-collection, OfEach, no-field, field}
+use Rattle.layout.proofs.Types.{at-laid, by-words, by-fields, by-elements, by-none, by-more}
+use Rattle.layout.proofs.Flat.{flat-words}
 use Rattle.layout.proofs.Stands.{words-cons}
 use Rattle.layout.proofs.Values.{to-all}
+use Rattle.layout.proofs.Elements.{one-of, words-last}
 use Rattle.ordering.specs.declared.Kept.{Kept}
-use Rattle.ordering.specs.Ordering.{wordsOf, Held, Ordered}
-use Rattle.ordering.proofs.Elements.{one-of, words-last}
+use Rattle.ordering.specs.Ordering.{Held, Ordered}
 use Rattle.written.specs.declared.Ends.{Ends}
 use Rattle.written.specs.Walk.{Moved, Carried, Walked, WalkedFields, WalkedElements, Finished}
-use Rattle.written.proofs.Arranging.{count-from, arranged-count, arrange-list, row-words, row-same}
+use Rattle.written.proofs.Arranging.{count-from, arranged-count, arrange-list, flat-same}
 
 -- ---- carry
 pub carried : {n : ℕ} {e r : Ends} {o o′ : List ℤ} {q : ℕ} → q ≡ times n (behind o) (e .src) → Shifted (e .dst) (e .src) q o o′ → length o′ ≡ length o → r .src ≡ q → r .dst ≡ times n (behind o′) (e .dst) → Carried n e o o′ r
@@ -61,31 +65,23 @@ WalksAs t e o o′ r = (D G R : List ℤ) (v : Value) → Of t v → o ≡ D ++ 
 abbrev WalksEach : Tys → Ends → List ℤ → List ℤ → Ends → Type 0
 WalksEach ts e o o′ r = (D G R : List ℤ) (vs : Values) → OfEach ts vs → o ≡ D ++ (G ++ (wordsL vs ++ R)) → length D ≡ e .dst → length D + length G ≡ e .src → Moved D (wordsL (refolds ordered ts vs)) R o′ r
 
-number-by : {e r : Ends} {o o′ : List ℤ} → Carried 1 e o o′ r → WalksAs number e o o′ r
-unfolding words refold
-number-by C D G R v (a-number z) c ld ls = C .is D G (z ∷ []) R refl c ld ls
-
-truth-by : {e r : Ends} {o o′ : List ℤ} → Carried 1 e o o′ r → WalksAs truth e o o′ r
-unfolding words refold
-truth-by C D G R v (a-truth b) c ld ls = C .is D G (words (Va.truth b)) R refl c ld ls
-
-row-by : (n : ℕ) {e r : Ends} {o o′ : List ℤ} → Carried n e o o′ r → WalksAs (record′ (cells n)) e o o′ r
-unfolding words
-row-by n {r = r} {o′ = o′} C D G R v (a-record {vs = vs} h) c ld ls = subst (λ (u : Value). Moved D (words u) R o′ r) (sym (row-same n (Va.rec vs))) (C .is D G (wordsL vs) R (row-words n vs h) c ld ls)
+words-by : {n : ℕ} {e r : Ends} {o o′ : List ℤ} → Carried n e o o′ r → (t : Ty) → Flat t → n ≡ widthOf t → WalksAs t e o o′ r
+words-by {r = r} {o′ = o′} C t h en D G R v k c ld ls = subst (λ (u : Value). Moved D (words u) R o′ r) (sym (flat-same t v h)) (C .is D G (words v) R (flat-words t v h k ∙ sym en) c ld ls)
 
 record-by : {ts : Tys} {e r : Ends} {o o′ : List ℤ} → WalksEach ts e o o′ r → WalksAs (record′ ts) e o o′ r
 unfolding words refold onParts
 record-by W D G R v (a-record {vs = vs} h) c ld ls = W D G R vs h c ld ls
 
 module _ {s : List ℕ} {i : ℕ} {e r : Ends} {o o′ : List ℤ} where
-  pub walk-word : Shaped s i Word → Carried 1 e o o′ r → Walked s i e o o′ r
-  walk-word H C = record { is = by-word (λ t. WalksAs t e o o′ r) H (number-by C) (truth-by C) }
-
-  pub walk-row : {n : ℕ} → Shaped s i (Row n) → Carried n e o o′ r → Walked s i e o o′ r
-  walk-row {n} H C = record { is = by-row (λ t. WalksAs t e o o′ r) H (row-by n C) }
+  pub walk-words : {n : ℕ} → Shaped s i (Words n) → Carried n e o o′ r → Walked s i e o o′ r
+  walk-words H C = record { is = by-words (λ t. WalksAs t e o o′ r) H (words-by C) }
 
   pub walk-record : {end : ℕ} → Shaped s i (Fields end) → WalkedFields s (i + 1) end e o o′ r → Walked s i e o o′ r
   walk-record H F = record { is = by-fields (λ t. WalksAs t e o o′ r) H (λ g l. record-by (F .is g l)) }
+
+-- what is walked by the layout of a place
+pub walked : {s : List ℕ} {i : ℕ} {t : Layout} {e r : Ends} {o o′ : List ℤ} → Laid s i t → Walked s (t .place) e o o′ r → Walked s i e o o′ r
+walked {s} {e = e} {r = r} {o = o} {o′ = o′} L W = at-laid L (λ i. Walked s i e o o′ r) W
 
 -- ---- fields
 none-by : {e : Ends} {o : List ℤ} → WalksEach ynil e o o e
@@ -238,8 +234,12 @@ module _ (c : Collection) {t : Ty} {n : ℕ} {e b g r : Ends} {j : Kept} {o o₁
       (subst (λ (x : ℕ). Moved D (pos x ∷ wordsOf w) R o₄ r) (sym (count-from w))
       (list-by D G R l (count vs) (sym (count-from l) ∙ ap count (from-to vs)) (to-all h) (q ∙ ap (λ (us : Values). D ++ (G ++ (pos (count vs) ∷ (wordsL us ++ R)))) (sym (from-to vs))) ld ls (D ++ (pos (count vs) ∷ [])) refl (map (arrangeAs t) l) refl))
 
-pub walk-collection : {s : List ℕ} {i h : ℕ} {k : Kind} {n : ℕ} {e b g r : Ends} {j : Kept} {o o₁ o₂ o₃ o₄ : List ℤ} → Shaped s i (Elements k h) → (n ≡ countAt o (e .src)) × (n < 2 ^ 63) → Carried 1 e o o₁ b → WalkedElements s h n b o₁ o₂ g → Ordered s h k (b .dst) n (g .dst) o₂ o₃ j → Marked (e .dst) (j .count) o₃ o₄ → r .src ≡ g .src → r .dst ≡ j .end → Walked s i e o o₄ r
-walk-collection {s} {i} {h} {k} {n} {e} {b} {g} {r} {j} {o} {o₁} {o₂} {o₃} {o₄} H en C W S K es ed = record { is = by-elements (λ t. WalksAs t e o o₄ r) H (λ f l. coll-by (collectionOf k) (en .0) (en .1) C (W .is f l) (S .is f l) K es ed) }
+-- u: the elements' layout
+pub walk-collection : {s : List ℕ} {i h : ℕ} {k : Kind} {u : Layout} {n : ℕ} {e b g r : Ends} {j : Kept} {o o₁ o₂ o₃ o₄ : List ℤ} → Shaped s i (Elements k h) → Laid s h u → (n ≡ countAt o (e .src)) × (n < 2 ^ 63) → Carried 1 e o o₁ b → WalkedElements s (u .place) n b o₁ o₂ g → Ordered s (u .place) k (b .dst) n (g .dst) o₂ o₃ j → Marked (e .dst) (j .count) o₃ o₄ → r .src ≡ g .src → r .dst ≡ j .end → Walked s i e o o₄ r
+walk-collection {s} {i} {h} {k} {u} {n} {e} {b} {g} {r} {j} {o} {o₁} {o₂} {o₃} {o₄} H L en C W S K es ed =
+    let W₁ = at-laid L (λ x. WalkedElements s x n b o₁ o₂ g) W in
+    let S₁ = at-laid L (λ x. Ordered s x k (b .dst) n (g .dst) o₂ o₃ j) S in
+    record { is = by-elements (λ t. WalksAs t e o o₄ r) H (λ f l. coll-by (collectionOf k) (en .0) (en .1) C (W₁ .is f l) (S₁ .is f l) K es ed) }
 
 -- ---- finish
 pub finished : {s : List ℕ} {i : ℕ} {e r : Ends} {o o₁ o₂ : List ℤ} → e .src ≡ 0 → e .dst ≡ 0 → Walked s i e o o₁ r → length o₁ ≡ length o → Cleared (r .dst) (r .src) o₁ o₂ → Finished s i o o₂ (r .dst)

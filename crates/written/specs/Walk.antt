@@ -13,7 +13,7 @@ use Rattle.outcome.specs.Written.{words, wordsL}
 use Rattle.form.specs.Tree.{left}
 use Rattle.layout.specs.Shape.{typeAt, typesAt}
 use Rattle.layout.specs.Typed.{Of, OfEach}
-use Rattle.ordering.specs.Ordering.{wordsOf}
+use Rattle.layout.specs.Elements.{wordsOf}
 use Rattle.written.specs.declared.Ends.{Ends}
 
 -- behind D stand the words M, then a gap, then R; the ends are behind M and behind the gap

@@ -1,6 +1,7 @@
 // A value, raw in the answer buffer, is brought to its written form in place.
 ghost use Prim.Native.Nat.{_≤_};
 ghost use Rattle.form.specs.Packing.{places};
+ghost use Rattle.layout.specs.Shape.{Shaped};
 ghost use Rattle.written.specs.Walk.{Carried, Walked, WalkedFields, WalkedElements, Finished};
 use buffer::ahead;
 use buffer::clear;
@@ -8,8 +9,10 @@ use buffer::mark;
 use buffer::shift;
 use buffer::tally;
 use form::next;
+use layout::Layout;
 use layout::Shape;
-use layout::shape_at;
+use layout::element_layout;
+use layout::layout_at;
 use ordering::order;
 
 // Where the next raw word is read, and where the next written word goes.
@@ -30,24 +33,26 @@ fn carry(o: &mut [i64], n: usize, e: Ends) -> Ends
     }
 }
 
-// A value of the type at i. Nested collections come first: each element is brought to written form and moved down, then the
+// A value of the type t. Nested collections come first: each element is brought to written form and moved down, then the
 // elements are ordered, and the count is mended.
-fn walk(s: &[u64], o: &mut [i64], i: usize, e: Ends) -> Ends
-    ensures { λ r. ⌜ Walked (now (s .entry)) i e (now (o .entry)) (now (o .exit)) r ⌝ }
+fn walk(s: &[u64], o: &mut [i64], t: Layout, e: Ends) -> Ends
+    requires { ⌜ Shaped (now s) (t .place) (t .shape) ⌝ }
+    ensures { λ r. ⌜ Walked (now (s .entry)) (t .place) e (now (o .entry)) (now (o .exit)) r ⌝ }
 {
-    match shape_at(s, i) {
-        Shape::Word => carry(o, 1, e),
-        Shape::Row(n) => carry(o, n, e),
-        Shape::Fields(end) => walk_fields(s, o, i + 1, end, e),
+    let shape = t.shape;
+    match shape {
+        Shape::Words(n) => carry(o, n, e),
+        Shape::Fields(end) => walk_fields(s, o, t.place + 1, end, e),
         Shape::Elements(k, h) => {
+            let u = element_layout(s, h);
             let n = tally(o, e.src);
             let b = carry(o, 1, e);
-            let g = walk_elements(s, o, h, n, b);
-            let t = order(s, o, h, k, b.dst, n, g.dst);
-            mark(o, e.dst, t.count);
+            let g = walk_elements(s, o, u, n, b);
+            let r = order(s, o, u, k, b.dst, n, g.dst);
+            mark(o, e.dst, r.count);
             Ends {
                 src: g.src,
-                dst: t.end,
+                dst: r.end,
             }
         }
     }
@@ -61,18 +66,19 @@ fn walk_fields(s: &[u64], o: &mut [i64], c: usize, end: usize, e: Ends) -> Ends
     if end <= c {
         return e;
     }
-    let g = walk(s, o, c, e);
+    let g = walk(s, o, layout_at(s, c), e);
     walk_fields(s, o, next(s, c), end, g)
 }
 
 // Elements.
-fn walk_elements(s: &[u64], o: &mut [i64], i: usize, count: usize, e: Ends) -> Ends
-    ensures { λ r. ⌜ WalkedElements (now (s .entry)) i count e (now (o .entry)) (now (o .exit)) r ⌝ }
+fn walk_elements(s: &[u64], o: &mut [i64], t: Layout, count: usize, e: Ends) -> Ends
+    requires { ⌜ Shaped (now s) (t .place) (t .shape) ⌝ }
+    ensures { λ r. ⌜ WalkedElements (now (s .entry)) (t .place) count e (now (o .entry)) (now (o .exit)) r ⌝ }
 {
     let mut n = count;
     let mut g = e;
     while 0 < n {
-        g = walk(s, o, i, g);
+        g = walk(s, o, t, g);
         n -= 1;
     }
     g
@@ -82,7 +88,7 @@ fn walk_elements(s: &[u64], o: &mut [i64], i: usize, count: usize, e: Ends) -> E
 pub fn finish(s: &[u64], o: &mut [i64], i: usize) -> usize
     ensures { λ r. ⌜ Finished (now (s .entry)) i (now (o .entry)) (now (o .exit)) r ⌝ }
 {
-    let e = walk(s, o, i, Ends { src: 0, dst: 0 });
+    let e = walk(s, o, layout_at(s, i), Ends { src: 0, dst: 0 });
     clear(o, e.dst, e.src);
     e.dst
 }
