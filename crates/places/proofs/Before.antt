@@ -2,11 +2,10 @@
 use mathlib.Core.Path.{_≡_, refl, sym, ap, _∙_}
 use mathlib.Core.Logic.{_⊎_, inl, inr}
 use mathlib.Core.List.{List, [], _∷_, _++_, append-assoc}
-use mathlib.Core.Bool.{Bool, true, false, _||_}
+use mathlib.Core.Bool.{true, false}
 use Prim.Native.Nat.{ℕ, suc, pred, _+_, _≤_, _<_}
 use native.Mathlib.Omega.{arith}
 use borrow.Author.Tests.{eq-eqb}
-use Rattle.calculus.specs.Lists.{pick}
 use Rattle.normal_form.specs.Form.{Form, Forms, num, truth, row, cell, rec, bin, negate, comp, fnil, fcons}
 use Rattle.monoid.specs.declared.Monoid.{Monoid}
 use Rattle.plan.specs.Plan.{PTerm}
@@ -20,6 +19,7 @@ use Rattle.planner.specs.PlanIn.{termIn, termsIn}
 use Rattle.planner.proofs.Lies.{Lies, LiesF}
 use Rattle.laying.specs.Shapes.{shapeOf}
 use Rattle.machine.specs.Text.{parts, partsL, isPlace, among, upto}
+use Rattle.machine.proofs.Tidy.{upto-first}
 use Rattle.places.proofs.Saying.{partsIn}
 use Rattle.places.proofs.Heads.{one-slot, term-at, terms-more, parts-at, parts-in, parts-end}
 
@@ -128,20 +128,6 @@ module _ (s : List ℕ) (b : ℕ) (top : b ≤ places) {m : Monoid} (c : nodeAt 
     splits-in (fcons t ts) i g e h n l q (inl k) = in-first i g e (omega arith) (omega (arith, size-some t)) (splits t i (pred g) (h .1 .0) (omega arith) (omega arith) k)
     splits-in (fcons t ts) i g e h n l q (inr k) = in-rest t i g e (h .1 .0) (h .0) q (omega (arith, size-some t)) (parts-within ts (i + size t) b k .0)
         (splits-in ts (i + size t) (pred g) e (h .1 .1) (omega arith) l (omega (arith, size-some t)) k)
-
-or-left : (a c : Bool) → (a || c) ≡ false → a ≡ false
-or-left true c e = e
-or-left false c e = refl
-
-or-right : (a c : Bool) → (a || c) ≡ false → c ≡ false
-or-right true c e = cc e
-or-right false c e = e
-
--- what stands before the first part that is place n
-upto-first : (n : ℕ) (first : List PTerm) (x : PTerm) (more : List PTerm) → among n first ≡ false → isPlace n x ≡ true → upto n (first ++ x ∷ more) ≡ first
-unfolding upto among pick
-upto-first n [] x more h e = rw e
-upto-first n (t ∷ ts) x more h e = rw (or-left (isPlace n t) (among n ts) h) (ap (λ (z : List PTerm). t ∷ z) (upto-first n ts x more (or-right (isPlace n t) (among n ts) h) e))
 
 is-place : (n : ℕ) → isPlace n (slotBy (suc n)) ≡ true
 unfolding isPlace slotBy

@@ -2,7 +2,7 @@
 pub mod Sizes
 pub mod Laws
 mod Leaves
-mod Gating
+pub mod Gating
 mod Parting
 pub mod Forms
 pub mod Saying
@@ -10,4 +10,3 @@ pub mod Heads
 pub mod Upto
 pub mod Before
 pub mod Settling
-pub mod Asked

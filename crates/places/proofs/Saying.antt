@@ -3,10 +3,9 @@
 use mathlib.Core.Path.{_≡_, refl, sym, ap, ap₂, _∙_}
 use mathlib.Core.List.{List, [], _∷_, _++_}
 use mathlib.Core.Bool.{Bool, true, false}
-use Prim.Native.Nat.{ℕ, zero, suc, _+_, _≤_, _<_, min}
-use native.Mathlib.Omega.{arith}
-use borrow.Author.Tests.{leb-false, le-ltb, ltb-true, ltb-false}
-use lib.Dec.{leb, ltb}
+use Prim.Native.Nat.{ℕ, zero, suc, _+_, _<_, min}
+use borrow.Author.Tests.{leb-false}
+use lib.Dec.{leb}
 use lib.IntN.{ℤ, pos}
 use Rattle.calculus.specs.Lists.{pick, bindL}
 use Rattle.calculus.specs.Value.{Value, Values, num, truth, rec, coll, vnil, vcons, count}
@@ -15,12 +14,11 @@ use Rattle.plan.specs.Operators.{Row, evalP}
 use Rattle.form.specs.Packing.{next, nodeAt}
 use Rattle.laying.specs.declared.Shape.{Shape}
 use Rattle.laying.specs.declared.Shape.the-variants as Sh
-use Rattle.laying.specs.Laying.{big, bump, laid, Point, pt, lays, cutWords, cutWordsL}
+use Rattle.laying.specs.Laying.{big, Point, pt, lays, cutWords, cutWordsL}
 use Rattle.laying.specs.Shapes.{shapeOf}
-use Rattle.laying.proofs.Laying.{bump-more, bump-up, laid-limit, lays-append, bufferOf}
-use Rattle.signed.proofs.Word.{by-test}
+use Rattle.laying.proofs.Laying.{lays-append}
 use Rattle.planner.specs.PlanIn.{termIn}
-use Rattle.machine.specs.Text.{put, puts, wordsTo, wordsToL, said}
+use Rattle.machine.specs.Text.{wordsTo, wordsToL, said}
 use Rattle.places.specs.Kept.{keptOf}
 use Rattle.places.specs.Walk.{wordsAt, goOn, walkBy, walk}
 
@@ -50,15 +48,15 @@ partsIn zero s a b = []
 partsIn (suc f) s a b = pick (leb b a) [] (partsBy (λ j. partsIn f s j b) s (termIn f s a) a (shapeOf (nodeAt s a)))
 
 -- each collection's words stand where the walk meets it, and end where its kept word says
-abbrev pub settledBy : (ℕ → Point → Type 0) → ℕ → List ℕ → List ℤ → ℕ → Shape → Point → Type 0
-settledBy W lim s l a (Sh.Word k) P = W (next s a) (lays lim l P)
-settledBy W lim s l a (Sh.Row g) P = W (next s a) (lays lim l P)
-settledBy W lim s l a (Sh.Record e) P = W (a + 1) P
-settledBy W lim s l a Sh.Collection P = (lays lim l P ≡ goOn (keptOf s a) P) × W (next s a) (goOn (keptOf s a) P)
+abbrev pub walkableBy : (ℕ → Point → Type 0) → ℕ → List ℕ → List ℤ → ℕ → Shape → Point → Type 0
+walkableBy W lim s l a (Sh.Word k) P = W (next s a) (lays lim l P)
+walkableBy W lim s l a (Sh.Row g) P = W (next s a) (lays lim l P)
+walkableBy W lim s l a (Sh.Record e) P = W (a + 1) P
+walkableBy W lim s l a Sh.Collection P = (lays lim l P ≡ goOn (keptOf s a) P) × W (next s a) (goOn (keptOf s a) P)
 
-unfoldable pub Settled : ℕ → ℕ → List ℕ → Row → ℕ → ℕ → Point → Type 0
-Settled zero lim s r a b P = Unit {0}
-Settled (suc f) lim s r a b P = a < b → settledBy (λ j Q. Settled f lim s r j b Q) lim s (wordsAt f s r a) a (shapeOf (nodeAt s a)) P
+unfoldable pub Walkable : ℕ → ℕ → List ℕ → Row → ℕ → ℕ → Point → Type 0
+Walkable zero lim s r a b P = Unit {0}
+Walkable (suc f) lim s r a b P = a < b → walkableBy (λ j Q. Walkable f lim s r j b Q) lim s (wordsAt f s r a) a (shapeOf (nodeAt s a)) P
 
 module _ (lim : ℕ) (s : List ℕ) (r : Row) (b : ℕ) where
   -- the words of parts, laid
@@ -73,37 +71,19 @@ module _ (lim : ℕ) (s : List ℕ) (r : Row) (b : ℕ) where
   unfolding said bindL
   say-more f a ts P = sym (ap (λ (l : List ℤ). lays lim (l ++ said big r ts) P) (words-cut (evalP (termIn f s a) r)) ∙ lays-append lim (wordsAt f s r a) (said big r ts) P)
 
-  pub walk-said : (f a : ℕ) (P : Point) → Settled f lim s r a b P → walk f lim s r a b P ≡ saying (partsIn f s a b) P
-  unfolding walk partsIn Settled pick
+  pub walk-said : (f a : ℕ) (P : Point) → Walkable f lim s r a b P → walk f lim s r a b P ≡ saying (partsIn f s a b) P
+  unfolding walk partsIn Walkable pick
   walk-said zero a P S = say-none P
   walk-said (suc f) a P S = go (λ j Q. walk-said f j Q) (leb b a) refl
     where
-      by-shape : ((j : ℕ) (Q : Point) → Settled f lim s r j b Q → walk f lim s r j b Q ≡ saying (partsIn f s j b) Q) → (x : Shape) → settledBy (λ j Q. Settled f lim s r j b Q) lim s (wordsAt f s r a) a x P →
+      by-shape : ((j : ℕ) (Q : Point) → Walkable f lim s r j b Q → walk f lim s r j b Q ≡ saying (partsIn f s j b) Q) → (x : Shape) → walkableBy (λ j Q. Walkable f lim s r j b Q) lim s (wordsAt f s r a) a x P →
           walkBy (λ j Q. walk f lim s r j b Q) lim s (wordsAt f s r a) a x P ≡ saying (partsBy (λ j. partsIn f s j b) s (termIn f s a) a x) P
       by-shape ih (Sh.Word k) h = ih (next s a) (lays lim (wordsAt f s r a) P) h ∙ say-more f a (partsIn f s (next s a) b) P
       by-shape ih (Sh.Row g) h = ih (next s a) (lays lim (wordsAt f s r a) P) h ∙ say-more f a (partsIn f s (next s a) b) P
       by-shape ih (Sh.Record e) h = ih (a + 1) P h
       by-shape ih Sh.Collection h = ih (next s a) (goOn (keptOf s a) P) (h .1) ∙ ap (saying (partsIn f s (next s a) b)) (sym (h .0)) ∙ say-more f a (partsIn f s (next s a) b) P
 
-      go : ((j : ℕ) (Q : Point) → Settled f lim s r j b Q → walk f lim s r j b Q ≡ saying (partsIn f s j b) Q) → (t : Bool) → leb b a ≡ t →
+      go : ((j : ℕ) (Q : Point) → Walkable f lim s r j b Q → walk f lim s r j b Q ≡ saying (partsIn f s j b) Q) → (t : Bool) → leb b a ≡ t →
           pick t P (walkBy (λ j Q. walk f lim s r j b Q) lim s (wordsAt f s r a) a (shapeOf (nodeAt s a)) P) ≡ saying (pick t [] (partsBy (λ j. partsIn f s j b) s (termIn f s a) a (shapeOf (nodeAt s a)))) P
       go ih true e = say-none P
       go ih false e = by-shape ih (shapeOf (nodeAt s a)) (S (leb-false b a e))
-
--- ---- words laid are words put, one place behind the other; places and limits are at most 2^62
-behind-limit : (lim : ℕ) (l o : List ℤ) (p : ℕ) → lim ≤ p → bufferOf (lays lim l (pt o p)) ≡ o
-unfolding lays
-behind-limit lim [] o p h = refl
-behind-limit lim (x ∷ l) o p h = ap (λ (z : List ℤ). bufferOf (lays lim l (pt z (bump p)))) (laid-limit lim p x o h) ∙ behind-limit lim l o (bump p) (omega (arith, bump-up p))
-
-puts-behind : (lim : ℕ) (l o : List ℤ) (p : ℕ) → lim ≤ p → puts lim p l o ≡ o
-unfolding puts put pick
-puts-behind lim [] o p h = refl
-puts-behind lim (x ∷ l) o p h = ap (puts lim (suc p) l) (rw (le-ltb p lim h)) ∙ puts-behind lim l o (suc p) (omega arith)
-
-pub lays-puts : (lim : ℕ) (l o : List ℤ) (p : ℕ) → lim ≤ big → p ≤ big → bufferOf (lays lim l (pt o p)) ≡ puts lim p l o
-unfolding lays puts put laid
-lays-puts lim [] o p b h = refl
-lays-puts lim (x ∷ l) o p b h = by-test (ltb p big)
-    (λ e. ap (λ (q : ℕ). bufferOf (lays lim l (pt (laid lim p x o) q))) (sym (bump-more p (ltb-true p big e)) ∙ omega arith) ∙ lays-puts lim l (laid lim p x o) (suc p) b (omega (arith, ltb-true p big e)))
-    (λ e. behind-limit lim l (laid lim p x o) (bump p) (omega (arith, ltb-false p big e, bump-up p)) ∙ sym (puts-behind lim l (laid lim p x o) (suc p) (omega (arith, ltb-false p big e))))

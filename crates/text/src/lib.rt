@@ -1,4 +1,4 @@
-// Text laid into a byte buffer behind a limit: bytes, and numbers in decimal. With limit 0 nothing is written, and the place
+// Text laid into a byte buffer below a limit: bytes, and numbers in decimal. With limit 0 nothing is written, and the place
 // behind it is its length.
 ghost use mathlib.Core.Path.{_≡_};
 ghost use mathlib.Core.List.{_∷_, []};

@@ -27,6 +27,7 @@ use Rattle.machine.specs.Program.{Program}
 use Rattle.machine.specs.Program as Pr
 use Rattle.machine.specs.Flat.{Path, start, loopP, inP, pastP, Valid}
 use Rattle.machine.specs.Text.{parts, among, width}
+use Rattle.machine.proofs.Tidy.{among-append}
 use Rattle.links.specs.Spots.{Spots, end, compOf, loopsAt, gensAt, orUnit, inners, innersF, innersC, spotsOf}
 use Rattle.links.specs.Alike.{fuel}
 use Rattle.links.proofs.Joined.{comp-inners, comp-innersF, comp-innersC}
@@ -36,12 +37,12 @@ use Rattle.places.proofs.Heads.{parts-end, head-parts}
 use Rattle.places.proofs.Before.{PartAt, PartAtF, parts-within}
 use Rattle.places.proofs.Settling.{Between, add-parts, into-parts}
 use Rattle.tracking.specs.Reading.{headAt}
-use Rattle.tracking.specs.Places.{behindNest, spotsAt, backAt}
+use Rattle.tracking.specs.Places.{behindFirst, spotsAt, backAt}
 use Rattle.tracking.specs.Standing.{Question}
 use Rattle.tracking.proofs.Along.{as-loop, as-end, as-inner, wired-at}
 use Rattle.wiring.specs.Heads.{Collected, headForm, Later, LaterOf, Based, basis}
 use Rattle.wiring.proofs.Tops.{part-top, parts-top, top-range, tops-range}
-use Rattle.wiring.proofs.Parts.{among-append, found}
+use Rattle.wiring.proofs.Parts.{found}
 use Rattle.wiring.proofs.Looping.{own-count}
 use Rattle.wiring.proofs.Collections.{collection-at}
 
@@ -178,4 +179,4 @@ module _ {d : Bytes} (Q : Question d) (s : List ℕ) (B : Based s 0 0 (Q .spots)
   unfolding compOf
   later-inner π i p v =
       let y = as-inner (Q .base) (backAt sp π) i p (spotsAt sp π) (wired-at Q π (Pr.inner i p) v) .shape in
-      later-same s (compOf (behindNest (spotsAt sp π))) (compOf (spotsAt sp π)) (basis π) (ap compOf y) (subst (Based s (basis π) (width π)) y (based-at π (Pr.inner i p) v) .0)
+      later-same s (compOf (behindFirst (spotsAt sp π))) (compOf (spotsAt sp π)) (basis π) (ap compOf y) (subst (Based s (basis π) (width π)) y (based-at π (Pr.inner i p) v) .0)

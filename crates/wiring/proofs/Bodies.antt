@@ -12,8 +12,7 @@ use lib.ListN.{length, length-append}
 use Rattle.calculus.specs.Lists.{pick, upd}
 use Rattle.calculus.specs.Syntax.{Monoid}
 use Rattle.normal_form.specs.Form.{Form, Clauses, comp, done, gen, cond, gens, gensC}
-use Rattle.normal_form.proofs.Agree.{Grows, upd-grows}
-use Rattle.normal_form.proofs.Proper.{behind, Ordered, OrderedC}
+use Rattle.normal_form.proofs.Proper.{behind, Ordered, OrderedC, behind-grows}
 use Rattle.form.specs.declared.Node.the-variants as N
 use Rattle.form.specs.Packing.{places, next, nodeAt}
 use Rattle.form.specs.Flat.{size, sizeC}
@@ -74,12 +73,6 @@ module _ {s : List ℕ} where
 
   abbrev pub comp-at : (B : Body s) → CompAt s (B .node)
   comp-at B = record { monoid = B .monoid; clauses = B .clauses; head = B .head; lies = B .lies; few = B .few; past = B .past; past-head = B .past-head; scalars = B .scalars; fitting = B .fitting }
-
-pub behind-grows : (q : Clauses) (S : ℕ → Bool) → Grows S (behind q S)
-unfolding behind
-behind-grows done S g h = h
-behind-grows (gen x k q) S g h = behind-grows q (upd x true S) g (upd-grows x S g h)
-behind-grows (cond t q) S g h = behind-grows q S g h
 
 -- ---- conditions
 module _ (s : List ℕ) (F : List Id) (c : ℕ → ℕ) (n : ℕ) where

@@ -19,7 +19,7 @@ use Rattle.links.specs.Spots.{Spots, end, loop, inner, loopCode, compOf}
 use Rattle.links.specs.Alike.{fuel, EndAt}
 use Rattle.places.proofs.Before.{PartAt}
 use Rattle.places.proofs.Forms.{head-node}
-use Rattle.tracking.specs.Places.{behindLoop, inside, behindNest, loopNode, spotsAt, backAt}
+use Rattle.tracking.specs.Places.{behindFirst, inside, loopNode, spotsAt, backAt}
 use Rattle.tracking.specs.Reading.{headAt}
 use Rattle.tracking.specs.Standing.{Question}
 use Rattle.tracking.specs.Wired.{Wired, loopI, endI}
@@ -60,10 +60,10 @@ module _ {d : Bytes} (Q : Question d) (H : Fills (Q .base) [] (Q .spots)) where
   sp = Q .spots
 
   -- the spots there have the operator's shape
-  loop-shape : (π : Path) (a : Source) (t : PTerm) (p : Program) → Valid (Q .program) π (Pr.loop a t p) → spotsAt sp π ≡ loop (loopNode (spotsAt sp π)) (behindLoop (spotsAt sp π))
+  loop-shape : (π : Path) (a : Source) (t : PTerm) (p : Program) → Valid (Q .program) π (Pr.loop a t p) → spotsAt sp π ≡ loop (loopNode (spotsAt sp π)) (behindFirst (spotsAt sp π))
   loop-shape π a t p v = as-loop s (backAt sp π) a t p (spotsAt sp π) (wired-at Q π (Pr.loop a t p) v) .shape
 
-  inner-shape : (π : Path) (i p : Program) → Valid (Q .program) π (Pr.inner i p) → spotsAt sp π ≡ inner (inside (spotsAt sp π)) (behindNest (spotsAt sp π))
+  inner-shape : (π : Path) (i p : Program) → Valid (Q .program) π (Pr.inner i p) → spotsAt sp π ≡ inner (inside (spotsAt sp π)) (behindFirst (spotsAt sp π))
   inner-shape π i p v = as-inner s (backAt sp π) i p (spotsAt sp π) (wired-at Q π (Pr.inner i p) v) .shape
 
   pub fills-at : (π : Path) (x : Program) → Valid (Q .program) π x → Fills s (fillers sp π) (spotsAt sp π)

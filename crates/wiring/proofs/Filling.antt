@@ -10,7 +10,7 @@ use Rattle.calculus.specs.Lists.{upd}
 use Rattle.calculus.specs.Syntax.{Monoid}
 use Rattle.normal_form.specs.Form.{Form, Forms, Clauses, NormalForm, asForm, num, truth, row, cell, rec, bin, negate, comp, fnil, fcons, done, gen, cond, gens, gensC}
 use Rattle.normal_form.proofs.Agree.{Grows}
-use Rattle.normal_form.proofs.Proper.{behind, Ordered, OrderedF, OrderedC}
+use Rattle.normal_form.proofs.Proper.{behind, Ordered, OrderedF, OrderedC, behind-grows}
 use Rattle.form.specs.Packing.{places}
 use Rattle.form.specs.Flat.{size, sizeF, sizeC}
 use Rattle.plan.specs.Planner as P
@@ -26,7 +26,7 @@ use Rattle.tracking.specs.Wired.{Id, endI}
 use Rattle.wiring.specs.Fillers.{NamesRow, InnerFilled, Fills}
 use Rattle.wiring.proofs.Steps.{Steps, StepsF, StepsC}
 use Rattle.wiring.proofs.Tops.{TopAt, TopAtF, TopAtC, top-range, clause-range}
-use Rattle.wiring.proofs.Bodies.{Body, holds, tops, Filled, behind-grows, end-filled, inner-filled, past-filled}
+use Rattle.wiring.proofs.Bodies.{Body, holds, tops, Filled, end-filled, inner-filled, past-filled}
 use Rattle.wiring.proofs.Looping.{loopIds, own-length, own-named, own-rise, loops-filled}
 
 pub head-fits : (b : Bool) (t : Form) → Either b (Fitting t) (Scalar t) → Fitting t

@@ -2,36 +2,27 @@
 use native.Mathlib.Omega.{arith}
 use mathlib.Core.Path.{_≡_, refl, sym, ap, _∙_}
 use mathlib.Core.Logic.{inl, inr}
-use mathlib.Core.Bool.{Bool, true, false, _||_, or-assoc}
-use mathlib.Core.List.{List, [], _∷_, _++_}
+use mathlib.Core.Bool.{true, _||_, or-false}
+use mathlib.Core.List.{List}
 use Prim.Native.Nat.{ℕ, zero, suc, _+_, _≤_}
 use borrow.Author.Tests.{eqb-true}
 use lib.Dec.{eqb}
 use Rattle.normal_form.specs.Form.{Form, Forms, num, truth, row, cell, rec, bin, negate, comp, fnil, fcons}
 use Rattle.form.specs.Flat.{size}
-use Rattle.signed.proofs.Word.{by-test}
-use Rattle.plan.specs.Plan.{PTerm}
+use Rattle.signed.proofs.Word.{by-test, no}
 use Rattle.plan.specs.Planner as P
 use Rattle.planner.specs.Marks.{markAt, slotBy}
-use Rattle.planner.proofs.Marked.{Marked, MarkedF, no}
+use Rattle.planner.proofs.Marked.{Marked, MarkedF}
 use Rattle.planner.proofs.Planning.{slotsBy}
 use Rattle.machine.specs.Text.{parts, partsL, isPlace, among}
+use Rattle.machine.proofs.Tidy.{among-append}
 use Rattle.places.proofs.Before.{PartAt, PartAtF}
 use Rattle.wiring.proofs.Tops.{TopAt, TopAtF}
-
-or-none : (b : Bool) → (b || false) ≡ true → b ≡ true
-or-none true e = refl
-or-none false e = e
-
-pub among-append : (n : ℕ) (l k : List PTerm) → among n (l ++ k) ≡ (among n l || among n k)
-unfolding among
-among-append n [] k = refl
-among-append n (t ∷ l) k = ap (λ b. isPlace n t || b) (among-append n l k) ∙ sym (or-assoc (isPlace n t) (among n l) (among n k))
 
 slot-part : (m n : ℕ) → among n (parts (slotBy m)) ≡ true → m ≡ suc n
 unfolding slotBy parts among isPlace
 slot-part zero n e = no (sym e)
-slot-part (suc k) n e = ap suc (sym (eqb-true n k (or-none (eqb n k) e)))
+slot-part (suc k) n e = ap suc (sym (eqb-true n k (sym (or-false (eqb n k)) ∙ e)))
 
 -- the part with mark n + 1
 pub record Found (s : List ℕ) (n : ℕ) (A B : ℕ → Type 0) : Type 0 where
@@ -52,7 +43,7 @@ module _ (s : List ℕ) (c : ℕ → ℕ) (n : ℕ) (low : (g : ℕ) → c g ≤
     found (rec ts) i k w e = founds ts (i + 1) k w e
     found (bin o t u) i k w e = no (sym e)
     found (negate t) i k w e = no (sym e)
-    found (comp m q u) i k w e = record { node = i; part = refl; top = refl; mark = w .0 ∙ ap suc (sym (eqb-true n k (or-none (eqb n k) e))) }
+    found (comp m q u) i k w e = record { node = i; part = refl; top = refl; mark = w .0 ∙ ap suc (sym (eqb-true n k (sym (or-false (eqb n k)) ∙ e))) }
 
     founds : (ts : Forms) (i k : ℕ) → MarkedF s i ts c k → among n (partsL (P.terms ts (slotsBy c) k)) ≡ true → Found s n (PartAtF i ts) (TopAtF i ts)
     founds fnil i k w e = no (sym e)

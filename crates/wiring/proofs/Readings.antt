@@ -2,14 +2,15 @@
 use mathlib.Core.Path.{_≡_, refl, sym, ap, subst, _∙_}
 use mathlib.Core.Bool.{false}
 use mathlib.Core.List.{List}
-use Prim.Native.Nat.{ℕ, zero, suc, _+_, _≤_, min}
+use Prim.Native.Nat.{ℕ, zero, suc, _+_, _≤_}
 use native.Mathlib.Nat.{le-refl}
 use Rattle.encoding.specs.Record.{Bytes}
 use Rattle.normal_form.specs.Bound.{within, withinC}
-use Rattle.form.specs.Packing.{places, belowOf, next, wordAt, monoidAt}
+use Rattle.form.specs.Packing.{wordAt, monoidAt}
 use Rattle.form.specs.Flat.{monoidArg}
 use Rattle.form.proofs.ReadBack.{monoid-back}
 use Rattle.form.specs.Tree.{clauseOf, formTree}
+use Rattle.form.specs.Head.{headBy, headNode}
 use Rattle.plan.specs.Plan.{PTerm, Source}
 use Rattle.plan.specs.Planner.{conj}
 use Rattle.plan.specs.Operators.{Row}
@@ -22,10 +23,9 @@ use Rattle.machine.specs.Text.{collects}
 use Rattle.links.specs.Spots.{Spots, compOf}
 use Rattle.links.specs.Alike.{fuel}
 use Rattle.links.proofs.Reread.{term-again, head-again, conds-again}
-use Rattle.environment.proofs.Frame.{node-same, form-same, clauses-same}
+use Rattle.environment.proofs.Frame.{node-same, form-same, clauses-same, next-same}
 use Rattle.operators.specs.Sorts.{sortOf, wordBound}
 use Rattle.places.specs.Agrees.{Agrees, AgreesC}
-use Rattle.places.specs.Contract.{headBy, headNode}
 use Rattle.tracking.specs.Places.{loopNode, spotsAt, backAt}
 use Rattle.tracking.specs.Reading.{headAt, LoopReads, EndReads}
 use Rattle.tracking.specs.Standing.{Question, Kept}
@@ -34,10 +34,6 @@ use Rattle.wiring.proofs.Bounds.{Smalls}
 
 -- scratches with the same words of a normal form
 module _ (s t : List ℕ) (w : (i : ℕ) → wordAt s i ≡ wordAt t i) where
-  pub next-same : (i : ℕ) → next s i ≡ next t i
-  unfolding next
-  next-same i = ap (λ x. min (i + 1 + belowOf x) places) (w i)
-
   pub mark-same : (i : ℕ) → markAt s i ≡ markAt t i
   mark-same i = ap markOf (w i)
 
@@ -50,17 +46,17 @@ module _ (s t : List ℕ) (w : (i : ℕ) → wordAt s i ≡ wordAt t i) where
   head-form-same c = form-same s t w fuel (headAt s c) ∙ ap (formTree fuel t) (head-node-same fuel (c + 1))
 
   head-term-same : (i : ℕ) → headIn fuel s i ≡ headIn fuel t i
-  head-term-same i = head-again t s (node-same s t w) next-same mark-same fuel i
+  head-term-same i = head-again t s (node-same s t w) (next-same s t w) mark-same fuel i
 
   pub smalls-same : (c : ℕ) → Smalls t c → Smalls s c
   smalls-same c h = record {
     clauses = ap withinC (clauses-same s t w fuel (c + 1)) ∙ h .clauses;
     head = ap within (head-form-same c) ∙ h .head;
-    term = head-term-same (c + 1) ∙ h .term ∙ sym (term-again t s (node-same s t w) next-same mark-same fuel (headAt t c)) ∙ ap (termIn fuel s) (sym (head-node-same fuel (c + 1)));
+    term = head-term-same (c + 1) ∙ h .term ∙ sym (term-again t s (node-same s t w) (next-same s t w) mark-same fuel (headAt t c)) ∙ ap (termIn fuel s) (sym (head-node-same fuel (c + 1)));
   }
 
   conds-same : (m m′ i : ℕ) → m ≡ m′ → condsIn fuel s m i ≡ condsIn fuel t m′ i
-  conds-same m m′ i e = conds-again t s (node-same s t w) next-same mark-same fuel m i ∙ ap (λ k. condsIn fuel t k i) e
+  conds-same m m′ i e = conds-again t s (node-same s t w) (next-same s t w) mark-same fuel m i ∙ ap (λ k. condsIn fuel t k i) e
 
 module _ {d : Bytes} (Q : Question d) (small : (π : Path) (x : Program) → Valid (Q .program) π x → Smalls (Q .base) (compOf (spotsAt (Q .spots) π))) {s : List ℕ} (K : Kept (Q .base) s) (r : Row) where
   -- a loop's conditions

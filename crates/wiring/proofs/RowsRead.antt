@@ -26,7 +26,7 @@ use Rattle.machine.proofs.Fitting.{Scalar, Either, Fitting}
 use Rattle.links.specs.Spots.{Spots, compOf}
 use Rattle.links.specs.Alike.{fuel}
 use Rattle.environment.specs.Env.{tablesIn}
-use Rattle.environment.proofs.Frame.{node-same}
+use Rattle.environment.proofs.Frame.{node-same, next-same}
 use Rattle.operators.specs.Sorts.{sortOf, wordBound, mergeBound}
 use Rattle.places.specs.Agrees.{Agrees, AgreesC}
 use Rattle.places.specs.Walk.{AgreesP}
@@ -41,7 +41,7 @@ use Rattle.tracking.proofs.Along.{comp-node}
 use Rattle.wiring.specs.Fillers.{fillers, Named, NamedC, NamedUpto, CompAt, headOf, Fills}
 use Rattle.wiring.specs.Holding.{Holding}
 use Rattle.wiring.proofs.Bounds.{Smalls}
-use Rattle.wiring.proofs.Readings.{next-same, mark-same, head-node-same, loop-reads, end-reads}
+use Rattle.wiring.proofs.Readings.{mark-same, head-node-same, loop-reads, end-reads}
 use Rattle.wiring.proofs.Tops.{part-top, top-within}
 use Rattle.wiring.proofs.Naming.{upto-whole}
 use Rattle.wiring.proofs.Filling.{head-fits}

@@ -27,7 +27,7 @@ use Rattle.links.specs.Spots.{compOf}
 use Rattle.links.specs.Alike.{fuel}
 use Rattle.links.proofs.Reread.{term-again}
 use Rattle.environment.specs.Env.{tablesIn}
-use Rattle.environment.proofs.Frame.{node-same}
+use Rattle.environment.proofs.Frame.{node-same, next-same}
 use Rattle.places.specs.Walk.{walk}
 use Rattle.places.proofs.Saying.{partsIn}
 use Rattle.places.proofs.Heads.{head-parts}
@@ -42,7 +42,7 @@ use Rattle.wiring.specs.Fillers.{fillers, NamedUpto, CompAt, headOf, Fil
 use Rattle.wiring.specs.Passed.{passes}
 use Rattle.wiring.specs.Heads.{Collected, HeadLies, Later, LaterOf, Based, Done, basis}
 use Rattle.wiring.proofs.Bounds.{Smalls}
-use Rattle.wiring.proofs.Readings.{next-same, mark-same}
+use Rattle.wiring.proofs.Readings.{mark-same}
 use Rattle.wiring.proofs.Naming.{upto-whole}
 use Rattle.wiring.proofs.FilledAt.{fillers-width, end-filled-at, inner-filled-at, head-term, part-at}
 use Rattle.wiring.proofs.RowsRead.{lies-now, head-now}

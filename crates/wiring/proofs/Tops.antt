@@ -12,9 +12,10 @@ use Rattle.form.specs.declared.Node.the-variants as N
 use Rattle.form.specs.Packing.{nodeAt}
 use Rattle.form.specs.Flat.{size, sizeF, sizeC}
 use Rattle.plan.specs.Planner as P
+use Rattle.signed.proofs.Word.{no}
 use Rattle.planner.specs.Marks.{markAt}
 use Rattle.planner.proofs.Lies.{Lies, LiesF}
-use Rattle.planner.proofs.Marked.{nextC, Marked, MarkedF, MarkedC, next-up, nexts-up, nextC-up, and-left, and-right, no}
+use Rattle.planner.proofs.Marked.{nextC, Marked, MarkedF, MarkedC, next-up, nexts-up, nextC-up, and-left, and-right}
 use Rattle.places.proofs.Before.{PartAt, PartAtF}
 
 abbrev mutual

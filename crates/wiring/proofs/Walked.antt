@@ -1,7 +1,7 @@
 -- The walk over a head's parts, from where the collection ends so far: the parts told already are there, the others are put behind
 -- the text.
 use native.Mathlib.Omega.{arith}
-use mathlib.Core.Path.{_≡_, sym, ap, ap₂, subst, _∙_}
+use mathlib.Core.Path.{_≡_, sym, ap, ap₂, subst, _∙_, refl}
 use mathlib.Core.List.{List, [], _∷_, _++_, append-assoc, append-nil}
 use mathlib.Core.Bool.{true}
 use Prim.Native.Nat.{ℕ, _+_, _≤_, _<_, min}
@@ -18,7 +18,7 @@ use Rattle.laying.specs.Laying.{Point, pt, lays}
 use Rattle.laying.specs.Shapes.{shapeOf}
 use Rattle.laying.proofs.Laying.{lays-append}
 use Rattle.planner.specs.Marks.{slotBy}
-use Rattle.planner.specs.PlanIn.{termIn}
+use Rattle.planner.specs.PlanIn.{termIn, monoidBy}
 use Rattle.machine.specs.Program.{Program, endOf}
 use Rattle.machine.specs.Flat.{Words, Path, before, pos, Valid, row}
 use Rattle.machine.specs.Text.{puts, Written, parts, said, upto, headParts, collects, writes, told, textBack, textInto}
@@ -37,10 +37,11 @@ use Rattle.places.proofs.Heads.{term-at}
 use Rattle.places.proofs.Before.{PartAt, parts-upto}
 use Rattle.places.proofs.Settling.{Stood, settled-head}
 use Rattle.cursors.specs.Cursors.{most, endIn}
-use Rattle.tracking.specs.Wired.{Id, endI, ids, idAt}
+use Rattle.tracking.specs.Wired.{endI, ids, idAt}
 use Rattle.tracking.specs.Places.{spotsAt}
-use Rattle.tracking.specs.Standing.{Question, SaysAt, Stands}
+use Rattle.tracking.specs.Standing.{Question, Stands}
 use Rattle.tracking.proofs.Along.{number-low, end-id, comp-node}
+use Rattle.tracking.proofs.Ends.{says-end}
 use Rattle.wiring.specs.Passed.{passes}
 use Rattle.wiring.specs.Heads.{Collected, HeadLies, Later, Done}
 use Rattle.wiring.proofs.Collections.{collects-shape, collection-at}
@@ -48,8 +49,8 @@ use Rattle.wiring.proofs.Again.{lays-there, lays-from}
 use Rattle.wiring.proofs.Passing.{uptoWith, told-pass}
 
 -- the word of a collection says where it ends
-says-end : {d : Bytes} (Q : Question d) {s : List ℕ} {w : Words} {r : Spans} → Stands Q s w r → (o j : ℕ) → o < length (ids (Q .spots)) → idAt (Q .spots) o ≡ endI j → Collected s j → endIn s j ≡ min (r .upto o) most
-says-end Q {s} {w} {r} S o j l e c = subst (λ (y : Id). SaysAt s w r o y) e (S .says o l) .1 (collection-at (nodeAt s j) c .collects) .0
+ends-at : {d : Bytes} (Q : Question d) {s : List ℕ} {w : Words} {r : Spans} → Stands Q s w r → (o j : ℕ) → o < length (ids (Q .spots)) → idAt (Q .spots) o ≡ endI j → Collected s j → endIn s j ≡ min (r .upto o) most
+ends-at Q {s} S o j l e c = says-end Q S o j l e (monoidBy (nodeAt s j)) refl .1 (collection-at (nodeAt s j) c .collects) .0
 
 module _ {d : Bytes} (Q : Question d) {s : List ℕ} {o : List ℤ} {limit : ℕ} {w : Words} {r : Spans} (π : Path) (x : Program) (v : Valid (Q .program) π x) (wr : writes (Q .program) π ≡ true)
     (W : Written limit (Q .lent) o (textInto most (tablesIn d) (Q .program) w π)) (K : Keeps most (tablesIn d) (Q .program) true w r π) (S : Stands Q s w r) where
@@ -72,7 +73,7 @@ module _ {d : Bytes} (Q : Question d) {s : List ℕ} {o : List ℤ} {limit : ℕ
   here = ap shapeOf (node-same s (Q .base) (S .kept .form) c ∙ comp-node Q π x v) ∙ collects-shape (endOf x .monoid) (writes-collects q π x v wr)
 
   from : endIn s c ≡ min (length text) most
-  from = says-end Q S (pos π + before x) c (number-low Q π x v) (end-id Q π x v) here ∙ ap (λ n. min n most) (ap (r .upto) (last-is T q π x v) ∙ keeps-open most T q true π w r wr K .1)
+  from = ends-at Q S (pos π + before x) c (number-low Q π x v) (end-id Q π x v) here ∙ ap (λ n. min n most) (ap (r .upto) (last-is T q π x v) ∙ keeps-open most T q true π w r wr K .1)
 
   short : limit ≤ most
   short = omega (arith, W .fits, Q .short)
@@ -94,7 +95,7 @@ module _ {d : Bytes} (Q : Question d) {s : List ℕ} {o : List ℤ} {limit : ℕ
         let us : List PTerm = upto n (headParts x) in
         let p : partsIn fuel s h j ≡ us = parts-upto s j n u h fuel fuel (N .node) (A .mark) (L .lies) (L .low) (omega arith) (omega arith) m (Z .fresh j n m k (A .mark)) ∙ ap (upto n) hp in
         let t : termIn fuel s j ≡ place n = term-at s fuel j (N .node) (omega arith) ∙ ap slotBy (A .mark) in
-        let z : pt o (keptOf s j) ≡ pt o (min (length (text ++ said most ρ (uptoWith n x))) most) = ap (pt o) (says-end Q S (E .operator) j (E .low) (E .id) k ∙ ap (λ i. min i most) (E .ends)) in
+        let z : pt o (keptOf s j) ≡ pt o (min (length (text ++ said most ρ (uptoWith n x))) most) = ap (pt o) (ends-at Q S (E .operator) j (E .low) (E .id) k ∙ ap (λ i. min i most) (E .ends)) in
         ap₂ (λ (y : List PTerm) (a : PTerm). lays limit (said most ρ (y ++ a ∷ [])) (pt o (endIn s c))) p t ∙ told-there (uptoWith n x) (E .begins) ∙ sym z
         ∙ sym (ap (goOn (keptOf s j)) (ap (λ (y : List PTerm). lays limit (said most ρ y) (pt o (endIn s c))) p ∙ told-there us (place n ∷ E .begins .0, E .begins .1 ∙ append-assoc us (place n ∷ []) (E .begins .0))))
 

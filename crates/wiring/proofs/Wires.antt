@@ -14,7 +14,7 @@ use Rattle.links.specs.Links.{Linked}
 use Rattle.links.proofs.Joined.{comp-loops, comp-inners, comp-innersC}
 use Rattle.links.proofs.Planned.{Planned}
 use Rattle.links.specs.Alike.{Alike}
-use Rattle.tracking.specs.Wired.{Starts, Looped, Wired}
+use Rattle.tracking.specs.Wired.{Starts, Wired}
 use Rattle.wiring.specs.Shape.{Shaped, Within}
 
 pub wired-of : (s : List ℕ) (b : ℕ) (x : Program) (y : Spots) → Linked s b y → Alike s y x → Shaped y → Within y → Wired s b x y
@@ -48,7 +48,7 @@ starts-own c (i ∷ l) p = tt
 
 -- no loop in front, and a shape
 abbrev Behind : Spots → Type 0
-Behind p = (Looped p → ⊥) × Shaped p
+Behind p = (Starts p → ⊥) × Shaped p
 
 mutual
   unfolding inners compOf

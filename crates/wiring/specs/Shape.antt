@@ -3,12 +3,12 @@ use mathlib.Core.Path.{_≡_}
 use Prim.Native.Nat.{_<_}
 use Rattle.form.specs.Packing.{places}
 use Rattle.links.specs.Spots.{Spots, end, loop, inner, compOf}
-use Rattle.tracking.specs.Wired.{Starts, Looped}
+use Rattle.tracking.specs.Wired.{Starts}
 
 abbrev pub Shaped : Spots → Type 0
 Shaped (end c) = Unit {0}
 Shaped (loop i p) = Shaped p
-Shaped (inner a p) = ((compOf a ≡ 0 → ⊥) × (Starts a × (Looped p → ⊥))) × (Shaped a × Shaped p)
+Shaped (inner a p) = ((compOf a ≡ 0 → ⊥) × (Starts a × (Starts p → ⊥))) × (Shaped a × Shaped p)
 
 abbrev pub Within : Spots → Type 0
 Within (end c) = c < places
