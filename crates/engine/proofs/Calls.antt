@@ -6,11 +6,11 @@ use native.Mathlib.Omega.{arith}
 use lib.ListN.{length, getD, drop, replicate, length-drop}
 use lib.Seq.{getD-drop, ext-getD}
 use lib.IntN.{ℤ}
-use borrow.Author.Tests.{lt-ltb, le-ltb}
 use Rattle.calculus.specs.Value.{Value}
 use Rattle.encoding.specs.Record.{Bytes, Result, got, andThen}
 use Rattle.outcome.specs.Accepted.{Accepted, examine}
-use Rattle.outcome.specs.Outcome.{Outcome, Answer, scratchWords, cleared, settled, withScratch, written, answered, checked, printed, planLines}
+use Rattle.outcome.specs.Outcome.{Outcome, Answer, scratchWords, cleared, withScratch, written, answered, checked, printed, planLines}
+use Rattle.outcome.proofs.Agreement.{scratch-short, scratch-long}
 use Rattle.prepared.specs.Gives.{Gives, Settles, Spares}
 use Rattle.prepared.specs.Answering.{Asked, numberOf, lengthOf}
 use Rattle.prepared.specs.Answering as An
@@ -48,23 +48,15 @@ cleared-same {s} {t} S = ap (λ (l : List ℕ). replicate scratchWords 0 ++ l) (
 
 -- ---- 31
 module _ {A : Type 0} (s : List ℕ) (b : List A) (x : Result (Answer A)) where
-  short-is : length s < scratchWords → withScratch s b x ≡ record { number = 31; size = 0; buffer = b; scratch = s }
-  unfolding withScratch
-  short-is h = rw (lt-ltb (length s) scratchWords h, withScratch)
-
-  long-is : scratchWords ≤ length s → withScratch s b x ≡ settled s b x
-  unfolding withScratch
-  long-is h = rw (le-ltb (length s) scratchWords h, withScratch)
-
   pub too-short : length s < scratchWords → Gives (withScratch s b x) 31 0 b s
-  too-short h = subst (λ (o : Outcome A). Gives o 31 0 b s) (sym (short-is h)) (record { number = refl; size = refl; buffer = refl; scratch = refl })
+  too-short h = subst (λ (o : Outcome A). Gives o 31 0 b s) (sym (scratch-short s b x h)) (record { number = refl; size = refl; buffer = refl; scratch = refl })
 
 -- ---- behind 31
 module _ {A : Type 0} {s t u : List ℕ} {b b′ : List A} {x : Result (Answer A)} {k n : ℕ} {r : Reply} (room : scratchWords ≤ length s) (S : Spares s t) (R : Replies t u k n r) where
   replied : Settles x b k n b′ → Gives (withScratch s b x) (r .number) (r .length) b′ u
   replied P =
       let g = P .gives s in
-      subst (λ (o : Outcome A). Gives o (r .number) (r .length) b′ u) (sym (long-is s b x room))
+      subst (λ (o : Outcome A). Gives o (r .number) (r .length) b′ u) (sym (scratch-long s b x room))
       (record { number = R .number ∙ g .number; size = R .length ∙ g .size; buffer = g .buffer; scratch = R .scratch ∙ cleared-same S ∙ g .scratch })
 
 -- ---- the checker hands on nothing

@@ -21,11 +21,11 @@ use Rattle.plan.specs.Lines.{lines}
 use Rattle.plan.proofs.NoQuestion.{questions, reading, planTerms, no-question}
 use Rattle.outcome.specs.Accepted.{Accepted, examine}
 use Rattle.outcome.specs.Outcome.{Answer, G, written, answered, checked, byLoops, byPlan, printed, planLines}
-use Rattle.outcome.proofs.Checks.{passed, got-is, examined}
+use Rattle.outcome.proofs.Checks.{passed, got-is, handed, examined}
 use Rattle.outcome.proofs.Agreement.{same-value, wordsOf, demand-3}
 use Rattle.prepared.specs.Gives.{Gives}
 use Rattle.engine.specs.declared.Reply.{Reply}
-use Rattle.engine.proofs.Outcomes.{refusal, answers, checks-only, handed-on}
+use Rattle.engine.proofs.Outcomes.{refusal, answers, checks-only}
 
 -- ---- both ways of answering
 -- r is what one call returned, which left c where b was in its buffer; r′, b′ and c′ are of the other: the same number, the same
@@ -47,7 +47,7 @@ module _ (d l : Bytes) (s : List ℕ) (b : List ℤ) where
   plan-room e =
       let k : Accepted → Result (Answer ℤ) = written (λ a. planValue canonical (a .tables) (planOf (a .form))) b in
       let g = answers s b (andThen (examine d l) k) (only-then (λ n. n ≡ 0 → ⊥) (examine d l) k (checks-only d l) (λ a. only-require (λ n. n ≡ 0 → ⊥) 32 _ _ (λ z. absurd (omega (arith, z))) tt)) e in
-      let h = handed-on (examine d l) k (g .answer) (g .is) in
+      let h = handed (examine d l) k (g .answer) (g .is) in
       omega (arith, ap wordsOf (h .1 .0), leb-true (G (h .0)) (length b) (passed 32 (leb (G (h .0)) (length b)) _ (g .answer) (h .1 .1) .0))
 
   loops-refusal : (byLoops d l s b .number ≡ 0 → ⊥) → byLoops d l s b .buffer ≡ b
@@ -91,7 +91,7 @@ unfolding checked
 accepted-planned d l s r C e =
     let k : Accepted → Result (Answer ℕ) = λ a. got (record { size = 0; front = [] }) in
     let g = answers s [] (andThen (examine d l) k) (only-then (λ n. n ≡ 0 → ⊥) (examine d l) k (checks-only d l) (λ a. tt)) (sym (C .number) ∙ e) in
-    let h = handed-on (examine d l) k (g .answer) (g .is) in
+    let h = handed (examine d l) k (g .answer) (g .is) in
     plans d l (h .0) (h .1 .0)
 
 printed-front : (b : List ℕ) (a : Accepted) (y : Answer ℕ) → printed b a ≡ got y → (y .size ≡ length (lines (planOf (a .form)))) × (y .front ≡ lines (planOf (a .form)))
@@ -108,7 +108,7 @@ unfolding planLines
 printed-planned d l s b r P C e =
     let x : Result (Answer ℕ) = andThen (examine d l) (printed b) in
     let g = answers s b x (only-then (λ n. n ≡ 0 → ⊥) (examine d l) (printed b) (checks-only d l) (printed-only b)) (sym (C .number) ∙ e) in
-    let h = handed-on (examine d l) (printed b) (g .answer) (g .is) in
+    let h = handed (examine d l) (printed b) (g .answer) (g .is) in
     let f = printed-front b (h .0) (g .answer) (h .1 .1) in
     let w = g .answer .front in
     ap (take (r .length)) (C .buffer ∙ g .buffer) ∙ take-at w (drop (length w) b) (r .length) (ap length (f .1) ∙ sym (f .0) ∙ sym (g .size) ∙ sym (C .size)) ∙ f .1

@@ -7,7 +7,7 @@ use native.Mathlib.Omega.{arith}
 use borrow.Author.Tests.{ltb-true}
 use lib.Dec.{ltb}
 use lib.ListN.{length, drop}
-use Rattle.encoding.specs.Record.{Bytes, Result, refused, got, andThen}
+use Rattle.encoding.specs.Record.{Bytes, Result, refused, got}
 use Rattle.encoding.proofs.Refusals.{Only}
 use Rattle.outcome.specs.Accepted.{Accepted, examine}
 use Rattle.outcome.specs.Outcome.{Outcome, Answer, scratchWords, settled, withScratch}
@@ -62,9 +62,3 @@ checks-only d l = go (examine d l) (examine-above d l)
     go : (x : Result Accepted) → Only (λ n. ltb 0 n ≡ true) x → Only (λ n. n ≡ 0 → ⊥) x
     go (refused n) h = λ e. absurd (omega (arith, e, ltb-true 0 n h))
     go (got a) h = tt
-
--- what is got behind the checks is got of an accepted question
-pub handed-on : {A : Type 0} (x : Result Accepted) (k : Accepted → Result A) (y : A) → andThen x k ≡ got y → (a : Accepted) × ((x ≡ got a) × (k a ≡ got y))
-unfolding andThen
-handed-on (refused n) k y e = let z : _≡_ {A = ℕ} 0 1 = cc in absurd (omega arith)
-handed-on (got a) k y e = (a, (refl, e))

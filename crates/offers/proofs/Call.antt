@@ -13,10 +13,10 @@ use Rattle.engine.specs.declared.Begun.{Begun}
 use Rattle.engine.specs.declared.Begun.the-variants as Begun
 use Rattle.engine.specs.declared.Reply.{Reply}
 use Rattle.engine.proofs.Calls.{room-accepted, scant-by, refused-by, settled-by}
-use Rattle.offers.specs.Offered.{rowsOf, counted, offered}
+use Rattle.offers.specs.Offered.{offeredRows, counted, offered}
 use Rattle.offers.specs.Contract.{Tells}
 
-settles-counted : (a : Accepted) {n : ℕ} → n ≡ rowsOf a → Settles (counted a) [] 0 n []
+settles-counted : (a : Accepted) {n : ℕ} → n ≡ offeredRows a → Settles (counted a) [] 0 n []
 unfolding settled
 settles-counted a e = record { gives = λ s. record { number = refl; size = e; buffer = refl; scratch = refl } }
 

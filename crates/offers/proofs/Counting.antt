@@ -1,6 +1,6 @@
 -- One law for each way out of the loop that counts rows: n rows have been offered, and no fewer are due in all.
 use native.Mathlib.Omega.{arith}
-use mathlib.Core.Path.{_≡_, refl, ap, subst, _∙_}
+use mathlib.Core.Path.{_≡_, refl, sym, ap, subst, _∙_}
 use mathlib.Core.List.{List}
 use Prim.Native.Nat.{ℕ, zero, suc, _+_, _≤_, _<_}
 use lib.ListN.{length}
@@ -14,6 +14,7 @@ use Rattle.environment.specs.Env.{tablesIn}
 use Rattle.tracking.specs.Standing.{Question, Kept, Waits, over, waits}
 use Rattle.tracking.specs.Reading.{Readable}
 use Rattle.executor.specs.Contract.{Waiting, Portion}
+use Rattle.streams.proofs.Buffer.{written-none}
 use Rattle.offers.specs.Offered.{longest}
 use Rattle.offers.specs.Contract.{Counts}
 
@@ -38,6 +39,11 @@ module _ {d : Bytes} (Q : Question d) {s : List ℕ} {o : List ℤ} {limit code 
       positive (due (tablesIn d) S)
       (λ n. move-waits (tablesIn d) (Q .program) (O .path) (O .source) (O .condition) (O .behind) (O .words) (O .more) (answer (tablesIn d) S) (O .wanting .is ∙ none-due (tablesIn d) S n))
 
+-- with limit 0 nothing is written
+unwritten : {d : Bytes} (Q : Question d) {s : List ℕ} {o : List ℤ} {code : ℕ} {S : State} → Waits Q s o 0 code S → o ≡ Q .lent
+unwritten Q (over z O) = written-none (O .wanting .text)
+unwritten Q (waits i z O) = written-none (O .wanting .text)
+
 -- ---- the loop
 pub record Turned {d : Bytes} (Q : Question d) (S : State) (t : List ℕ) (p : List ℤ) (at n : ℕ) : Type 0 where
   pub waits : Waits Q t p 0 at (run (tablesIn d) n S)
@@ -54,18 +60,23 @@ unfolding run
 count-begins d s o code = record { long = refl; wide = refl; few = omega arith; is = λ Q R S N. record { waits = N; upto = omega arith } }
 
 module _ {d : Bytes} {s t : List ℕ} {o p : List ℤ} {code at n : ℕ} (I : Counting d s o code t p at n) where
-  pub count-over : at ≡ 1 → Counts d s o code t n
-  count-over e = record {
+  same-buffer : Waiting d s o 0 code → p ≡ o
+  same-buffer K = let Q = K .question in unwritten Q (I .is Q (K .readable) (K .state) (K .waits) .waits) ∙ sym (unwritten Q (K .waits))
+
+  pub count-over : Waiting d s o 0 code → at ≡ 1 → Counts d s o code t p n
+  count-over K e = record {
     is = λ Q R S N.
         let W = I .is Q R S N in
         record { kept = stays Q (W .waits); rows = omega (arith, I .few, W .upto, none-left Q (W .waits) e, portion (tablesIn d) n S .1) };
+    buffer = same-buffer K;
   }
 
-  pub count-spent : longest ≤ n → Counts d s o code t n
-  count-spent l = record {
+  pub count-spent : Waiting d s o 0 code → longest ≤ n → Counts d s o code t p n
+  count-spent K l = record {
     is = λ Q R S N.
         let W = I .is Q R S N in
         record { kept = stays Q (W .waits); rows = omega (arith, I .few, W .upto, l) };
+    buffer = same-buffer K;
   }
 
   pub count-waiting : Waiting d s o 0 code → Waiting d t p 0 at

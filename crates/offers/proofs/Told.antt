@@ -27,10 +27,9 @@ use Rattle.executor.specs.Contract.{Waiting}
 use Rattle.wiring.proofs.Questions.{question}
 use Rattle.wiring.proofs.Readable.{readable}
 use Rattle.asked.proofs.Standing.{tables-are}
-use Rattle.passes.specs.Contract.{Passing}
 use Rattle.passes.specs.Parts.{Begins}
-use Rattle.streams.proofs.Ran.{kept-all, kept-long, kept-above, before, passing}
-use Rattle.offers.specs.Offered.{longest, rowsOf}
+use Rattle.streams.proofs.Ran.{kept-all, kept-long, kept-above, before}
+use Rattle.offers.specs.Offered.{longest, offeredRows}
 use Rattle.offers.specs.Contract.{Counted, Counts, Tells}
 
 -- all the offers of the machine are those of the plan
@@ -40,9 +39,6 @@ begin-offers T f = omega (arith, pass-portion T f 0 .1)
 
 -- s holds the question, s₁ its plan too, s₂ also its links; r is where the first row enters
 module _ {d : Bytes} {s s₁ s₂ : List ℕ} {r : ℕ} (X : Asked d s) (Q : Plans s s₁) (L : Term s₁ 0 1 s₂ r) (o : List ℤ) (b : length o ≤ most) where
-  pub passing-now : Passing d s₂ o 0 r
-  passing-now = passing (X .prepared) Q L o b (kept-all _) refl (omega arith)
-
   abbrev asks : {a : Accepted} → Prepared d a s → Question d
   asks {a} A = question a s s₁ s₂ r A Q L o b
 
@@ -59,11 +55,11 @@ module _ {d : Bytes} {s s₁ s₂ : List ℕ} {r : ℕ} (X : Asked d s) (Q : Pla
     pub waiting-now : Waiting d s₃ o₁ 0 code
     waiting-now = let A = X .prepared in record { question = asks A; readable = reads A; state = first A; waits = begun A }
 
-    module _ {s₄ : List ℕ} {n : ℕ} (C : Counts d s₃ o₁ code s₄ n) where
+    module _ {s₄ : List ℕ} {o₂ : List ℤ} {n : ℕ} (C : Counts d s₃ o₁ code s₄ o₂ n) where
       counted : {a : Accepted} (A : Prepared d a s) → Counted (asks A) (first A) s₄ n
       counted A = C .is (asks A) (reads A) (first A) (begun A)
 
-      rows-are : {a : Accepted} (A : Prepared d a s) → n ≡ rowsOf a
+      rows-are : {a : Accepted} (A : Prepared d a s) → n ≡ offeredRows a
       unfolding question
       rows-are {a} A = counted A .rows ∙ ap (λ (k : ℕ). min k longest) (begin-offers (tablesIn d) (a .form) ∙ ap (λ (T : Tables). planOffers raw T (planOf (a .form))) (tables-are A))
 

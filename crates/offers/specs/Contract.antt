@@ -11,7 +11,7 @@ use Rattle.machine.specs.Machine.{State, due}
 use Rattle.environment.specs.Env.{tablesIn}
 use Rattle.tracking.specs.Standing.{Question, Kept, Waits}
 use Rattle.tracking.specs.Reading.{Readable}
-use Rattle.offers.specs.Offered.{longest, rowsOf}
+use Rattle.offers.specs.Offered.{longest, offeredRows}
 
 -- r: how many rows are offered from the state S on, or the most that a length says; the question's words stand as before
 pub record Counted {d : Bytes} (Q : Question d) (S : State) (s : List ℕ) (r : ℕ) : Type 0 where
@@ -19,11 +19,12 @@ pub record Counted {d : Bytes} (Q : Question d) (S : State) (s : List ℕ) (r : 
   pub rows : r ≡ min (due (tablesIn d) S) longest
 
 -- counting on from where a row is wanted, with limit 0: nothing is written
-pub record Counts (d : Bytes) (s : List ℕ) (o : List ℤ) (code : ℕ) (s′ : List ℕ) (r : ℕ) : Type 0 where
+pub record Counts (d : Bytes) (s : List ℕ) (o : List ℤ) (code : ℕ) (s′ : List ℕ) (o′ : List ℤ) (r : ℕ) : Type 0 where
   pub is : (Q : Question d) → Readable Q → (S : State) → Waits Q s o 0 code S → Counted Q S s′ r
+  pub buffer : o′ ≡ o
 
 -- counting all rows of whatever accepted question stands in scratch; words from 2,048 on stay
 pub record Tells (d : Bytes) (s s′ : List ℕ) (r : ℕ) : Type 0 where
-  pub is : (a : Accepted) → Prepared d a s → r ≡ rowsOf a
+  pub is : (a : Accepted) → Prepared d a s → r ≡ offeredRows a
   pub long : length s′ ≡ length s
   pub above : (j : ℕ) → 2048 ≤ j → getD s′ j 0 ≡ getD s j 0

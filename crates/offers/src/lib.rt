@@ -14,10 +14,11 @@ use links::link;
 use passes::start;
 use planner::make_plan;
 
-// Offers the rows that are left, one at a time and with nothing written. Answers how many they are, 2^64 - 1 at most.
+// Offers the rows that are left, one at a time: nothing is written, and the question's words stay. Answers how many they are,
+// 2^64 - 1 at most.
 fn count(s: &mut [u64], data: &[u8], out: &mut [i64], code: usize) -> u64
     requires { ⌜ Waiting (now «data») (now s) (now out) 0 code ⌝ }
-    ensures { λ r. ⌜ Counts (now («data» .entry)) (now (s .entry)) (now (out .entry)) code (now (s .exit)) r ⌝ }
+    ensures { λ r. ⌜ Counts (now («data» .entry)) (now (s .entry)) (now (out .entry)) code (now (s .exit)) (now (out .exit)) r ⌝ }
 {
     let mut at = code;
     let mut n: u64 = 0;
@@ -31,8 +32,8 @@ fn count(s: &mut [u64], data: &[u8], out: &mut [i64], code: usize) -> u64
     n
 }
 
-// How many rows a pass offers over the accepted question in scratch: it is planned, linked and run. With limit 0 nothing is
-// written, so any buffer does.
+// How many rows a pass offers over the accepted question in scratch, 2^64 - 1 at most: it is planned, linked and run. With
+// limit 0 nothing is written, so any buffer does. Words from 2,048 on stay.
 fn rows_of(s: &mut [u64], data: &[u8]) -> u64
     requires { ⌜ Asked (now «data») (now s) ⌝ }
     ensures { λ r. ⌜ Tells (now («data» .entry)) (now (s .entry)) (now (s .exit)) r ⌝ }

@@ -13,8 +13,10 @@ use Rattle.normal_form.specs.Form.{Form, Forms, Clauses, NormalForm, asForm, nu
 use Rattle.normal_form.specs.Size.{nodes, nodesF, nodesC, sizeFits}
 use Rattle.form.specs.Flat.{Fits, FitsF, FitsC}
 use Rattle.plan.specs.Plan.{PTerm, pbin, Source, Op, join, outer, nest}
-use Rattle.plan.specs.Planner.{Slots, free, next, term, nextL, termL, joined, conj, Gen, from, fromUnit, source, gensOf, condsOf, orUnit, planGens, sift, early, late, slot, slots, after, home, growsAt, grows, ops, opsF, opsC, noSlots, planOf}
+use Rattle.plan.specs.Planner.{Slots, free, next, term, nextL, termL, joined, conj, Gen, from, fromUnit, source, gensOf, condsOf, orUnit, planGens, sift, early, late, slot, home, growsAt, grows, ops, opsF, opsC, noSlots, planOf}
 use Rattle.plan.specs.Lines.{ascii, decimal, monoidName, truthName, showTerm, showSource, showLast, showOp, showOps, lines}
+use Rattle.plan.proofs.Slots.{unit-length}
+use Rattle.plan.proofs.Unnesting.{slotsIn, widthIn, widthHead}
 use Rattle.printout.proofs.Weights.{termBytes, opBytes, opsBytes, clauseBytes, form-most}
 use Rattle.printout.proofs.Terms.{shown, Short, short-none, short-slot, short-slots, after-is, few-digits, next-most, bin-most, term-most}
 
@@ -188,11 +190,6 @@ unfolding orUnit
 unit-fit [] f = (tt, tt)
 unit-fit (g ∷ gs) f = f
 
-unit-count : (gs : List Gen) → length (orUnit gs) ≤ 1 + length gs
-unfolding orUnit
-unit-count [] = omega arith
-unit-count (g ∷ gs) = omega arith
-
 conds-fit : (q : Clauses) → FitsC q → FitsL (condsOf q)
 unfolding condsOf
 conds-fit done f = tt
@@ -223,49 +220,39 @@ shares (cond t q) = go (free t) (shares q)
     go true l = omega arith
     go false l = omega arith
 
--- the slots and the width behind its generators, and the width at its head
-abbrev inSlots : Clauses → ℕ → Slots → Slots
-inSlots q n c = slots (planGens q) n c
-
-abbrev inWidth : Clauses → ℕ → ℕ
-inWidth q n = after (planGens q) n
-
-abbrev headWidth : Clauses → ℕ → ℕ
-headWidth q n = nextL (late q) (inWidth q n)
-
 module _ (q : Clauses) (h : Form) (n : ℕ) (room : n + (1 + (nodesC q + nodes h)) ≤ 2048) where
   gens-room : n + length (planGens q) + nodesL (condsOf q) + nodes h ≤ 2048
   unfolding planGens
-  gens-room = omega (arith, unit-count (gensOf q), clauses-count q)
+  gens-room = omega (arith, unit-length (gensOf q), clauses-count q)
 
-  conds-room : inWidth q n + nodesL (condsOf q) ≤ 2048
+  conds-room : widthIn q n + nodesL (condsOf q) ≤ 2048
   conds-room = omega (arith, after-is (planGens q) n, gens-room)
 
-  late-room : inWidth q n + nodesL (late q) ≤ 2048
+  late-room : widthIn q n + nodesL (late q) ≤ 2048
   unfolding late
   late-room = omega (arith, conds-room, sift-nodes (λ t. not (free t)) (condsOf q))
 
-  head-room : headWidth q n + nodes h ≤ 2048
+  head-room : widthHead q n + nodes h ≤ 2048
   unfolding late
-  head-room = omega (arith, next-all (late q) (inWidth q n), after-is (planGens q) n, gens-room, sift-nodes (λ t. not (free t)) (condsOf q))
+  head-room = omega (arith, next-all (late q) (widthIn q n), after-is (planGens q) n, gens-room, sift-nodes (λ t. not (free t)) (condsOf q))
 
-  slots-short : (c : Slots) → Short c → Short (inSlots q n c)
+  slots-short : (c : Slots) → Short c → Short (slotsIn q n c)
   slots-short c S = short-slots (planGens q) n c (omega (arith, gens-room)) S
 
   -- what a nest or reduce closes, where the operators inside are bounded
   body-most : (o : Source → PTerm → Op) → Grower o → FitsC q → Fits h → (c : Slots) → Short c →
-      length (showOps (opsC q (inWidth q n) (inSlots q n c))) ≤ lateOps q → length (showOps (ops h (headWidth q n) (inSlots q n c))) ≤ opBytes h →
-      length (showOps (grows o (planGens q) (early q) n c)) + length (showOps (opsC q (inWidth q n) (inSlots q n c))) + length (showOps (ops h (headWidth q n) (inSlots q n c)))
-      + (shown (term h (inSlots q n c) (headWidth q n)) + shown (conj (termL (late q) (inSlots q n c) (inWidth q n)))) ≤ 19 + (clauseBytes q + (termBytes h + opBytes h))
+      length (showOps (opsC q (widthIn q n) (slotsIn q n c))) ≤ lateOps q → length (showOps (ops h (widthHead q n) (slotsIn q n c))) ≤ opBytes h →
+      length (showOps (grows o (planGens q) (early q) n c)) + length (showOps (opsC q (widthIn q n) (slotsIn q n c))) + length (showOps (ops h (widthHead q n) (slotsIn q n c)))
+      + (shown (term h (slotsIn q n c) (widthHead q n)) + shown (conj (termL (late q) (slotsIn q n c) (widthIn q n)))) ≤ 19 + (clauseBytes q + (termBytes h + opBytes h))
   unfolding planGens early late
   body-most o named f fh c S A B = omega (
     arith,
     A,
     B,
     grows-most o named (planGens q) (unit-fit (gensOf q) (gens-fit q f)) (early q) (sift-fits free (condsOf q) (conds-fit q f)) n c S (omega (arith, gens-room, sift-nodes free (condsOf q))),
-    unit-count (gensOf q),
-    term-most (inSlots q n c) (slots-short c S) h fh (headWidth q n) head-room,
-    conds-most (inSlots q n c) (slots-short c S) (late q) (sift-fits (λ t. not (free t)) (condsOf q) (conds-fit q f)) (inWidth q n) late-room,
+    unit-length (gensOf q),
+    term-most (slotsIn q n c) (slots-short c S) h fh (widthHead q n) head-room,
+    conds-most (slotsIn q n c) (slots-short c S) (late q) (sift-fits (λ t. not (free t)) (condsOf q) (conds-fit q f)) (widthIn q n) late-room,
     shares q,
   )
 
@@ -326,9 +313,9 @@ mutual
   )
   ops-most (negate t) f n c S l = ops-most t f n c S (omega arith)
   ops-most (comp m q h) f n c S l =
-      let c₁ = inSlots q n c in
-      let n₁ = inWidth q n in
-      let n₂ = headWidth q n in
+      let c₁ = slotsIn q n c in
+      let n₁ = widthIn q n in
+      let n₂ = widthHead q n in
       let last = nest n m (term h c₁ n₂) (conj (termL (late q) c₁ n₁)) in
       omega (
         arith,
@@ -369,9 +356,9 @@ unfolding lines planOf sizeFits nodes ascii
 lines-most f F e =
     let q = f .clauses in
     let h = f .head in
-    let c₁ = inSlots q 0 noSlots in
-    let n₁ = inWidth q 0 in
-    let n₂ = headWidth q 0 in
+    let c₁ = slotsIn q 0 noSlots in
+    let n₁ = widthIn q 0 in
+    let n₂ = widthHead q 0 in
     let small : nodes (asForm f) ≤ 512 = leb-true (nodes (asForm f)) 512 e in
     let room : 0 + (1 + (nodesC q + nodes h)) ≤ 2048 = omega arith in
     let inner = opsC q n₁ c₁ ++ ops h n₂ c₁ in

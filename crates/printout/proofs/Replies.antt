@@ -4,7 +4,7 @@ use mathlib.Core.Bool.{Bool, true, false}
 use mathlib.Core.List.{List, [], _++_, append-assoc}
 use Prim.Native.Nat.{ℕ, _+_, _-_, _*_, _≤_, _<_}
 use native.Mathlib.Omega.{arith}
-use borrow.Author.Tests.{le-ltb, le-leb, lt-leb}
+use borrow.Author.Tests.{le-leb, lt-leb}
 use lib.Dec.{leb}
 use lib.ListN.{length, take, drop, replicate, length-append, length-drop}
 use lib.Seq.{take-all, length-take-le, take-append-seam, drop-drop}
@@ -15,9 +15,10 @@ use Rattle.encoding.specs.Record.{Bytes, Result, refused, got, andThen, require
 use Rattle.encoding.proofs.Refusals.{Only}
 use Rattle.plan.specs.Planner.{planOf}
 use Rattle.plan.specs.Lines.{ascii, decimal, lines}
+use Rattle.outcome.proofs.Agreement.{scratch-long}
 use Rattle.outcome.specs.Written.{words}
 use Rattle.outcome.specs.Accepted.{Accepted, examine}
-use Rattle.outcome.specs.Outcome.{Outcome, Answer, scratchWords, settled, withScratch, written, answered, looped, byLoops, printed, planLines, G}
+use Rattle.outcome.specs.Outcome.{Outcome, Answer, scratchWords, settled, written, answered, looped, byLoops, printed, planLines, G}
 use Rattle.outcome.proofs.Checks.{numbers, examine-only}
 use Rattle.prepared.specs.Gives.{Gives}
 use Rattle.text.specs.Laying.{big, Lays}
@@ -25,7 +26,7 @@ use Rattle.text.proofs.Laying.{lays-behind, lays-reach}
 use Rattle.text.proofs.Numbers.{decimal-most}
 use Rattle.printout.specs.Desk.{answerLine, refusalLine, planAndAnswer, orRefusal, asked, desk, textBytes}
 use Rattle.printout.specs.Split.{tablesEnd}
-use Rattle.printout.specs.Printed.{Prints, Counts}
+use Rattle.printout.specs.Printed.{Prints, FrontLength}
 use Rattle.printout.proofs.Room.{plan-room}
 
 -- ---- a text that was laid
@@ -43,11 +44,6 @@ prints-behind x y t {lim} {m} {r} {t′} {t″} p q X e l b = record {
       ∙ sym (append-assoc x y (drop (length y) (drop (length x) t)))
       ∙ ap (λ (o : Bytes). (x ++ y) ++ o) (drop-drop (length y) (length x) t ∙ ap (λ (k : ℕ). drop k t) both);
 }
-
--- ---- scratch enough
-settled-is : {A : Type 0} (s : List ℕ) (b : List A) (x : Result (Answer A)) → scratchWords ≤ length s → withScratch s b x ≡ settled s b x
-unfolding withScratch
-settled-is s b x h = rw (le-ltb (length s) scratchWords h, withScratch)
 
 -- ---- the numbers of refusals
 abbrev Number : ℕ → Type 0
@@ -79,7 +75,7 @@ answerIn a = record { size = length (words (looped a)); front = words (looped a)
 module _ (d l : Bytes) (s : List ℕ) (b : List ℤ) {s′ : List ℕ} {b′ : List ℤ} {k n : ℕ} (room : scratchWords ≤ length s) (long : length b ≡ 4096) (X : Gives (byLoops d l s b) k n b′ s′) where
   outcome : Gives (settled s b (andThen (examine d l) (written looped b))) k n b′ s′
   unfolding byLoops answered
-  outcome = subst (λ (o : Outcome ℤ). Gives o k n b′ s′) (settled-is s b (andThen (examine d l) (written looped b)) room) X
+  outcome = subst (λ (o : Outcome ℤ). Gives o k n b′ s′) (scratch-long s b (andThen (examine d l) (written looped b)) room) X
 
   -- by what the checks say, and by whether the answer fits
   by-checks : (Q : Type 0) →
@@ -139,7 +135,7 @@ module _ {d l : Bytes} {n : ℕ} {b : List ℤ} (A : Answers d l n b) where
     plan-given =
         subst (λ (x : Bool). Gives (settled s t (require 33 x (got (record { size = length plan; front = plan })))) k m t′ s′) (le-leb (length plan) (length t) (omega (arith, plan-room d l (A .accepted) (A .is), h)))
         (subst (λ (x : Result Accepted). Gives (settled s t (andThen x (printed t))) k m t′ s′) (A .is)
-        (subst (λ (o : Outcome ℕ). Gives o k m t′ s′) (settled-is s t (andThen (examine d l) (printed t)) room) Y))
+        (subst (λ (o : Outcome ℕ). Gives o k m t′ s′) (scratch-long s t (andThen (examine d l) (printed t)) room) Y))
 
     pub prints-answer : {lim r : ℕ} {t″ : Bytes} → Lays lim (answerLine (take n b)) t′ m t″ r → length (answerLine (take n b)) ≤ 7 + 21 * length (take n b) → length b ≡ 4096 → lim ≡ length t → length t < big → Prints (asked d l) t t″ r
     unfolding settled
@@ -147,7 +143,7 @@ module _ {d l : Bytes} {n : ℕ} {b : List ℤ} (A : Answers d l n b) where
         (prints-behind plan (answerLine (take n b)) t (plan-given .buffer) (plan-given .size) X e (omega (arith, most, h, plan-room d l (A .accepted) (A .is), ap length (A .front), A .size, A .within, long)) g)
 
 -- ---- the whole: "over 65,536 bytes it prints "too long""
-pub prints-counts : {x t t′ : Bytes} {r : ℕ} → Prints x t t′ r → Counts r t′
+pub prints-counts : {x t t′ : Bytes} {r : ℕ} → Prints x t t′ r → FrontLength r t′
 prints-counts {x} {t} {t′} {r} P = (within, sym (length-take-le r t′ within))
   where
     within : r ≤ length t′

@@ -2,7 +2,6 @@
 use mathlib.Core.Path.{_≡_, refl, sym, ap, subst, _∙_}
 use mathlib.Core.Bool.{Bool, true, false}
 use Prim.Native.Nat.{ℕ, _≤_}
-use native.Mathlib.Omega.{arith}
 use borrow.Author.Tests.{leb-true}
 use lib.ListN.{length}
 use Rattle.calculus.specs.Syntax.{Question}
@@ -18,13 +17,11 @@ use Rattle.plan.specs.Planner.{planOf}
 use Rattle.plan.specs.Lines.{lines}
 use Rattle.outcome.specs.Accepted.{Accepted, judge, examine}
 use Rattle.outcome.proofs.Checks.{examined}
+use Rattle.signed.proofs.Word.{no}
 use Rattle.emit.proofs.Fits.{normal-fits}
 use Rattle.front.proofs.Ranges.{read-ranges}
 use Rattle.printout.specs.Desk.{planBytes}
 use Rattle.printout.proofs.Operators.{lines-most}
-
-never : {A : Type 0} → _≡_ {A = ℕ} 0 1 → A
-never e = absurd (omega arith)
 
 -- what the checks hand on is what was read
 module _ (T : Tables) (q : Question) where
@@ -34,7 +31,7 @@ module _ (T : Tables) (q : Question) where
   require-kept : (n : ℕ) (b : Bool) (r : Result Accepted) → Kept r → Kept (require n b r)
   unfolding require
   require-kept n true r k = k
-  require-kept n false r k = λ a e. never (cc)
+  require-kept n false r k = λ a e. no (cc)
 
   got-kept : (f : NormalForm) → Kept (got (record { tables = T; question = q; form = f }))
   got-kept f a e =
@@ -54,8 +51,8 @@ unfolding examine andThen
 accepted-reads d l a e = go (readData d) (readQuestion l) refl refl e
   where
     go : (x : Result Tables) (y : Result Question) → readData d ≡ x → readQuestion l ≡ y → andThen x (λ T. andThen y (λ q. judge T q)) ≡ got a → Reads d l a
-    go (refused n) y p r h = never (cc)
-    go (got T) (refused n) p r h = never (cc)
+    go (refused n) y p r h = no (cc)
+    go (got T) (refused n) p r h = no (cc)
     go (got T) (got q) p r h =
         let k = judge-kept T q a h in
         record { tables = p ∙ ap got (sym (k .0)); question = r ∙ ap got (sym (k .1)) }

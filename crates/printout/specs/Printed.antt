@@ -11,5 +11,5 @@ pub record Prints (t o o′ : Bytes) (r : ℕ) : Type 0 where
   pub text : o′ ≡ t ++ drop (length t) o
 
 -- r counts bytes at the start of o; both parts are stated so that `&text[..r]` asks nothing more
-abbrev pub Counts : ℕ → Bytes → Type 0
-Counts r o = (r ≤ length o) × (r ≡ length (take r o))
+abbrev pub FrontLength : ℕ → Bytes → Type 0
+FrontLength r o = (r ≤ length o) × (r ≡ length (take r o))

@@ -2,12 +2,13 @@
 ghost use mathlib.Core.Path.{_≡_};
 ghost use Prim.Native.Nat.{_+_, _*_, _≤_};
 ghost use lib.ListN.{length};
-ghost use Rattle.outcome.specs.Outcome.{byLoops};
+ghost use Rattle.outcome.specs.Outcome.{cleared, byLoops};
 ghost use Rattle.prepared.specs.Gives.{Gives};
 ghost use Rattle.text.specs.Laying.{Lays};
+ghost use Rattle.printout.specs.Left.{wordsLeft, scratchLeft};
 ghost use Rattle.printout.specs.Split.{tablesEnd};
 ghost use Rattle.printout.specs.Desk.{textBytes, spaced, answerLine, refusalLine, asked, desk};
-ghost use Rattle.printout.specs.Printed.{Prints, Counts};
+ghost use Rattle.printout.specs.Printed.{Prints, FrontLength};
 use engine::Reply;
 use engine::dislogha_answer_by_loops;
 use engine::dislogha_plan_lines;
@@ -77,7 +78,8 @@ fn answer(tables: &[u8], question: &[u8], scratch: &mut [u64], words: &mut [i64]
     dislogha_answer_by_loops(tables, question, scratch, words)
 }
 
-// "refused" and the number, or the plan and answer. Answers the text's length.
+// "refused" and the number, or the plan and answer. Answers the text's length. The words are left as by answering, the scratch
+// is cleared.
 fn reply(
     tables: &[u8],
     question: &[u8],
@@ -87,6 +89,8 @@ fn reply(
 ) -> usize
     requires { ⌜ (8192 ≤ length (now scratch)) × (length (now words) ≡ 4096) × (textBytes ≤ length (now text)) ⌝ }
     ensures { λ r. ⌜ Prints (asked (now (tables .entry)) (now (question .entry))) (now (text .entry)) (now (text .exit)) r ⌝ }
+    ensures { λ _. ⌜ now (words .exit) ≡ byLoops (now (tables .entry)) (now (question .entry)) (now (scratch .entry)) (now (words .entry)) .buffer ⌝ }
+    ensures { λ _. ⌜ now (scratch .exit) ≡ cleared (now (scratch .entry)) ⌝ }
 {
     let limit = text.len();
     let given = answer(tables, question, scratch, words);
@@ -101,8 +105,10 @@ fn reply(
 // What is printed for the input, at the buffer's front. Answers its length.
 pub fn printout(input: &[u8], scratch: &mut [u64], words: &mut [i64], text: &mut [u8]) -> usize
     requires { ⌜ (8192 ≤ length (now scratch)) × (length (now words) ≡ 4096) × (textBytes ≤ length (now text)) ⌝ }
+    ensures { λ _. ⌜ now (words .exit) ≡ wordsLeft (now (input .entry)) (now (scratch .entry)) (now (words .entry)) ⌝ }
+    ensures { λ _. ⌜ now (scratch .exit) ≡ scratchLeft (now (input .entry)) (now (scratch .entry)) ⌝ }
     ensures { λ r. ⌜ Prints (desk (now (input .entry))) (now (text .entry)) (now (text .exit)) r ⌝ }
-    ensures { λ r. ⌜ Counts r (now (text .exit)) ⌝ }
+    ensures { λ r. ⌜ FrontLength r (now (text .exit)) ⌝ }
 {
     let limit = text.len();
     if 65536 < input.len() {

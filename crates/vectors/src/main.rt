@@ -3,19 +3,20 @@
 // plan; then the lines of its plan.
 // A case is one byte that says whether its answer is known (1) or too long for any engine (0), two
 // bytes of data's length, two of the question's, little-endian, then both.
-ghost use Prim.Native.Nat.{_+_, _<_, _≤_};
+ghost use Prim.Native.Nat.{_+_, _*_, _<_, _≤_};
 ghost use mathlib.Core.Path.{_≡_};
-ghost use lib.ListN.{length};
+ghost use lib.ListN.{length, getD, replicate};
 
 fn wide(byte: u8) -> usize
-    ensures { λ r. ⌜ r < 256 ⌝ }
+    ensures { λ r. ⌜ (r ≡ byte) × (r < 256) ⌝ }
 {
     byte as usize
 }
 
+// Two bytes, little-endian.
 fn length_at(s: &[u8], at: usize) -> usize
     requires { ⌜ at + 2 ≤ length (now s) ⌝ }
-    ensures { λ r. ⌜ r < 65536 ⌝ }
+    ensures { λ r. ⌜ (r ≡ getD (now (s .entry)) at 0 + 256 * getD (now (s .entry)) (at + 1) 0) × (r < 65536) ⌝ }
 {
     wide(s[at]) + 256 * wide(s[at + 1])
 }
@@ -110,7 +111,7 @@ fn ask_all(s: &[u8], scratch: &mut [u64], words: &mut [i64]) {
 }
 
 fn space() -> [u8; 262144]
-    ensures { λ r. ⌜ 262144 ≡ length r ⌝ }
+    ensures { λ r. ⌜ (262144 ≡ length r) × (r ≡ replicate 262144 0) ⌝ }
 {
     [0; 262144]
 }

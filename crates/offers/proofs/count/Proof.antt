@@ -21,7 +21,7 @@ same-length-2 : tie.Need-same-length-2 Inv-loop μ-loop
 same-length-2 c = c .before .before .loop .inv .wide
 
 returns : tie.Need-returns Inv-loop μ-loop
-returns c = count-over (c .before .before .loop .inv) (c .if1 .taken)
+returns c = count-over (c .before .before .loop .inv) (c .before .before .before .before .before .pre) (c .if1 .taken)
 
 portion-requires : tie.Need-portion-requires Inv-loop μ-loop
 portion-requires c κs = count-waiting (c .before .before .before .before .loop .inv) (c .before .before .before .before .before .before .before .pre)
@@ -42,7 +42,7 @@ same-length-4 : tie.Need-same-length-4 Inv-loop μ-loop
 same-length-4 c = c .before .loop .inv .wide
 
 returns-2 : tie.Need-returns-2 Inv-loop μ-loop
-returns-2 c = count-spent (c .before .loop .inv) (omega (arith, c .loop-test .left))
+returns-2 c = count-spent (c .before .loop .inv) (c .before .before .before .before .pre) (omega (arith, c .loop-test .left))
 
 pub count-spec : {M : Type 1} → statement M
 count-spec =

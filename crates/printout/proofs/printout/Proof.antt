@@ -3,6 +3,7 @@ use mathlib.Core.Path.{refl, sym}
 use native.Mathlib.Omega.{arith}
 use lib.Seq.{length-take-le}
 use Rattle.plan.specs.Lines.{ascii}
+use Rattle.printout.proofs.Left.{left-long, left-asks}
 use Rattle.printout.proofs.Replies.{prints-counts, desk-long, desk-asks}
 use borrow.Author.Needs.{needs}
 use Rattle.printout.proofs.printout.Statement.{statement}
@@ -15,7 +16,8 @@ returns c =
     let c5 = c2 .before .before .before in
     let c9 = c5 .before .before .before .before in
     let P = desk-long (c9 .args .input .now) (c9 .args .text .now) (c5 .if1 .taken) (c2 .say .ensures) refl (c9 .pre .2) (omega arith) in
-    (P, prints-counts P)
+    let L = left-long (c9 .args .input .now) (c9 .args .scratch .now) (c9 .args .words .now) (c5 .if1 .taken) in
+    (L .0, (L .1, (P, prints-counts P)))
 
 returns-2 : tie.Need-returns-2
 returns-2 c =
@@ -23,8 +25,9 @@ returns-2 c =
     let c11 = c5 .before .before .before .before .before .before in
     let c12 = c11 .before in
     let c16 = c12 .before .before .before .before in
-    let P = desk-asks (c16 .args .input .now) (c16 .args .text .now) (c12 .if1 .left) (c11 .tables-end .ensures .0) (c5 .reply .ensures) in
-    (P, prints-counts P)
+    let P = desk-asks (c16 .args .input .now) (c16 .args .text .now) (c12 .if1 .left) (c11 .tables-end .ensures .0) (c5 .reply .ensures .0) in
+    let L = left-asks (c16 .args .input .now) (c16 .args .scratch .now) (c16 .args .words .now) (c12 .if1 .left) (c11 .tables-end .ensures .0) (c5 .reply .ensures .1 .0) (c5 .reply .ensures .1 .1) in
+    (L .0, (L .1, (P, prints-counts P)))
 
 pub printout-spec : {M : Type 1} → statement M
 unfolding ascii
