@@ -21,7 +21,7 @@ unfoldable pub rowsFrom : ℕ → ℕ → Bytes → List Value
 rowsFrom columns zero l = []
 rowsFrom columns (suc n) l = rec (cells columns l) ∷ rowsFrom columns n (drop (4 * columns) l)
 
--- "11: a record cut short or not kind 20"
+-- neither "a record cut short" nor "not kind 20", which are 11: a whole kind 20
 abbrev pub isTable : Bytes → Bool
 isTable l = isWhole l && eqb (kindOf l) 20
 

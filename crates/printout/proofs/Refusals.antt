@@ -23,7 +23,7 @@ use Rattle.printout.specs.Desk.{answerLine, refusalLine, planAndAnswer, 
 use Rattle.printout.proofs.Unbroken.{split-only}
 
 -- ---- a line's number
--- what digits show behind a number that was read; a byte that is no digit shows 0
+-- the number that digits show behind one that was read
 unfoldable shown : ℕ → Bytes → ℕ
 shown n [] = n
 shown n (b ∷ l) = shown (10 * n + (b - 48)) l
@@ -60,7 +60,7 @@ unfolding lines ascii
 plan-first (plan os m h c) l = refl
 
 -- ---- what is printed
--- the numbers of whoever packs the data but 11, of whoever types the question, and of an answer over 4,096 words
+-- the numbers of whoever packs the data but 11, of whoever types the question, and of a G over 4,096
 abbrev pub deskNumbers : List ℕ
 deskNumbers = 12 ∷ 13 ∷ 21 ∷ 22 ∷ 23 ∷ 24 ∷ 25 ∷ 26 ∷ 27 ∷ 28 ∷ 32 ∷ []
 
