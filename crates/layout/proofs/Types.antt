@@ -5,7 +5,7 @@ use Prim.Native.Nat.{ℕ, zero, suc, _+_, _-_, _≤_, _<_}
 use native.Mathlib.Omega.{arith}
 use lib.ListN.{length, getD, List·getD-eq-default}
 use Rattle.calculus.specs.Syntax.{of, Bin, plus, minus, times, equal, less, and, or}
-use Rattle.checks.specs.Types.{Ty, Tys, record′, coll, ynil, ycons, cells}
+use Rattle.checks.specs.Types.{Ty, Tys, number, record′, coll, ynil, ycons, cells}
 use Rattle.checks.proofs.Judgement.{result}
 use Rattle.checks.proofs.Refold.{gathered}
 use Rattle.normal_form.specs.Form.{Form}
@@ -19,7 +19,7 @@ use Rattle.form.specs.Tree.{binOf, formTree, headTree, left}
 use Rattle.form.specs.declared.Clause.the-variants as Cl
 use Rattle.form.specs.Look.{Looks, LooksC}
 use Rattle.form.specs.Head.{headNode}
-use Rattle.form.proofs.Laws.{next-past, formNode, form-is, head-is, head-node-is, forms-end, forms-more}
+use Rattle.form.proofs.Laws.{look-out, next-past, formNode, form-is, head-is, head-node-is, forms-end, forms-more}
 use Rattle.layout.specs.declared.Kind.{Kind}
 use Rattle.layout.specs.declared.Layout.{Layout}
 use Rattle.layout.specs.declared.Shape.{Shape}
@@ -97,6 +97,11 @@ module _ {s : List ℕ} {i j e : ℕ} (I : Seeking s i j e) where
 module _ {s : List ℕ} {i : ℕ} {n : Node} (H : Looks s i n) (P : Form → Type 0) where
   at-node : ((f : ℕ) → left i < suc f → P (formNode f s i n)) → (f : ℕ) → left i < f → P (formTree f s i)
   at-node h = elim [ zero ↦ λ l. absurd (omega arith) | suc f ↦ λ l. subst P (sym (form-is H f)) (h f l) ]
+
+-- behind the words of the form the type is a number's
+pub type-out : (s : List ℕ) {i : ℕ} → places ≤ i → (f : ℕ) → left i < f → typeAt f s i ≡ number
+unfolding typeOf
+type-out s l = at-node (look-out l) (λ t. typeOf (columns s) t ≡ number) (λ f k. refl)
 
 -- a node whose values are one word
 abbrev OneWord : Node → Type 0
