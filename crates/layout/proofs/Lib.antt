@@ -3,6 +3,7 @@ pub mod Stands
 pub mod Types
 pub mod Flat
 pub mod Widths
+pub mod Many
 pub mod Skips
 pub mod Compares
 pub mod Values

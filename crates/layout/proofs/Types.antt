@@ -1,11 +1,12 @@
 -- Laws of the type at a place.
 use mathlib.Core.Path.{_≡_, refl, sym, ap, subst, _∙_}
+use mathlib.Core.Bool.{true, false}
 use mathlib.Core.List.{List}
 use Prim.Native.Nat.{ℕ, zero, suc, _+_, _-_, _≤_, _<_}
 use native.Mathlib.Omega.{arith}
 use lib.ListN.{length, getD, List·getD-eq-default}
 use Rattle.calculus.specs.Syntax.{of, Bin, plus, minus, times, equal, less, and, or}
-use Rattle.checks.specs.Types.{Ty, Tys, number, record′, coll, ynil, ycons, cells}
+use Rattle.checks.specs.Types.{Ty, Tys, number, truth, record′, coll, ynil, ycons, cells}
 use Rattle.checks.proofs.Judgement.{result}
 use Rattle.checks.proofs.Refold.{gathered}
 use Rattle.normal_form.specs.Form.{Form}
@@ -20,12 +21,13 @@ use Rattle.form.specs.declared.Clause.the-variants as Cl
 use Rattle.form.specs.Look.{Looks, LooksC}
 use Rattle.form.specs.Head.{headNode}
 use Rattle.form.proofs.Laws.{look-out, next-past, formNode, form-is, head-is, head-node-is, forms-end, forms-more}
+use Rattle.buffer.proofs.Places.{clash}
 use Rattle.layout.specs.declared.Kind.{Kind}
 use Rattle.layout.specs.declared.Layout.{Layout}
 use Rattle.layout.specs.declared.Shape.{Shape}
 use Rattle.layout.specs.declared.Shape.the-variants as Sh
 use Rattle.layout.specs.Columns.{columnsAt, columns}
-use Rattle.layout.specs.Shape.{typeOf, typesOf, typeAt, typesAt, collectionOf, Heads, endBy, ClauseEnds, gatherOf, shapeBy, shapeIn, Shaped, ShapeAt, Laid, LaidBy}
+use Rattle.layout.specs.Shape.{typeOf, typesOf, typeAt, typesAt, isSingle, collectionOf, Heads, endBy, ClauseEnds, gatherOf, shapeBy, shapeIn, Shaped, ShapeAt, Laid, LaidBy}
 use Rattle.layout.specs.Flat.{Flat, FlatEach, widthOf, widthEach}
 
 -- ---- columns
@@ -127,43 +129,50 @@ OneWord Nothing = Unit {0}
 abbrev Has : ℕ → Ty → Type 0
 Has n t = Flat t × (n ≡ widthOf t)
 
-one-result : (o : Bin) → Has 1 (result o)
-unfolding result widthOf
-one-result plus = (tt, refl)
-one-result minus = (tt, refl)
-one-result times = (tt, refl)
-one-result equal = (tt, refl)
-one-result less = (tt, refl)
-one-result and = (tt, refl)
-one-result or = (tt, refl)
-
-one-node : (s : List ℕ) (i f : ℕ) (n : Node) → OneWord n → Has 1 (typeOf (columns s) (formNode f s i n))
-unfolding typeOf gathered widthOf
-one-node s i f (Number z) p = (tt, refl)
-one-node s i f (Truth b) p = (tt, refl)
-one-node s i f (Row g) p = absurd p
-one-node s i f (Cell c g) p = (tt, refl)
-one-node s i f (Record e) p = absurd p
-one-node s i f (Binary o j) p = one-result (binOf o)
-one-node s i f Negation p = (tt, refl)
-one-node s i f (Comprehension Mo.List) p = absurd p
-one-node s i f (Comprehension Mo.Bag) p = absurd p
-one-node s i f (Comprehension Mo.Set) p = absurd p
-one-node s i f (Comprehension Mo.Sum) p = (tt, refl)
-one-node s i f (Comprehension Mo.Max) p = (tt, refl)
-one-node s i f (Comprehension Mo.Some) p = (tt, refl)
-one-node s i f (Comprehension Mo.All) p = (tt, refl)
-one-node s i f (Generator g k) p = (tt, refl)
-one-node s i f (Condition j) p = (tt, refl)
-one-node s i f Nothing p = (tt, refl)
+pub single-has : (t : Ty) → true ≡ isSingle t → Has 1 t
+unfolding widthOf
+single-has number e = (tt, refl)
+single-has truth e = (tt, refl)
+single-has (record′ ts) e = clash e
+single-has (coll c t) e = clash e
 
 pub row-width : (n : ℕ) → FlatEach (cells n) × (n ≡ widthEach (cells n))
 unfolding cells widthOf
 row-width zero = (tt, refl)
 row-width (suc n) = let h = row-width n in ((tt, h .0), omega (arith, h .1))
 
+single-result : (o : Bin) → true ≡ isSingle (result o)
+unfolding result
+single-result plus = refl
+single-result minus = refl
+single-result times = refl
+single-result equal = refl
+single-result less = refl
+single-result and = refl
+single-result or = refl
+
+single-node : (s : List ℕ) (i f : ℕ) (n : Node) → OneWord n → true ≡ isSingle (typeOf (columns s) (formNode f s i n))
+unfolding typeOf gathered
+single-node s i f (Number z) p = refl
+single-node s i f (Truth b) p = refl
+single-node s i f (Row g) p = absurd p
+single-node s i f (Cell c g) p = refl
+single-node s i f (Record e) p = absurd p
+single-node s i f (Binary o j) p = single-result (binOf o)
+single-node s i f Negation p = refl
+single-node s i f (Comprehension Mo.List) p = absurd p
+single-node s i f (Comprehension Mo.Bag) p = absurd p
+single-node s i f (Comprehension Mo.Set) p = absurd p
+single-node s i f (Comprehension Mo.Sum) p = refl
+single-node s i f (Comprehension Mo.Max) p = refl
+single-node s i f (Comprehension Mo.Some) p = refl
+single-node s i f (Comprehension Mo.All) p = refl
+single-node s i f (Generator g k) p = refl
+single-node s i f (Condition j) p = refl
+single-node s i f Nothing p = refl
+
 -- its shape, too, is one word
-one-shape : (C : ℕ → ℕ) (H : ℕ → ℕ) (i : ℕ) (n : Node) → OneWord n → Sh.Words 1 ≡ shapeBy C H i n
+one-shape : (C : ℕ → ℕ) (H : ℕ → ℕ) (i : ℕ) (n : Node) → OneWord n → Sh.Word ≡ shapeBy C H i n
 one-shape C H i (Number z) p = refl
 one-shape C H i (Truth b) p = refl
 one-shape C H i (Row g) p = absurd p
@@ -182,23 +191,27 @@ one-shape C H i (Generator g k) p = refl
 one-shape C H i (Condition j) p = refl
 one-shape C H i Nothing p = refl
 
+-- a number or a truth is one word
+pub as-words : {s : List ℕ} {i : ℕ} → Shaped s i Sh.Word → Shaped s i (Sh.Words 1)
+as-words {s} {i} H = record { is = λ f l. single-has (typeAt f s i) (H .is f l) }
+
 module _ {s : List ℕ} {i : ℕ} where
   -- the shape by the node that was looked at
   shape-node : {n : Node} → Looks s i n → (f : ℕ) → shapeBy (columns s) (λ j. headNode f s j) i n ≡ shapeIn f s i
   unfolding shapeIn
   shape-node H f = ap (shapeBy (columns s) (λ j. headNode f s j) i) (H .is)
 
-  pub shape-word : {n : Node} → Looks s i n → OneWord n → ShapeAt s i (Sh.Words 1)
-  shape-word {n} H p = record {
-    is = λ f l. one-shape (columns s) (λ j. headNode f s j) i n p ∙ shape-node H f;
-    shaped = record { is = at-node H (λ t. Has 1 (typeOf (columns s) t)) (λ f l. one-node s i f n p) };
-  }
+  pub shape-word : {n : Node} → Looks s i n → OneWord n → ShapeAt s i Sh.Word
+  shape-word {n} H p =
+      let q = at-node H (λ t. true ≡ isSingle (typeOf (columns s) t)) (λ f l. single-node s i f n p) in
+      record { is = λ f l. one-shape (columns s) (λ j. headNode f s j) i n p ∙ shape-node H f; single = q; shaped = record { is = q } }
 
   pub shape-row : {g r : ℕ} → Looks s i (Row g) → r ≡ columns s g → ShapeAt s i (Sh.Words r)
   unfolding typeOf widthOf
   shape-row {g} {r} H e = let h = row-width (columns s g) in
       record {
         is = λ f l. ap Sh.Words e ∙ shape-node H f;
+        single = at-node H (λ t. false ≡ isSingle (typeOf (columns s) t)) (λ f l. refl);
         shaped = record { is = at-node H (λ t. Has r (typeOf (columns s) t)) (λ f l. (h .0, e ∙ h .1)) };
       }
 
@@ -207,6 +220,7 @@ module _ {s : List ℕ} {i : ℕ} where
   shape-fields {e} H = let p = H .inside in
       record {
         is = λ f l. shape-node H f;
+        single = at-node H (λ t. false ≡ isSingle (typeOf (columns s) t)) (λ f l. refl);
         shaped = record { is = (omega arith, p .1, at-node H (λ t. (g : ℕ) × (left (i + 1) + 1 < g) × (typeOf (columns s) t ≡ record′ (typesAt g s (i + 1) e))) (λ f l. (f, omega arith, refl))) };
       }
 
@@ -215,6 +229,7 @@ module _ {s : List ℕ} {i : ℕ} where
   shape-elements {m} {h} k H D e w = let p = H .inside in
       record {
         is = λ f l. w ∙ ap (gatherOf m) (D .is f (omega arith)) ∙ shape-node H f;
+        single = at-node H (λ t. false ≡ isSingle (typeOf (columns s) t)) (λ f l. ap (λ x. isSingle (gathered x (typeOf (columns s) (headTree f s (i + 1))))) (sym e));
         shaped = record {
           is = (
             omega (arith, D .past),

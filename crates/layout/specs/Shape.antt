@@ -1,5 +1,6 @@
 -- A normal form as the type of its values, read from its words in scratch.
 use mathlib.Core.Path.{_≡_}
+use mathlib.Core.Bool.{Bool, true, false}
 use mathlib.Core.List.{List}
 use Prim.Native.Nat.{ℕ, suc, _+_, _<_, _≤_, Ordering, Ordering·lt, Ordering·eq, Ordering·gt}
 use Rattle.calculus.specs.Syntax.{Collection, list, bag, set}
@@ -25,7 +26,7 @@ use Rattle.layout.specs.declared.Layout.{Layout}
 use Rattle.layout.specs.declared.Order.{Order}
 use Rattle.layout.specs.declared.Order.the-variants.{Less, Equal, Greater}
 use Rattle.layout.specs.declared.Shape.{Shape}
-use Rattle.layout.specs.declared.Shape.the-variants.{Words, Fields, Elements}
+use Rattle.layout.specs.declared.Shape.the-variants.{Word, Words, Fields, Elements}
 
 -- C: how many columns the rows of a generator have
 unfoldable mutual
@@ -83,36 +84,50 @@ pub record ClauseEnds (s : List ℕ) (j e : ℕ) : Type 0 where
   pub none : e ≤ j → (f : ℕ) → (headTree (suc f) s j ≡ formTree f s j) × (headNode (suc f) s j ≡ j)
 
 -- ---- the shape of a type
--- of a comprehension with its head at h: a collection of its heads, or one word
+-- of a comprehension with its head at h: a collection of its heads, or a number or a truth
 abbrev pub gatherOf : Monoid → ℕ → Shape
 gatherOf Mo.List h = Elements Ki.List h
 gatherOf Mo.Bag h = Elements Ki.Bag h
 gatherOf Mo.Set h = Elements Ki.Set h
-gatherOf Mo.Sum h = Words 1
-gatherOf Mo.Max h = Words 1
-gatherOf Mo.Some h = Words 1
-gatherOf Mo.All h = Words 1
+gatherOf Mo.Sum h = Word
+gatherOf Mo.Max h = Word
+gatherOf Mo.Some h = Word
+gatherOf Mo.All h = Word
 
 -- by the node at i: C is how many columns the rows of a generator have, H where the head stands behind the clauses from a place
 abbrev pub shapeBy : (ℕ → ℕ) → (ℕ → ℕ) → ℕ → Node → Shape
-shapeBy C H i (Number z) = Words 1
-shapeBy C H i (Truth b) = Words 1
+shapeBy C H i (Number z) = Word
+shapeBy C H i (Truth b) = Word
 shapeBy C H i (Row g) = Words (C g)
-shapeBy C H i (Cell c g) = Words 1
+shapeBy C H i (Cell c g) = Word
 shapeBy C H i (Record e) = Fields e
-shapeBy C H i (Binary o j) = Words 1
-shapeBy C H i Negation = Words 1
+shapeBy C H i (Binary o j) = Word
+shapeBy C H i Negation = Word
 shapeBy C H i (Comprehension m) = gatherOf m (H (i + 1))
-shapeBy C H i (Generator g k) = Words 1
-shapeBy C H i (Condition j) = Words 1
-shapeBy C H i Nothing = Words 1
+shapeBy C H i (Generator g k) = Word
+shapeBy C H i (Condition j) = Word
+shapeBy C H i Nothing = Word
 
 unfoldable pub shapeIn : ℕ → List ℕ → ℕ → Shape
 shapeIn f s i = shapeBy (columns s) (λ j. headNode f s j) i (nodeAt s i)
 
--- A type as the words show it: so many words, each a number or a truth; a record's fields and a collection's elements have types
--- of their own, at places further on.
+-- a number or a truth, told of a type and of a shape
+abbrev pub isSingle : Ty → Bool
+isSingle number = true
+isSingle truth = true
+isSingle (record′ ts) = false
+isSingle (coll c t) = false
+
+abbrev pub isWord : Shape → Bool
+isWord Word = true
+isWord (Words n) = false
+isWord (Fields e) = false
+isWord (Elements k h) = false
+
+-- A type as the words show it: a number or a truth; so many of these; a record's fields and a collection's elements have types of
+-- their own, at places further on.
 abbrev pub ShapedAs : List ℕ → ℕ → Shape → Type 0
+ShapedAs s i Word = (f : ℕ) → left i < f → true ≡ isSingle (typeAt f s i)
 ShapedAs s i (Words n) = (f : ℕ) → left i < f → Flat (typeAt f s i) × (n ≡ widthOf (typeAt f s i))
 ShapedAs s i (Fields e) = (i < places) × (e ≤ places) × ((f : ℕ) → left i < f → (g : ℕ) × (left (i + 1) + 1 < g) × (typeAt f s i ≡ record′ (typesAt g s (i + 1) e)))
 ShapedAs s i (Elements k h) = (i < h) × (h ≤ places) × ((f : ℕ) → left i < f → (g : ℕ) × (left h < g) × (typeAt f s i ≡ coll (collectionOf k) (typeAt g s h)))
@@ -123,6 +138,7 @@ pub record Shaped (s : List ℕ) (i : ℕ) (r : Shape) : Type 0 where
 -- what reading the type at place i answers, at every fuel that suffices
 pub record ShapeAt (s : List ℕ) (i : ℕ) (r : Shape) : Type 0 where
   pub is : (f : ℕ) → left i < f → r ≡ shapeIn f s i
+  pub single : (f : ℕ) → left i < f → isWord r ≡ isSingle (typeAt f s i)
   pub shaped : Shaped s i r
 
 -- the type at place i, read once

@@ -41,6 +41,7 @@ fn walk(s: &[u64], o: &mut [i64], t: Layout, e: Ends) -> Ends
 {
     let shape = t.shape;
     match shape {
+        Shape::Word => carry(o, 1, e),
         Shape::Words(n) => carry(o, n, e),
         Shape::Fields(end) => walk_fields(s, o, t.place + 1, end, e),
         Shape::Elements(k, h) => {

@@ -3,7 +3,7 @@ use mathlib.Core.Path.{refl, ap, _∙_}
 use Prim.Native.Nat.{_+_}
 use Rattle.form.specs.Tree.{left}
 use Rattle.form.proofs.Laws.{next-past}
-use Rattle.layout.proofs.Types.{reshape, laid-as}
+use Rattle.layout.proofs.Types.{reshape, as-words, laid-as}
 use Rattle.written.proofs.Walking.{walk-words, walk-record, walk-collection, walked, fields-none, fields-more, Walking, walk-first, walk-again, walk-last}
 use borrow.Author.Needs.{needs}
 use Prim.Native.Nat.{ℕ, _<_}
@@ -88,19 +88,25 @@ walk-same-length : (t : ℕ) → walk-lts.Need-same-length (walk-claims t) (walk
 walk-same-length t c = c .before .carry .kept .0
 
 walk-returns : (t : ℕ) → walk-lts.Need-returns (walk-claims t) (walk-at t) walk.Post
-walk-returns t c = walk-words (reshape (c .before .before .before .before .before .before .before .pre .1) (c .before .before .before .before .shape .given .1)) (c .before .carry .ensures)
+walk-returns t c = walk-words (as-words (reshape (c .before .before .before .before .before .before .pre .1) (c .before .before .before .enum-told .given .1))) (c .before .carry .ensures)
 
 walk-same-length-2 : (t : ℕ) → walk-lts.Need-same-length-2 (walk-claims t) (walk-at t) walk.Post
-walk-same-length-2 t c = c .before .walk-fields .kept .1 .0
+walk-same-length-2 t c = c .before .carry2 .kept .0
 
 walk-returns-2 : (t : ℕ) → walk-lts.Need-returns-2 (walk-claims t) (walk-at t) walk.Post
-walk-returns-2 t c = walk-record (reshape (c .before .before .before .before .before .before .before .before .pre .1) (c .before .before .before .before .before .shape2 .given .1)) (c .before .walk-fields .ensures)
+walk-returns-2 t c = walk-words (reshape (c .before .before .before .before .before .before .before .pre .1) (c .before .before .before .before .shape .given .1)) (c .before .carry2 .ensures)
 
 walk-same-length-3 : (t : ℕ) → walk-lts.Need-same-length-3 (walk-claims t) (walk-at t) walk.Post
-walk-same-length-3 t c = c .before .mark .kept .0 ∙ c .before .before .before .before .order .kept .1 .0 ∙ c .before .before .before .before .before .before .before .walk-elements .kept .1 .0 ∙ c .before .before .before .before .before .before .before .before .before .before .carry2 .kept .0
+walk-same-length-3 t c = c .before .walk-fields .kept .1 .0
 
 walk-returns-3 : (t : ℕ) → walk-lts.Need-returns-3 (walk-claims t) (walk-at t) walk.Post
-walk-returns-3 t c = walk-collection (reshape (c .before .before .before .before .before .before .before .before .before .before .before .before .before .before .before .before .before .before .before .pre .1) (c .before .before .before .before .before .before .before .before .before .before .before .before .before .before .before .before .shape3 .given .1)) (laid-as (c .before .before .before .before .before .before .before .before .before .before .before .before .before .before .element-layout .ensures)) (c .before .before .before .before .before .before .before .before .before .before .before .before .tally .ensures) (c .before .before .before .before .before .before .before .before .before .before .carry2 .ensures) (c .before .before .before .before .before .before .before .walk-elements .ensures) (c .before .before .before .before .order .ensures) (c .before .mark .ensures) refl refl
+walk-returns-3 t c = walk-record (reshape (c .before .before .before .before .before .before .before .before .pre .1) (c .before .before .before .before .before .shape2 .given .1)) (c .before .walk-fields .ensures)
+
+walk-same-length-4 : (t : ℕ) → walk-lts.Need-same-length-4 (walk-claims t) (walk-at t) walk.Post
+walk-same-length-4 t c = c .before .mark .kept .0 ∙ c .before .before .before .before .order .kept .1 .0 ∙ c .before .before .before .before .before .before .before .walk-elements .kept .1 .0 ∙ c .before .before .before .before .before .before .before .before .before .before .carry3 .kept .0
+
+walk-returns-4 : (t : ℕ) → walk-lts.Need-returns-4 (walk-claims t) (walk-at t) walk.Post
+walk-returns-4 t c = walk-collection (reshape (c .before .before .before .before .before .before .before .before .before .before .before .before .before .before .before .before .before .before .before .pre .1) (c .before .before .before .before .before .before .before .before .before .before .before .before .before .before .before .before .shape3 .given .1)) (laid-as (c .before .before .before .before .before .before .before .before .before .before .before .before .before .before .element-layout .ensures)) (c .before .before .before .before .before .before .before .before .before .before .before .before .tally .ensures) (c .before .before .before .before .before .before .before .before .before .before .carry3 .ensures) (c .before .before .before .before .before .before .before .walk-elements .ensures) (c .before .before .before .before .order .ensures) (c .before .mark .ensures) refl refl
 
 abbrev walk-elements-Inv-loop : walk-elements-lts.InvT-loop
 walk-elements-Inv-loop s o₀ t count n₀ g₀ o n g = Walking s (t .place) count g₀ o₀ o n g
@@ -146,6 +152,8 @@ pub +walk+walk-elements+walk-fields-spec : {M : Type 1} → statement M
     (λ c. search needs)
     (λ c κs. search needs)
     (λ c. search needs)
+    (λ c κs. search needs)
+    (λ c. search needs)
     (walk-add-walk-fields t)
     (walk-walk-fields-requires t)
     (λ c. search needs)
@@ -160,7 +168,9 @@ pub +walk+walk-elements+walk-fields-spec : {M : Type 1} → statement M
     (walk-same-length-2 t)
     (walk-returns-2 t)
     (walk-same-length-3 t)
-    (walk-returns-3 t))
+    (walk-returns-3 t)
+    (walk-same-length-4 t)
+    (walk-returns-4 t))
     (λ t. walk-elements-lts.spec
     (walk-elements-claims t)
     (walk-elements-at t)
