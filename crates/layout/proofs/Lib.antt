@@ -1,11 +1,10 @@
--- Laws of types in scratch, of skipping and of comparing.
+-- Laws of types in scratch and of skipping.
 pub mod Stands
 pub mod Types
 pub mod Flat
 pub mod Widths
 pub mod Many
 pub mod Skips
-pub mod Compares
 pub mod Values
 pub mod Columns
 pub mod Elements

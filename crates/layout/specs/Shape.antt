@@ -2,7 +2,7 @@
 use mathlib.Core.Path.{_≡_}
 use mathlib.Core.Bool.{Bool, true, false}
 use mathlib.Core.List.{List}
-use Prim.Native.Nat.{ℕ, suc, _+_, _<_, _≤_, Ordering, Ordering·lt, Ordering·eq, Ordering·gt}
+use Prim.Native.Nat.{ℕ, suc, _+_, _<_, _≤_}
 use Rattle.calculus.specs.Syntax.{Collection, list, bag, set}
 use Rattle.checks.specs.Types.{Ty, Tys, number, truth, record′, coll, ynil, ycons, cells}
 use Rattle.checks.proofs.Judgement.{result}
@@ -23,8 +23,6 @@ use Rattle.layout.specs.Flat.{Flat, widthOf}
 use Rattle.layout.specs.declared.Kind.{Kind}
 use Rattle.layout.specs.declared.Kind.the-variants as Ki
 use Rattle.layout.specs.declared.Layout.{Layout}
-use Rattle.layout.specs.declared.Order.{Order}
-use Rattle.layout.specs.declared.Order.the-variants.{Less, Equal, Greater}
 use Rattle.layout.specs.declared.Shape.{Shape}
 use Rattle.layout.specs.declared.Shape.the-variants.{Word, Words, Fields, Elements}
 
@@ -56,11 +54,6 @@ abbrev pub collectionOf : Kind → Collection
 collectionOf Ki.List = list
 collectionOf Ki.Bag = bag
 collectionOf Ki.Set = set
-
-abbrev pub orderingOf : Order → Ordering
-orderingOf Less = Ordering·lt
-orderingOf Equal = Ordering·eq
-orderingOf Greater = Ordering·gt
 
 -- the head behind the clauses from place j on stands at h; that form is read there
 pub record Heads (s : List ℕ) (j h : ℕ) : Type 0 where

@@ -1,0 +1,4 @@
+-- Laws of comparing.
+pub mod Flat
+pub mod Compares
+pub mod Stands
