@@ -9,7 +9,7 @@ use Rattle.calculus.specs.Lists.{pick}
 abbrev pub columnsAt : ℕ
 columnsAt = 1040
 
--- "27: a normal form over 512 nodes": a generator is two of them, so there are fewer
+-- "27: a normal form over 512 nodes": a generator is two of them, so there are at most 256
 abbrev pub generators : ℕ
 generators = 256
 

@@ -1,5 +1,5 @@
--- Values as their written words show them: which values a type has, how words are skipped and compared by a type, and the
--- type that the words of a normal form stand for.
+-- Values as their written words show them: which values a type has, how words are skipped by a type, how many words its values
+-- have, and the type that the words of a normal form stand for.
 pub mod Typed
 pub mod Elements
 pub mod Reading
