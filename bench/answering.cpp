@@ -49,6 +49,7 @@ const Query queries[] = {
      exists},
     {"cross sum", false, "SELECT sum(a.k + b.k) FROM t0 a, t1 b", cross_sum},
     {"bag to order", true, "SELECT a.k, a.v FROM t0 a ORDER BY 1, 2", bag_to_order},
+    {"record inside", true, "SELECT a.k, a.v, a.k FROM t0 a ORDER BY 1, 2, 3", record_inside},
 };
 
 struct Input {

@@ -53,6 +53,7 @@ QUERIES = [
     ('cross sum', 'sum{ a.k + b.k | a <- A, b <- B }',
      pair('bag', below(2**30, ROWS, 9), below(2**30, ROWS, 10))),
     ('bag to order', 'bag{ (a.k, a.v) | a <- A }', [table('A', 'bag', below(100, 1000, 11))]),
+    ('record inside', 'bag{ ((a.k, a.v), a.k) | a <- A }', [table('A', 'bag', below(100, 1000, 11))]),
 ]
 
 for name, text, tables in QUERIES:
