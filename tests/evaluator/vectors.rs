@@ -1,10 +1,12 @@
 //! Compares the evaluator with recorded vectors, one JSON object a line. The file is the only
-//! argument; the exit code is 0 where nothing differs.
+//! argument.
 
 use std::process::ExitCode;
 
 use evaluator::{by_loops, by_plan, check, normal_form_holds, plan_lines, Unknown};
+use harness::open::NUMBERS;
 use harness::recorded::{self, Recorded};
+use harness::tally::{exit_code, Tally};
 
 fn main() -> ExitCode {
     match recorded::from_arguments() {
@@ -17,29 +19,22 @@ fn main() -> ExitCode {
 }
 
 fn compare_all(vectors: &[Recorded]) -> ExitCode {
-    let (mut agree, mut differ, mut unknown) = (0, 0, 0);
+    let mut tally = Tally::new("vectors", NUMBERS.to_vec());
     for vector in vectors {
+        tally.inputs += 1;
+        tally.gave(u64::from(vector.check));
         let mut found = Vec::new();
         let compared = compare(vector, &mut found);
         if compared.is_err_and(|unknown| unknown.is_fault()) {
             found.push("fault of the evaluator".to_string());
         }
         if !found.is_empty() {
-            println!("{}: {}", vector.name, found.join("; "));
-            differ += 1;
+            tally.differs(&[&vector.name, &found.join("; ")]);
         } else if let Err(Unknown(reason)) = compared {
-            println!("{}: unknown, {}", vector.name, reason);
-            unknown += 1;
-        } else {
-            agree += 1;
+            tally.skip(reason);
         }
     }
-    println!("agree {agree}, differ {differ}, unknown {unknown}");
-    if differ == 0 {
-        ExitCode::SUCCESS
-    } else {
-        ExitCode::FAILURE
-    }
+    exit_code([&tally])
 }
 
 /// Notes what differs, up to the first call at which the evaluator gives up.

@@ -1,5 +1,6 @@
 //! Makes the files of the program `vectors` from recorded vectors: the cases that it reads, the
-//! lines that it must print, and the cases' names. Arguments: file of vectors, folder of the crate.
+//! lines that it must print, and the cases' names. Arguments: file of vectors, folder of the crate;
+//! with --check behind them nothing is written, and it fails where a file is not what would be.
 
 use std::process::ExitCode;
 
@@ -18,14 +19,21 @@ fn main() -> ExitCode {
 fn make() -> Result<(), String> {
     let (vectors, arguments) = recorded::from_arguments()?;
     let folder = arguments.first().ok_or("second argument: the crate")?;
+    let put = match arguments.get(1).map(String::as_str) {
+        None => write,
+        Some("--check") => compare,
+        Some(other) => return Err(format!("third argument: --check, not {other}")),
+    };
     let cases: Result<Vec<_>, String> = vectors.iter().map(case_of).collect();
-    write(folder, "data/cases", &cases?.concat())?;
+    put(folder, "data/cases", &cases?.concat())?;
     let lines = (0..)
         .zip(&vectors)
         .map(|(place, vector)| line_of(place, vector));
-    write(folder, "stdout", lines.collect::<String>().as_bytes())?;
+    put(folder, "stdout", lines.collect::<String>().as_bytes())?;
     let names = vectors.iter().map(|vector| format!("{}\n", vector.name));
-    write(folder, "names", names.collect::<String>().as_bytes())
+    put(folder, "names", names.collect::<String>().as_bytes())?;
+    println!("cases: {} in {folder}", vectors.len());
+    Ok(())
 }
 
 /// Whether the outcome is known; where it is not, loops and plan are too long for any engine.
@@ -63,4 +71,13 @@ fn line_of(place: u64, vector: &Recorded) -> String {
 fn write(folder: &str, name: &str, bytes: &[u8]) -> Result<(), String> {
     let path = format!("{folder}/{name}");
     std::fs::write(&path, bytes).map_err(|error| format!("{path}: {error}"))
+}
+
+fn compare(folder: &str, name: &str, bytes: &[u8]) -> Result<(), String> {
+    let path = format!("{folder}/{name}");
+    match std::fs::read(&path) {
+        Ok(found) if found == bytes => Ok(()),
+        Ok(_) => Err(format!("{path} is not made from the recorded vectors")),
+        Err(error) => Err(format!("{path}: {error}")),
+    }
 }

@@ -11,28 +11,6 @@ use super::open::{Call, Reply};
 use super::random::Random;
 use super::tally::{Place, Tally};
 
-/// Holds a call against a reply that is known otherwise: once with just so many words of scratch,
-/// then, if they are enough, with several lengths of what is lent.
-pub fn hold<T: Unit>(
-    call: &Call<T>,
-    input: &Input,
-    reply: &Reply<T>,
-    scratch: usize,
-) -> Result<(), String> {
-    let mut comparison = Comparison::new(call);
-    let mut case = Case {
-        place: (0, 0),
-        input,
-        reply,
-        random: Random::new(0, 0),
-    };
-    comparison.made(&mut case, scratch, reply.written.len())?;
-    if scratch < SCRATCH {
-        return Ok(());
-    }
-    comparison.lengths(case)
-}
-
 pub struct Comparison<'a, T> {
     call: &'a Call<T>,
     scratch: Lent<u64>,
@@ -56,7 +34,7 @@ impl<T: Unit> Held for Comparison<'_, T> {
             Err(unknown) => {
                 self.tally.skip(unknown.0);
                 if unknown.is_fault() {
-                    self.tally.differs(place, input, unknown.0);
+                    self.tally.input_differs(place, input, unknown.0);
                 }
                 if !self.call.always {
                     return;
@@ -71,7 +49,7 @@ impl<T: Unit> Held for Comparison<'_, T> {
             random: Random::new(!place.0, place.1),
         });
         if let Err(what) = compared {
-            self.tally.differs(place, input, &what);
+            self.tally.input_differs(place, input, &what);
         }
     }
 
@@ -88,6 +66,24 @@ impl<'a, T: Unit> Comparison<'a, T> {
             buffer: Lent::new(),
             tally: Tally::new(call.name, call.numbers()),
         }
+    }
+
+    /// Holds the call against a reply that is known otherwise: once with just so many words of
+    /// scratch, then, if they are enough, with several lengths of what is lent.
+    pub fn hold(&mut self, input: &Input, reply: &Reply<T>, scratch: usize) -> Result<(), String> {
+        self.tally.inputs += 1;
+        let mut case = Case {
+            place: (0, 0),
+            input,
+            reply,
+            random: Random::new(0, 0),
+        };
+        let first = self.made(&mut case, scratch, reply.written.len());
+        let held = match first {
+            Ok(()) if scratch >= SCRATCH => self.lengths(case),
+            ended => ended,
+        };
+        held.map_err(|what| format!("{}: {what}", self.call.name))
     }
 
     /// What the call itself says is taken for its reply, so that all but the number is compared.

@@ -1,7 +1,6 @@
 //! The desk program against the second evaluator, at its edges and over made inputs. Arguments:
 //! seed, count of inputs.
 
-use std::collections::BTreeMap;
 use std::io::{ErrorKind, Write};
 use std::process::{Command, ExitCode, Stdio};
 
@@ -9,6 +8,7 @@ use evaluator::Unknown;
 use harness::arguments;
 use harness::desk_edges::edges;
 use harness::generate::generate;
+use harness::tally::{exit_code, Tally};
 
 const DESK: &str = "target/bin/desk";
 
@@ -32,56 +32,34 @@ const FRONTS: [&str; 13] = [
 
 fn main() -> ExitCode {
     let [seed, count] = arguments("seed, count of inputs", [1, 2_000]);
-    let made = (0..count).map(|index| {
-        let input = generate(seed, index);
-        let bytes = [input.data, input.question].concat();
-        (format!("input {index}"), bytes)
-    });
-    let (mut edge_tally, mut tally) = (Tally::default(), Tally::default());
+    let mut tally = Tally::new("desk", FRONTS.map(String::from).to_vec());
     for (name, input) in edges() {
-        edge_tally.compare(&name, &input);
-    }
-    for (name, input) in made {
-        tally.compare(&name, &input);
-    }
-    println!("desk: {edge_tally:?} at the edges, {tally:?}");
-    let seen =
-        |front: &&str| edge_tally.fronts.contains_key(*front) || tally.fronts.contains_key(*front);
-    if edge_tally.good() && edge_tally.skipped == 0 && tally.good() && FRONTS.iter().all(seen) {
-        ExitCode::SUCCESS
-    } else {
-        ExitCode::FAILURE
-    }
-}
-
-/// What was compared.
-#[derive(Debug, Default)]
-struct Tally {
-    /// How often each first line was expected.
-    fronts: BTreeMap<String, u64>,
-    skipped: u64,
-    differences: u64,
-}
-
-impl Tally {
-    fn good(&self) -> bool {
-        self.differences == 0 && self.fronts.keys().all(|front| FRONTS.contains(&&front[..]))
-    }
-
-    fn compare(&mut self, name: &str, input: &[u8]) {
-        let Ok(expected) = expected(input) else {
-            self.skipped += 1;
-            return;
-        };
-        let front = expected.lines().next().unwrap_or_default();
-        *self.fronts.entry(front.to_string()).or_default() += 1;
-        let text = printed(input).unwrap_or_else(|error| error.to_string().into_bytes());
-        if text != expected.as_bytes() {
-            self.differences += 1;
-            println!("{name}: printed {:?}", String::from_utf8_lossy(&text));
-            println!("  should be {expected:?}");
+        // The evaluator gives up at none of them.
+        if let Err(unknown) = compare(&mut tally, &name, &input) {
+            tally.differs(&[&name, unknown.0]);
         }
     }
+    for index in 0..count {
+        let input = generate(seed, index);
+        let bytes = [input.data, input.question].concat();
+        if let Err(unknown) = compare(&mut tally, &format!("input {index}"), &bytes) {
+            tally.skip(unknown.0);
+        }
+    }
+    exit_code([&tally])
+}
+
+fn compare(tally: &mut Tally<String>, name: &str, input: &[u8]) -> Result<(), Unknown> {
+    tally.inputs += 1;
+    let expected = expected(input)?;
+    let front = expected.lines().next().unwrap_or_default();
+    tally.gave(front.to_string());
+    let text = printed(input).unwrap_or_else(|error| error.to_string().into_bytes());
+    if text != expected.as_bytes() {
+        let printed = format!("printed {:?}", String::from_utf8_lossy(&text));
+        tally.differs(&[name, &printed, &format!("should be {expected:?}")]);
+    }
+    Ok(())
 }
 
 /// What the desk prints. It may end before it has read all.

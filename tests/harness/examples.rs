@@ -4,11 +4,12 @@
 use std::process::ExitCode;
 
 use evaluator::Unknown;
-use harness::compare::hold;
+use harness::compare::Comparison;
 use harness::generate::{Family, Input};
-use harness::lent::Unit;
-use harness::open::{Call, Reply, CHECK, LINES, LOOPS, PLAN};
+use harness::held::Held;
+use harness::open::{Reply, CHECK, LINES, LOOPS, PLAN};
 use harness::recorded::bytes_of_hex;
+use harness::tally::{exit_code, Tally};
 
 fn main() -> ExitCode {
     let path = std::env::args().nth(1).unwrap_or_default();
@@ -19,23 +20,47 @@ fn main() -> ExitCode {
             return ExitCode::FAILURE;
         }
     };
-    let mut differences = 0;
+    let mut held = Calls::new();
+    let mut examples = Tally::new("examples", CHECK.numbers());
     for line in text.lines() {
-        let compared = match Example::of_line(line) {
-            Some(example) => example.compare().map_err(|what| (example.name, what)),
-            None => Err((line.to_string(), "no case".to_string())),
+        examples.inputs += 1;
+        let Some(example) = Example::of_line(line) else {
+            examples.differs(&[line, "is no case"]);
+            continue;
         };
-        if let Err((name, what)) = compared {
-            println!("{name}: {what}");
-            differences += 1;
+        examples.gave(u64::from(example.number));
+        if let Err(what) = example.compare(&mut held) {
+            examples.differs(&[&example.name, &what]);
         }
     }
-    let count = text.lines().count();
-    println!("examples: {count} cases, {differences} differences");
-    if differences == 0 && count > 0 {
-        ExitCode::SUCCESS
-    } else {
-        ExitCode::FAILURE
+    exit_code(held.tallies().into_iter().chain([&examples]))
+}
+
+/// The open calls, each with what it gave so far.
+struct Calls {
+    check: Comparison<'static, i64>,
+    loops: Comparison<'static, i64>,
+    plan: Comparison<'static, i64>,
+    lines: Comparison<'static, u8>,
+}
+
+impl Calls {
+    fn new() -> Calls {
+        Calls {
+            check: Comparison::new(&CHECK),
+            loops: Comparison::new(&LOOPS),
+            plan: Comparison::new(&PLAN),
+            lines: Comparison::new(&LINES),
+        }
+    }
+
+    fn tallies(&mut self) -> [&Tally; 4] {
+        [
+            self.check.tally(),
+            self.loops.tally(),
+            self.plan.tally(),
+            self.lines.tally(),
+        ]
     }
 }
 
@@ -73,7 +98,7 @@ impl Example {
         })
     }
 
-    fn compare(&self) -> Result<(), String> {
+    fn compare(&self, calls: &mut Calls) -> Result<(), String> {
         let given_up = |unknown: Unknown| format!("evaluator: {}", unknown.0);
         self.compare_evaluator().map_err(given_up)??;
         let mut written = self.words.clone();
@@ -83,19 +108,16 @@ impl Example {
             length: self.plan.len() as u64,
             written: self.plan.clone().into_bytes(),
         };
-        self.hold(&CHECK, &self.reply(Vec::new()))?;
-        self.hold(&LOOPS, &self.reply(written.clone()))?;
-        self.hold(&PLAN, &self.reply(written))?;
-        self.hold(&LINES, &lines)
-    }
-
-    fn hold<T: Unit>(&self, call: &Call<T>, reply: &Reply<T>) -> Result<(), String> {
         let input = Input {
             family: Family::WellTyped,
             data: self.data.clone(),
             question: self.question.clone(),
         };
-        hold(call, &input, reply, self.scratch).map_err(|what| format!("{}: {what}", call.name))
+        let (checked, answered) = (self.reply(Vec::new()), self.reply(written));
+        calls.check.hold(&input, &checked, self.scratch)?;
+        calls.loops.hold(&input, &answered, self.scratch)?;
+        calls.plan.hold(&input, &answered, self.scratch)?;
+        calls.lines.hold(&input, &lines, self.scratch)
     }
 
     fn compare_evaluator(&self) -> Result<Result<(), String>, Unknown> {

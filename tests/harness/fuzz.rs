@@ -1,6 +1,5 @@
 //! All open calls against the second evaluator, and both ways of answering against each other, with
-//! one seed after another until the time is over. Fails where anything differs, and where a call
-//! never gave one of its numbers. Arguments: minutes, first seed.
+//! one seed after another until the time is over. Arguments: minutes, first seed.
 
 use std::process::ExitCode;
 use std::sync::atomic::{AtomicU64, Ordering};
@@ -11,7 +10,7 @@ use harness::arguments;
 use harness::compare::Comparison;
 use harness::held::{inputs_of, Held};
 use harness::open::{CHECK, LINES, LOOPS, PLAN};
-use harness::tally::Tally;
+use harness::tally::{exit_code, Tally};
 use harness::ways::Ways;
 
 /// Inputs made of one seed.
@@ -22,15 +21,8 @@ fn main() -> ExitCode {
     let end = Instant::now() + Duration::from_secs(60 * minutes);
     let seeds = AtomicU64::new(first);
     let totals = totals_of(&seeds, end);
-    println!("seeds {first} to {}", seeds.into_inner() - 1);
-    totals.iter().for_each(Tally::print);
-    let whole = |tally: &Tally| tally.differences == 0 && tally.never_given().is_empty();
-    if totals.iter().all(whole) {
-        ExitCode::SUCCESS
-    } else {
-        println!("fuzz: something differs, or a number was never given");
-        ExitCode::FAILURE
-    }
+    println!("seeds from {first} to before {}", seeds.into_inner());
+    exit_code(&totals)
 }
 
 /// What each call counts, over all processors.

@@ -4,7 +4,7 @@ use std::process::ExitCode;
 
 use super::arguments;
 use super::generate::{generate, Input};
-use super::tally::{Place, Tally};
+use super::tally::{exit_code, Place, Tally};
 
 /// Something that is held on one input after another, and counts.
 pub trait Held {
@@ -16,16 +16,11 @@ pub trait Held {
 /// Inputs where none are asked for.
 const USUAL_COUNT: u64 = 200_000;
 
-/// As many inputs as the command line asks for. Fails where anything differs.
+/// As many inputs as the command line asks for.
 pub fn run(mut held: impl Held) -> ExitCode {
     let [seed, count] = arguments("seed, count of inputs", [1, USUAL_COUNT]);
     inputs_of(seed, count, &mut [&mut held]);
-    held.tally().print();
-    if held.tally().differences == 0 {
-        ExitCode::SUCCESS
-    } else {
-        ExitCode::FAILURE
-    }
+    exit_code([&*held.tally()])
 }
 
 /// The first inputs of a seed, each held in every way.

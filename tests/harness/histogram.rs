@@ -9,108 +9,97 @@ use std::time::Instant;
 
 use evaluator::{by_loops, by_plan, check, normal_form_holds, plan_lines, Unknown};
 use harness::arguments;
-use harness::generate::{generate, Family};
+use harness::generate::{generate, Family, Input};
+use harness::held::{inputs_of, Held};
+use harness::lent::SCRATCH;
+use harness::open::NUMBERS;
+use harness::tally::{exit_code, Place, Tally};
 
 fn main() -> ExitCode {
     let [seed, count] = arguments("seed, count of inputs", [1, 20_000]);
     let start = Instant::now();
-    let mut histogram = Histogram::default();
-    for index in 0..count {
-        histogram.add(seed, index);
-    }
+    let mut histogram = Histogram {
+        tally: Tally::new("histogram", NUMBERS.to_vec()),
+        families: BTreeMap::new(),
+        lengths: BTreeMap::new(),
+        set_shorter: 0,
+        offered: 0,
+    };
+    inputs_of(seed, count, &mut [&mut histogram]);
     let seconds = start.elapsed().as_secs_f64();
     histogram.print();
     println!(
         "seconds for 10,000 inputs: {:.2}",
         seconds * 10_000.0 / (count.max(1) as f64)
     );
-    if histogram.faults == 0 {
-        ExitCode::SUCCESS
-    } else {
-        ExitCode::FAILURE
-    }
+    exit_code([&histogram.tally])
 }
 
-#[derive(Default)]
 struct Histogram {
-    numbers: BTreeMap<u32, u64>,
+    /// The checker's numbers.
+    tally: Tally,
     families: BTreeMap<Family, BTreeMap<u32, u64>>,
-    unknown: BTreeMap<(&'static str, &'static str), u64>,
     /// Accepted questions by the length of their answer: up to 1, 2 to 9, 10 to 99, more.
     lengths: BTreeMap<&'static str, u64>,
     set_shorter: u64,
     offered: u64,
-    faults: u64,
+}
+
+impl Held for Histogram {
+    fn input(&mut self, place: Place, input: &Input) {
+        if *input != generate(place.0, place.1) {
+            self.fault(place, input, "the generator is not deterministic");
+        }
+        if let Err(unknown) = self.add(place, input) {
+            self.tally.skip(unknown.0);
+            if unknown.is_fault() {
+                self.fault(place, input, unknown.0);
+            }
+        }
+    }
+
+    fn tally(&mut self) -> &mut Tally {
+        &mut self.tally
+    }
 }
 
 impl Histogram {
-    fn add(&mut self, seed: u64, index: u64) {
-        let input = generate(seed, index);
-        if input != generate(seed, index) {
-            self.fault(index, "the generator is not deterministic");
+    /// Up to the first call at which the evaluator gives up.
+    fn add(&mut self, place: Place, input: &Input) -> Result<(), Unknown> {
+        let (number, _) = check(&input.data, &input.question, SCRATCH)?;
+        self.tally.gave(u64::from(number));
+        let numbers = self.families.entry(input.family).or_default();
+        *numbers.entry(number).or_default() += 1;
+        if number == 0 {
+            self.answers(place, input)?;
         }
-        match check(&input.data, &input.question, 8192) {
-            Err(unknown) => self.give_up(index, "check", unknown),
-            Ok((number, _)) => {
-                *self.numbers.entry(number).or_default() += 1;
-                *self
-                    .families
-                    .entry(input.family)
-                    .or_default()
-                    .entry(number)
-                    .or_default() += 1;
-                if number == 0 {
-                    self.answers(index, &input.data, &input.question);
-                }
-            }
-        }
+        Ok(())
     }
 
-    fn answers(&mut self, index: u64, data: &[u8], question: &[u8]) {
+    fn answers(&mut self, place: Place, input: &Input) -> Result<(), Unknown> {
+        let (data, question) = (&input.data, &input.question);
         if normal_form_holds(data, question) != Ok(true) {
-            self.fault(index, "a rule applies to the normal form");
+            self.fault(place, input, "a rule applies to the normal form");
         }
-        if !matches!(plan_lines(data, question, 8192, usize::MAX), Ok((0, _))) {
-            self.fault(index, "no plan");
+        if !matches!(plan_lines(data, question, SCRATCH, usize::MAX), Ok((0, _))) {
+            self.fault(place, input, "no plan");
         }
-        let loops = by_loops(data, question, 8192, u64::MAX);
-        let plan = by_plan(data, question, 8192, u64::MAX);
-        match (loops, plan) {
-            (Ok(loops), Ok(plan)) => {
-                if loops.words != plan.words || loops.length > loops.greatest {
-                    self.fault(index, "loops and plan differ");
-                }
-                *self.lengths.entry(class_of(loops.length)).or_default() += 1;
-                self.set_shorter += u64::from(loops.length < loops.greatest);
-                self.offered = self.offered.max(plan.offered);
-            }
-            (loops, plan) => {
-                for (way, answer) in [("loops", loops), ("plan", plan)] {
-                    if let Err(unknown) = answer {
-                        self.give_up(index, way, unknown);
-                    }
-                }
-            }
+        let loops = by_loops(data, question, SCRATCH, u64::MAX)?;
+        let plan = by_plan(data, question, SCRATCH, u64::MAX)?;
+        if loops.words != plan.words || loops.length > loops.greatest {
+            self.fault(place, input, "loops and plan differ");
         }
+        *self.lengths.entry(class_of(loops.length)).or_default() += 1;
+        self.set_shorter += u64::from(loops.length < loops.greatest);
+        self.offered = self.offered.max(plan.offered);
+        Ok(())
     }
 
-    fn give_up(&mut self, index: u64, way: &'static str, unknown: Unknown) {
-        *self.unknown.entry((way, unknown.0)).or_default() += 1;
-        if unknown.is_fault() {
-            self.fault(index, way);
-        }
-    }
-
-    fn fault(&mut self, index: u64, what: &str) {
-        println!("input {index}: {what}");
-        self.faults += 1;
+    fn fault(&mut self, place: Place, input: &Input, what: &str) {
+        self.tally.input_differs(place, input, what);
     }
 
     fn print(&self) {
-        println!("number: inputs");
-        for (number, count) in &self.numbers {
-            println!("  {number}: {count}");
-        }
         println!("family: number x inputs");
         for (family, numbers) in &self.families {
             let counts: Vec<String> = numbers
@@ -119,11 +108,9 @@ impl Histogram {
                 .collect();
             println!("  {family:?}: {}", counts.join(", "));
         }
-        println!("unknown: {:?}", self.unknown);
         println!("answer lengths: {:?}", self.lengths);
         println!("answers shorter than G: {}", self.set_shorter);
         println!("most rows offered: {}", self.offered);
-        println!("faults: {}", self.faults);
     }
 }
 

@@ -8,8 +8,8 @@ use super::lent::SCRATCH;
 /// Words of an answer that is compared: ordering longer ones may take the engine seconds.
 pub const MOST_WORDS: usize = 8_300;
 
-/// Refusals of every call; each other number that it may give is its own `too_short`.
-const NUMBERS: [u64; 13] = [0, 11, 12, 13, 21, 22, 23, 24, 25, 26, 27, 28, 31];
+/// The numbers that data and question decide; a call may also give 31 and its own `too_short`.
+pub const NUMBERS: [u64; 12] = [0, 11, 12, 13, 21, 22, 23, 24, 25, 26, 27, 28];
 
 /// What a call should do with scratch enough and the longest buffer.
 pub struct Reply<T> {
@@ -35,7 +35,8 @@ pub struct Call<T> {
 impl<T> Call<T> {
     /// The numbers that the call may give.
     pub fn numbers(&self) -> Vec<u64> {
-        NUMBERS.into_iter().chain(self.too_short).collect()
+        let lent = [31].into_iter().chain(self.too_short);
+        NUMBERS.into_iter().chain(lent).collect()
     }
 }
 

@@ -55,7 +55,11 @@ pub fn from_arguments() -> Result<(Vec<Recorded>, Vec<String>), String> {
     let text = std::fs::read_to_string(&path).map_err(|error| format!("{path}: {error}"))?;
     let lines = text.lines().filter(|line| !line.trim().is_empty());
     let vectors = lines.map(|line| Recorded::of_line(line).ok_or(format!("no vector: {line}")));
-    Ok((vectors.collect::<Result<_, String>>()?, arguments.collect()))
+    let vectors: Vec<Recorded> = vectors.collect::<Result<_, String>>()?;
+    if vectors.is_empty() {
+        return Err(format!("{path}: no vectors"));
+    }
+    Ok((vectors, arguments.collect()))
 }
 
 impl Recorded {

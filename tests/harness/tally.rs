@@ -1,6 +1,9 @@
-//! What a run over many inputs counts and prints.
+//! What a run over many inputs counts and prints, and whether it ended well: one that compared
+//! nothing, or never came to an outcome that there is, has shown nothing.
 
 use std::collections::BTreeMap;
+use std::fmt::Debug;
+use std::process::ExitCode;
 use std::time::Duration;
 
 use super::generate::Input;
@@ -8,16 +11,20 @@ use super::generate::Input;
 /// Inputs that are written out where they differ; further ones are counted.
 const MOST_SHOWN: u64 = 10;
 
+/// Of so many inputs at most one may be skipped.
+const SKIPPED_OF: u64 = 100;
+
 /// An input by its seed and index.
 pub type Place = (u64, u64);
 
+/// Outcomes are numbers, or what a program prints for them.
 #[derive(Default)]
-pub struct Tally {
+pub struct Tally<Outcome = u64> {
     name: &'static str,
-    /// The numbers that may be given.
-    known: Vec<u64>,
-    /// How often each number was given.
-    numbers: BTreeMap<u64, u64>,
+    /// The outcomes that there are.
+    known: Vec<Outcome>,
+    /// How often each outcome was given.
+    given: BTreeMap<Outcome, u64>,
     /// Inputs that were not compared, by the reason.
     skipped: BTreeMap<&'static str, u64>,
     /// The longest call and its input.
@@ -27,8 +34,8 @@ pub struct Tally {
     pub differences: u64,
 }
 
-impl Tally {
-    pub fn new(name: &'static str, known: Vec<u64>) -> Tally {
+impl<Outcome: Debug + Default + Ord> Tally<Outcome> {
+    pub fn new(name: &'static str, known: Vec<Outcome>) -> Tally<Outcome> {
         Tally {
             name,
             known,
@@ -36,8 +43,12 @@ impl Tally {
         }
     }
 
-    pub fn called(&mut self, number: u64, taken: Duration, place: Place) {
-        *self.numbers.entry(number).or_default() += 1;
+    pub fn gave(&mut self, outcome: Outcome) {
+        *self.given.entry(outcome).or_default() += 1;
+    }
+
+    pub fn called(&mut self, outcome: Outcome, taken: Duration, place: Place) {
+        self.gave(outcome);
         self.slowest = self.slowest.max((taken, place));
     }
 
@@ -45,26 +56,27 @@ impl Tally {
         *self.skipped.entry(reason).or_default() += 1;
     }
 
-    /// Counts a difference and writes its input out, in one piece.
-    pub fn differs(&mut self, (seed, index): Place, input: &Input, what: &str) {
+    /// Counts a difference and writes it out, in one piece.
+    pub fn differs(&mut self, lines: &[&str]) {
         self.differences += 1;
         if self.differences <= MOST_SHOWN {
-            let lines = [
-                format!(
-                    "{}: input {index} of seed {seed} ({:?})",
-                    self.name, input.family
-                ),
-                what.to_string(),
-                format!("data {}", hex(&input.data)),
-                format!("question {}", hex(&input.question)),
-            ];
-            println!("{}", lines.join("\n  "));
+            println!("{}: {}", self.name, lines.join("\n  "));
         }
     }
 
-    pub fn merge(&mut self, other: Tally) {
-        for (number, calls) in other.numbers {
-            *self.numbers.entry(number).or_default() += calls;
+    /// The same for a made input.
+    pub fn input_differs(&mut self, (seed, index): Place, input: &Input, what: &str) {
+        self.differs(&[
+            &format!("input {index} of seed {seed} ({:?})", input.family),
+            what,
+            &format!("data {}", hex(&input.data)),
+            &format!("question {}", hex(&input.question)),
+        ]);
+    }
+
+    pub fn merge(&mut self, other: Tally<Outcome>) {
+        for (outcome, calls) in other.given {
+            *self.given.entry(outcome).or_default() += calls;
         }
         for (reason, inputs) in other.skipped {
             *self.skipped.entry(reason).or_default() += inputs;
@@ -74,25 +86,64 @@ impl Tally {
         self.differences += other.differences;
     }
 
-    /// Numbers that may be given and never were.
-    pub fn never_given(&self) -> Vec<u64> {
-        let never = |number: &&u64| !self.numbers.contains_key(number);
-        self.known.iter().filter(never).copied().collect()
-    }
-
-    pub fn print(&self) {
-        println!("  calls by number: {:?}", self.numbers);
-        println!("  never given: {:?}", self.never_given());
+    /// What was counted, and whether the run ended well; where it did not, why.
+    fn ended_well(&self) -> bool {
+        println!("  outcomes: {:?}", self.given);
         println!("  skipped: {:?}", self.skipped);
         let (longest, (seed, index)) = self.slowest;
-        println!(
-            "  longest call: {} us, input {index} of seed {seed}",
-            longest.as_micros()
-        );
+        if !longest.is_zero() {
+            println!(
+                "  longest call: {} us, input {index} of seed {seed}",
+                longest.as_micros()
+            );
+        }
         println!(
             "{}: {} inputs, {} differences",
             self.name, self.inputs, self.differences
         );
+        let faults = self.faults();
+        for fault in &faults {
+            println!("{}: FAILED, {fault}", self.name);
+        }
+        faults.is_empty()
+    }
+
+    fn faults(&self) -> Vec<String> {
+        let mut faults = Vec::new();
+        let skipped: u64 = self.skipped.values().sum();
+        if self.differences > 0 {
+            faults.push("something differs".to_string());
+        }
+        if self.inputs <= skipped {
+            faults.push("nothing was compared".to_string());
+        }
+        if skipped * SKIPPED_OF > self.inputs {
+            faults.push(format!("more than one input in {SKIPPED_OF} was skipped"));
+        }
+        let missing = |outcome: &&Outcome| !self.given.contains_key(outcome);
+        let never_given: Vec<_> = self.known.iter().filter(missing).collect();
+        if !never_given.is_empty() {
+            faults.push(format!("never given: {never_given:?}"));
+        }
+        let other = |outcome: &&Outcome| !self.known.contains(outcome);
+        let unheard_of: Vec<_> = self.given.keys().filter(other).collect();
+        if !unheard_of.is_empty() {
+            faults.push(format!("no outcome that there is: {unheard_of:?}"));
+        }
+        faults
+    }
+}
+
+/// Prints all tallies; success where each ended well.
+pub fn exit_code<'a, Outcome>(tallies: impl IntoIterator<Item = &'a Tally<Outcome>>) -> ExitCode
+where
+    Outcome: Debug + Default + Ord + 'a,
+{
+    let ends: Vec<bool> = tallies.into_iter().map(Tally::ended_well).collect();
+    if ends.into_iter().all(|well| well) {
+        ExitCode::SUCCESS
+    } else {
+        ExitCode::FAILURE
     }
 }
 

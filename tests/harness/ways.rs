@@ -37,7 +37,7 @@ impl Held for Ways {
             return self.tally.skip("too many rows may be offered");
         }
         if let Err(what) = self.lengths(place, input) {
-            self.tally.differs(place, input, &what);
+            self.tally.input_differs(place, input, &what);
         }
     }
 
