@@ -12,11 +12,12 @@ sys.dont_write_bytecode = True
 
 import edges  # noqa: E402
 import source_000  # noqa: E402
+import source_001  # noqa: E402
 import source_002  # noqa: E402
 import source_003  # noqa: E402
 import source_004  # noqa: E402
 
-SOURCES = [source_000, source_002, source_003, source_004, edges]
+SOURCES = [source_000, source_001, source_002, source_003, source_004, edges]
 
 OPENING = '''# Example queries
 
@@ -49,6 +50,10 @@ plan's lines with `\\n` for byte 10; `-` where there is nothing.
 
 def code(text):
     return '`%s`' % text.replace('|', '\\|') if text else ''
+
+
+def asked(text):
+    return code(text if len(text) <= 1000 else '%s .. %s' % (text[:20], text[-20:]))
 
 
 def row(cells):
@@ -95,7 +100,7 @@ def document():
         for case in source.CASES:
             where = case.place.replace('*', '\\*')
             names = ', '.join(table.name for table in case.tables)
-            text += row([case.name, where, code(case.paper), names, code(case.ask), gives(case)])
+            text += row([case.name, where, code(case.paper), names, asked(case.ask), gives(case)])
         if source.LEFT_OUT:
             text += '\nNot recast:\n\n' + heading(['Where', 'Query', 'Why'])
             for where, query, why in source.LEFT_OUT:

@@ -4,12 +4,14 @@ from notation import packed, question, words
 
 class Case:
     def __init__(self, name, place, paper, tables, ask, plan='', gives=None, G=None,
-                 plain=None, refused=0, scratch=8192, says=''):
+                 plain=None, refused=0, scratch=8192, cut=0, behind=0, says=''):
         """`plan` has the lines behind "one"; `gives` are the answer's words by hand, `G` where it
-        is not their count; `plain` is the same query in plain Python, a second reckoning."""
+        is not their count; `plain` is the same query in plain Python, a second reckoning; `cut`
+        bytes of the data are left off at its end, `behind` bytes 0 follow the question."""
         self.name, self.place, self.paper, self.says = name, place, ' '.join(paper.split()), says
         self.tables, self.ask = tables, ' '.join(ask.split())
         self.number, self.scratch, self.gives, self.plain = refused, scratch, gives, plain
+        self.cut, self.behind = cut, behind
         self.G = G if G is not None or gives is None else len(gives)
         self.plan = ''.join(line.strip() + '\n' for line in ['one', *plan.strip().split('\n')])
 
@@ -22,9 +24,10 @@ class Case:
     def line(self):
         """Name, scratch words, data, question, number, G, answer words, plan; `-` for nothing."""
         answered = self.number == 0
+        data = packed(self.tables)
         fields = [
-            self.name, str(self.scratch), packed(self.tables).hex() or '-',
-            question(self.ask, self.tables).hex(), str(self.number),
+            self.name, str(self.scratch), data[:len(data) - self.cut].hex() or '-',
+            (question(self.ask, self.tables) + bytes(self.behind)).hex(), str(self.number),
             str(self.G) if answered else '-',
             ' '.join(str(word) for word in self.gives) if answered else '-',
             self.plan.replace('\n', '\\n') if answered else '-',

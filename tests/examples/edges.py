@@ -1,8 +1,9 @@
-"""Document 01: "At the edges", the starred cases and the others, and the slips that it names."""
+"""Document 01: "At the edges", the starred cases and the others; a case of each other refusal that
+data and question can have; and the slips that it names."""
 from case import Case
 from notation import Table, bagof, listof, most, setof
 
-TITLE = 'Document 01, "At the edges" and "Slips the fitter\'s drill has met"'
+TITLE = 'Document 01, "At the edges", "When the engine declines" and "Slips the fitter\'s drill has met"'
 
 BERTHS = Table('Berths', 'bag', 'number length', (1, 90), (2, 70))
 BOLLARDS = Table('Bollards', 'bag', 'berth tonnes', (1, 50), (1, 60))
@@ -52,6 +53,15 @@ def doublings(count):
 
 def doubled(count):
     return '1' if count == 0 else '(+ %s %s)' % (doubled(count - 1), doubled(count - 1))
+
+
+def ones(count):
+    """A sum of ones, the first of them on level `count` + 1."""
+    return 'sum{ %s }' % ' + '.join(['1'] * count)
+
+
+def added(count):
+    return '1' if count == 1 else '(+ %s 1)' % added(count - 1)
 
 
 STARRED = [
@@ -112,6 +122,21 @@ OTHERS = [
          asked('bag', BERTHS, BOLLARDS), refused=31, scratch=8191),
 ]
 
+DECLINED = [
+    Case('01-cut-short', 'declines', '11: a record cut short', [BERTHS], 'sum{ 7 }', refused=11, cut=1,
+         says='The last byte of the data is left off.'),
+    Case('01-ninth-record', 'declines', '13: a ninth record', [EMPTY] * 9, 'sum{ 7 }', refused=13),
+    Case('01-too-long', 'declines', '21: over 4,096 bytes', [], ones(342), refused=21, says='4,105 bytes.'),
+    Case('01-left-over', 'declines', '22: bytes left over', [], 'sum{ 7 }', refused=22, behind=1,
+         says='A byte 0 follows the question.'),
+    Case('01-32-levels', 'declines', '23: a 33rd level', [], ones(31),
+         'join unit true\nreduce sum %s true' % added(31), [31], plain=lambda: 31,
+         says='The first 1 is on level 32.'),
+    Case('01-33-levels', 'declines', '23: a 33rd level', [], ones(32), refused=23),
+    Case('01-out-of-scope', 'declines', '24: a name out of scope', [], 'sum{ x }', refused=24),
+    Case('01-truth-in-a-sum', 'declines', '25: a type that does not fit', [], 'sum{ true }', refused=25),
+]
+
 SLIPS = [
     Case('01-slip-grouping', 'slip', 'Grouping by equal cells, which melts repeated berths', [TWICE, BOLLARDS],
          '''sum{ r.1 | r <- bag{ (b.number, sum{ l.tonnes | l <- Bollards, l.berth = b.number })
@@ -170,6 +195,6 @@ SLIPS = [
                               for x in L for c in [sum(y.n for y in L if y.n < x.n)])),
 ]
 
-CASES = STARRED + OTHERS + SLIPS
+CASES = STARRED + OTHERS + DECLINED + SLIPS
 
 LEFT_OUT = []

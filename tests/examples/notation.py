@@ -8,7 +8,8 @@
 
 Kinds 1 to 18 are all there is, so the other comparisons are short for these: a > b is b < a,
 a <= b is not b < a, a >= b is not a < b, a != b is not a = b. A column's name stands for its
-index. Names are numbered from 0 in the order of their qualifiers in the bytes.
+index. Names are numbered from 0 in the order of their qualifiers in the bytes; a name that is
+neither bound nor a table's is name 255, which is out of scope.
 """
 import re
 from collections import namedtuple
@@ -186,6 +187,8 @@ class Writer:
             return record(2, bytes([tree[1]]))
         if sort == 'name' and tree[1] in scope:
             return record(3, unsigned16(self.numbers[tree[1]]))
+        if sort == 'name' and not any(table.name == tree[1] for table in self.tables):
+            return record(3, unsigned16(255))
         if sort == 'name':
             return record(15, bytes([self.table(tree[1])]))
         if sort == 'field':
