@@ -104,13 +104,13 @@ class Engine {
 
     explicit Engine(Call answer_by) : answer_by(answer_by) {}
 
-    // The engine's number; its words where that is 0.
+    // The engine's words, and its number: buffers of one vector each never overlap.
     std::uint64_t run(const Input &input, Words &words) {
         const dislogha::Result result = answer_by(
             {input.data.data(), input.data.size()}, {input.question.data(), input.question.size()},
             {scratch.data(), scratch.size()}, {answer.data(), answer.size()});
         words.assign(answer.data(), answer.data() + result.length);
-        return static_cast<std::uint64_t>(result.number);
+        return static_cast<std::uint64_t>(result.refusal);
     }
 
   private:

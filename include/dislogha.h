@@ -6,7 +6,7 @@
 //
 // What the engine promises holds for buffers that do not overlap. A wrapper tests that first:
 // where a span that is written shares a byte with another one, it makes no call, changes nothing
-// and gives `buffers_overlap`. Data and question are only read, and may overlap each other.
+// and says so by an outcome of its own. Data and question are only read, and may overlap each other.
 #ifndef DISLOGHA_H
 #define DISLOGHA_H
 
@@ -47,13 +47,17 @@ namespace dislogha {
 // Words of scratch that a call asks for. They are 0 after every call that has them.
 constexpr std::size_t scratch_words = 8192;
 
-enum class Number : std::uint64_t {
-    // An answer is 0 and its length (0 from the checker).
-    answered = 0,
+enum class Outcome : std::uint8_t {
+    // The call's number is 0.
+    answered,
+    // The call's number is one of `Refusal`.
+    refused,
+    // No call was made: a span that is written overlaps another one.
+    overlapping,
+};
 
-    // From the wrappers alone, before a call: a span that is written overlaps another one.
-    buffers_overlap = 1,
-
+// Document 01's numbers.
+enum class Refusal : std::uint64_t {
     // Whoever packs the data can cause:
     // A record cut short or not kind 20.
     not_a_table = 11,
@@ -93,7 +97,10 @@ enum class Number : std::uint64_t {
 };
 
 struct Result {
-    Number number;
+    Outcome outcome;
+    // The number, where the call refused; else 0, which is no refusal.
+    Refusal refusal;
+    // How much was written, where the call answered (0 from the checker); else 0.
     std::uint64_t length;
 };
 
@@ -132,14 +139,17 @@ bool overlaps(Span<T> written, Span<Others>... others) noexcept {
     return (overlap(written, others) || ...);
 }
 
+constexpr Result overlapping{Outcome::overlapping, Refusal{}, 0};
+
 inline Result result_of(dislogha_result result) noexcept {
-    return {static_cast<Number>(result.number), result.length};
+    return {result.number == 0 ? Outcome::answered : Outcome::refused,
+            static_cast<Refusal>(result.number), result.length};
 }
 
 // The checker: `answered` and length 0 where the question is accepted over the tables.
 inline Result check(Bytes data, Bytes question, Words scratch) noexcept {
     if (overlaps(scratch, data, question)) {
-        return {Number::buffers_overlap, 0};
+        return overlapping;
     }
     return result_of(dislogha_check(data.first(), data.count(), question.first(), question.count(),
                                     scratch.first(), scratch.count()));
@@ -149,7 +159,7 @@ inline Result check(Bytes data, Bytes question, Words scratch) noexcept {
 template <class Call, class T>
 Result call_with(Call call, Bytes data, Bytes question, Words scratch, Span<T> buffer) noexcept {
     if (overlaps(scratch, data, question, buffer) || overlaps(buffer, data, question)) {
-        return {Number::buffers_overlap, 0};
+        return overlapping;
     }
     return result_of(call(data.first(), data.count(), question.first(), question.count(),
                           scratch.first(), scratch.count(), buffer.first(), buffer.count()));

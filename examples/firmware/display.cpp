@@ -15,40 +15,36 @@ void show(const char *label, std::int64_t first, std::int64_t second) noexcept {
     show(labelled > width || whole > width ? "too wide to show" : line);
 }
 
-const char *words_of(dislogha::Number number) noexcept {
-    using dislogha::Number;
-    switch (number) {
-    case Number::answered:
-        return "answered";
-    case Number::buffers_overlap:
-        return "buffers overlap";
-    case Number::not_a_table:
+const char *words_of(dislogha::Refusal refusal) noexcept {
+    using dislogha::Refusal;
+    switch (refusal) {
+    case Refusal::not_a_table:
         return "table cut or unknown";
-    case Number::table_out_of_range:
+    case Refusal::table_out_of_range:
         return "table out of range";
-    case Number::too_many_tables:
+    case Refusal::too_many_tables:
         return "over 8 tables";
-    case Number::question_too_long:
+    case Refusal::question_too_long:
         return "over 4096 bytes";
-    case Number::broken_record:
+    case Refusal::broken_record:
         return "question damaged";
-    case Number::too_deep_or_too_many_records:
+    case Refusal::too_deep_or_too_many_records:
         return "too deep or too many";
-    case Number::name_does_not_hold:
+    case Refusal::name_does_not_hold:
         return "name unknown / twice";
-    case Number::type_does_not_fit:
+    case Refusal::type_does_not_fit:
         return "wrong type or table";
-    case Number::generator_not_allowed:
+    case Refusal::generator_not_allowed:
         return "generator not here";
-    case Number::normal_form_too_large:
+    case Refusal::normal_form_too_large:
         return "question too large";
-    case Number::number_out_of_bounds:
+    case Refusal::number_out_of_bounds:
         return "number too large";
-    case Number::scratch_too_short:
+    case Refusal::scratch_too_short:
         return "scratch too short";
-    case Number::answer_too_short:
+    case Refusal::answer_too_short:
         return "answer too long";
-    case Number::lines_too_short:
+    case Refusal::lines_too_short:
         return "plan too long";
     }
     return "unknown refusal";

@@ -18,7 +18,7 @@ void show(const char *text) noexcept;
 void show(const char *label, std::int64_t first, std::int64_t second) noexcept;
 
 // A refusal in words.
-const char *words_of(dislogha::Number number) noexcept;
+const char *words_of(dislogha::Refusal refusal) noexcept;
 
 } // namespace display
 

@@ -13,7 +13,7 @@ namespace {
 
 using dislogha::Answer;
 using dislogha::Bytes;
-using dislogha::Number;
+using dislogha::Outcome;
 using dislogha::Result;
 
 std::uint64_t scratch[dislogha::scratch_words];
@@ -21,9 +21,10 @@ std::int64_t by_loops[16];
 std::int64_t by_plan[16];
 char printed[256];
 
-// Whether both ways gave the same number, length and words, the words behind the answer included.
+// Whether both ways gave the same outcome, length and words, the words behind the answer included.
 bool same(Result loops, Result plan) noexcept {
-    return loops.number == plan.number && loops.length == plan.length &&
+    return loops.outcome == plan.outcome && loops.refusal == plan.refusal &&
+           loops.length == plan.length &&
            std::equal(std::begin(by_loops), std::end(by_loops), std::begin(by_plan));
 }
 
@@ -45,12 +46,18 @@ bool ask(Bytes data, Bytes question, std::size_t words) noexcept {
         display::show("answers differ");
         return false;
     }
-    if (plan.number == Number::answered) {
+    switch (plan.outcome) {
+    case Outcome::answered:
         show_berths(by_plan);
-    } else {
-        display::show(display::words_of(plan.number));
+        return true;
+    case Outcome::refused:
+        display::show(display::words_of(plan.refusal));
+        return true;
+    case Outcome::overlapping:
+        display::show("buffers overlap");
+        return true;
     }
-    return true;
+    return false;
 }
 
 } // namespace

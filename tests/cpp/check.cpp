@@ -17,7 +17,8 @@ namespace {
 
 using dislogha::Answer;
 using dislogha::Bytes;
-using dislogha::Number;
+using dislogha::Outcome;
+using dislogha::Refusal;
 using dislogha::Result;
 using dislogha::Words;
 
@@ -38,9 +39,17 @@ void expect(bool holds, const char *what) {
     }
 }
 
-bool is(Result result, Number number, std::uint64_t length) {
-    return result.number == number && result.length == length;
+bool is(Result result, Outcome outcome, Refusal refusal, std::uint64_t length) {
+    return result.outcome == outcome && result.refusal == refusal && result.length == length;
 }
+
+bool answers(Result result, std::uint64_t length) {
+    return is(result, Outcome::answered, Refusal{}, length);
+}
+
+bool refuses(Result result, Refusal refusal) { return is(result, Outcome::refused, refusal, 0); }
+
+bool overlaps(Result result) { return is(result, Outcome::overlapping, Refusal{}, 0); }
 
 // The first 8,192 words are 0 and the later ones as they were.
 bool cleared(const std::vector<std::uint64_t> &scratch) {
@@ -52,22 +61,22 @@ bool cleared(const std::vector<std::uint64_t> &scratch) {
 void check_listing() {
     std::vector<std::uint64_t> scratch(dislogha::scratch_words + 3, rubbish);
     const auto accepted = dislogha::check(bytes(tables), bytes(question), words(scratch));
-    expect(is(accepted, Number::answered, 0), "the listing is accepted");
+    expect(answers(accepted, 0), "the listing is accepted");
     expect(cleared(scratch), "scratch is cleared and nothing behind it changed");
 
     // Without its tables the question names what is not there.
     const auto refused = dislogha::check(Bytes(), bytes(question), words(scratch));
-    expect(is(refused, Number::type_does_not_fit, 0), "a table that is not lent is refused");
+    expect(refuses(refused, Refusal::type_does_not_fit), "a table that is not lent is refused");
 }
 
 void check_scratch() {
     std::vector<std::uint64_t> scratch(dislogha::scratch_words - 1, rubbish);
     const auto before = scratch;
     const auto refused = dislogha::check(bytes(tables), bytes(question), words(scratch));
-    expect(is(refused, Number::scratch_too_short, 0), "8,191 words are too few");
+    expect(refuses(refused, Refusal::scratch_too_short), "8,191 words are too few");
     expect(scratch == before, "scratch that is too short stays untouched");
     const auto none = dislogha::check(Bytes(), Bytes(), Words());
-    expect(is(none, Number::scratch_too_short, 0), "nothing at all may be lent");
+    expect(refuses(none, Refusal::scratch_too_short), "nothing at all may be lent");
 }
 
 using AnswerCall = Result (*)(Bytes, Bytes, Words, Answer) noexcept;
@@ -80,12 +89,12 @@ void answer_listing(AnswerCall answer_by) {
         return answer_by(bytes(tables), bytes(question), words(scratch), lent);
     };
     const auto answered = answer_in(Answer(answer.data(), answer.size()));
-    expect(is(answered, Number::answered, 5), "the listing has five words");
+    expect(answers(answered, 5), "the listing has five words");
     expect(answer == std::vector<std::int64_t>{2, 1, 110, 2, 0, -7}, "the listing's words");
     expect(cleared(scratch), "scratch is cleared after an answer");
 
     const auto refused = answer_in(Answer(answer.data(), 4));
-    expect(is(refused, Number::answer_too_short, 0), "four words are too few");
+    expect(refuses(refused, Refusal::answer_too_short), "four words are too few");
 }
 
 void print_listing() {
@@ -100,9 +109,9 @@ void print_listing() {
         const auto lent = dislogha::Text(lines.data(), count);
         return dislogha::plan_lines(bytes(tables), bytes(question), words(scratch), lent);
     };
-    expect(is(lines_in(plan.size()), Number::answered, plan.size()), "the plan is written");
+    expect(answers(lines_in(plan.size()), plan.size()), "the plan is written");
     expect(std::string(lines.begin(), lines.end()) == plan, "the plan's lines");
-    expect(is(lines_in(plan.size() - 1), Number::lines_too_short, 0), "a byte less is too few");
+    expect(refuses(lines_in(plan.size() - 1), Refusal::lines_too_short), "a byte less is too few");
 }
 
 // Data, question, scratch and answer side by side in one block of words. Buffers that touch are
@@ -122,29 +131,29 @@ void answer_side_by_side(AnswerCall answer_by) {
                          Words(&block[scratch], dislogha::scratch_words),
                          Answer(reinterpret_cast<std::int64_t *>(&block[answer]), 5));
     };
-    const auto refused = [&](std::size_t scratch, std::size_t answer, const char *what) {
-        expect(is(answered(scratch, answer), Number::buffers_overlap, 0) && block == before, what);
+    const auto not_made = [&](std::size_t scratch, std::size_t answer, const char *what) {
+        expect(overlaps(answered(scratch, answer)) && block == before, what);
     };
-    refused(scratch_at, answer_at - 1, "an answer that begins in scratch is not written");
-    refused(scratch_at, question_at + 1, "an answer inside the question is not written");
-    refused(scratch_at, 0, "an answer inside the data is not written");
-    refused(scratch_at - 1, answer_at, "scratch that begins in the question is not written");
-    refused(question_at - 1, answer_at, "scratch that begins in the data is not written");
-    expect(is(answered(scratch_at, answer_at), Number::answered, 5), "buffers may touch");
+    not_made(scratch_at, answer_at - 1, "an answer that begins in scratch is not written");
+    not_made(scratch_at, question_at + 1, "an answer inside the question is not written");
+    not_made(scratch_at, 0, "an answer inside the data is not written");
+    not_made(scratch_at - 1, answer_at, "scratch that begins in the question is not written");
+    not_made(question_at - 1, answer_at, "scratch that begins in the data is not written");
+    expect(answers(answered(scratch_at, answer_at), 5), "buffers may touch");
 }
 
 void check_overlap() {
     std::vector<std::uint64_t> scratch(dislogha::scratch_words, rubbish);
     const auto before = scratch;
     const auto last = reinterpret_cast<std::uint8_t *>(scratch.data() + scratch.size()) - 1;
-    const auto refused = dislogha::check(bytes(tables), Bytes(last, 1), words(scratch));
-    expect(is(refused, Number::buffers_overlap, 0), "a question inside scratch is not called with");
+    const auto not_made = dislogha::check(bytes(tables), Bytes(last, 1), words(scratch));
+    expect(overlaps(not_made), "a question inside scratch is not called with");
     const auto not_written = dislogha::plan_lines(bytes(tables), bytes(question), words(scratch),
                                                   dislogha::Text(last, 1));
-    expect(is(not_written, Number::buffers_overlap, 0), "lines inside scratch are not written");
+    expect(overlaps(not_written), "lines inside scratch are not written");
     expect(scratch == before, "nothing is changed where no call is made");
     const auto same = dislogha::check(bytes(question), bytes(question), words(scratch));
-    expect(is(same, Number::not_a_table, 0), "data and question may be the same bytes");
+    expect(refuses(same, Refusal::not_a_table), "data and question may be the same bytes");
 }
 
 } // namespace
