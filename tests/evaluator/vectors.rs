@@ -19,7 +19,9 @@ fn main() -> ExitCode {
 }
 
 fn compare_all(vectors: &[Recorded]) -> ExitCode {
-    let mut tally = Tally::new("vectors", NUMBERS.to_vec());
+    // No recorded question is over 4,096 bytes.
+    let recorded = NUMBERS.into_iter().filter(|number| *number != 21);
+    let mut tally = Tally::new("vectors", recorded.collect());
     for vector in vectors {
         tally.inputs += 1;
         tally.gave(u64::from(vector.check));
