@@ -139,7 +139,7 @@ bool overlaps(Span<T> written, Span<Others>... others) noexcept {
     return (overlap(written, others) || ...);
 }
 
-constexpr Result overlapping{Outcome::overlapping, Refusal{}, 0};
+inline constexpr Result overlapping{Outcome::overlapping, Refusal{}, 0};
 
 inline Result result_of(dislogha_result result) noexcept {
     return {result.number == 0 ? Outcome::answered : Outcome::refused,
