@@ -275,11 +275,11 @@ REWRITTEN = [
 CASES = CALCULUS + ALGEBRA + REWRITTEN
 
 LEFT_OUT = [
-    ('Examples 3.1 and 4.3', 'the atoms p == q, p ∈ <q, r>.mlist, a = p and the others',
+    ('Examples 3.1 and 4.3', 'the atoms p == q, p ∈ ⟨q, r⟩.mlist, a = p and the others',
      'They are parts of queries. Where a query above has one, identity is equality of identifiers.'),
-    ('Example 3.4, 2', '{ o | Number(o) ∧ ∃p("65" = p ∧ "True" = <o, p>.greater) }',
+    ('Example 3.4, 2', '{ o | Number(o) ∧ ∃p("65" = p ∧ "True" = ⟨o, p⟩.greater) }',
      'It is the paper\'s example of an unsafe query: no table has every number.'),
-    ('Example 3.4, 3', '{ o | (%x2 .. %xn)(C(x1) ∧ x2 == <x1>.mlist1 ∧ ..) }',
+    ('Example 3.4, 3', '{ o | (%x2 .. %xn)(C(x1) ∧ x2 == ⟨x1⟩.mlist1 ∧ ..) }',
      'It is a scheme of queries; 4.4 goes along such a path.'),
     ('Examples 5.1 to 5.4', 'conformance and most specific common types', 'They are about a type lattice, and 01 has none.'),
     ('Example 6.5', '(C1 ∪ C2 ∪ C3 ∪ C4) σ[F] ⟨⟩',
