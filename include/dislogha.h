@@ -6,7 +6,7 @@
 //
 // What the engine promises holds for buffers that do not overlap. A wrapper tests that first:
 // where a span that is written shares a byte with another one, it makes no call, changes nothing
-// and says so by an outcome of its own. Data and question are only read, and may overlap each other.
+// and gives `Outcome::overlapping`. Data and question are only read, and may overlap each other.
 #ifndef DISLOGHA_H
 #define DISLOGHA_H
 

@@ -31,7 +31,7 @@ pub struct Tally<Outcome = u64> {
     slowest: (Duration, Place),
     pub inputs: u64,
     /// Inputs at which something differs.
-    pub differences: u64,
+    differences: u64,
 }
 
 impl<Outcome: Debug + Default + Ord> Tally<Outcome> {
