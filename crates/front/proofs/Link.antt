@@ -26,9 +26,9 @@ use Rattle.decode.specs.Decode.{depthAt, nodesOf}
 use Rattle.decode.proofs.Binders.{Binding, each-bound}
 use Rattle.decode.proofs.Holds.{laid-holds}
 use Rattle.decode.proofs.Levels.{last-depth}
-use Rattle.types.specs.Words.{shaped, shapedUpTo, shapeOf, shapeWord, Judges}
-use Rattle.types.proofs.Laws.{shaped-length}
-use Rattle.types.proofs.Checked.{Checked}
+use Rattle.typing.specs.Words.{shaped, shapedUpTo, shapeOf, shapeWord, Judges}
+use Rattle.typing.proofs.Laws.{shaped-length}
+use Rattle.typing.proofs.Checked.{Checked}
 use Rattle.front.specs.Loaded.{Loaded, Ready, Apart}
 
 -- ---- words that stay

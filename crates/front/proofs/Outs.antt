@@ -20,8 +20,8 @@ use Rattle.reader.specs.declared.Read.the-variants as Answer
 use Rattle.scope.specs.Words.{Judged}
 use Rattle.scope.specs.Binders.{bindersOf}
 use Rattle.sizes.specs.Packing.{termCount}
-use Rattle.types.specs.Words.{Judges}
-use Rattle.types.proofs.Checked.{types-fit, generators-fit}
+use Rattle.typing.specs.Words.{Judges}
+use Rattle.typing.proofs.Checked.{types-fit, generators-fit}
 use Rattle.measure.specs.Kept.{Measures}
 use Rattle.front.specs.Loaded.{Loaded, Ready, Apart}
 use Rattle.front.specs.Front.{JudgedBy, FromSizes, FromTypes, FromNames, FrontBy, Fronted}

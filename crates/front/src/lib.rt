@@ -36,11 +36,11 @@ fn typed(s: &mut [u64], n: usize) -> Front
     requires { ⌜ n ≤ 256 ⌝ }
     ensures { λ r. ⌜ FromTypes (now (s .entry)) (now (s .exit)) n r ⌝ }
 {
-    let a = types::types_fit(s, n);
+    let a = typing::types_fit(s, n);
     if !a {
         return Front::Refused(25);
     }
-    let b = types::generators_fit(s, n);
+    let b = typing::generators_fit(s, n);
     if !b {
         return Front::Refused(26);
     }
