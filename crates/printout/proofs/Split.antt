@@ -11,7 +11,7 @@ use Rattle.encoding.specs.Record.{Bytes, lengthOf, behind}
 use Rattle.encoding.specs.Data.{isTable}
 use Rattle.tables.specs.declared.Header.{Header}
 use Rattle.tables.specs.declared.Header.the-variants.{Record, Bad}
-use Rattle.tables.specs.Reading.{headerOf}
+use Rattle.tables.specs.Reading.{headerGives, headerAt}
 use Rattle.tables.proofs.Records.{passes, whole}
 use Rattle.tables.proofs.Readers.{found, not-found}
 use Rattle.printout.specs.Split.{tableBytes, tablesEnd}
@@ -65,16 +65,16 @@ module _ (s : Bytes) (p : ℕ) (P : Past s p) where
   past-all h = ends (no-bytes (drop p s) (omega (arith, length-drop p s)))
 
   -- `&input[p..]`
-  module _ {h : Header} (e : h ≡ headerOf (take (length s - p) (drop p s))) where
-    at : headerOf (drop p s) ≡ h
-    at = ap headerOf (sym (take-all (length s - p) (drop p s) (omega (arith, length-drop p s)))) ∙ sym e
+  part : take (length s - p) (drop p s) ≡ drop p s
+  part = take-all (length s - p) (drop p s) (omega (arith, length-drop p s))
 
+  module _ {h : Header} (e : headerGives h ≡ headerAt (take (length s - p) (drop p s))) where
     pub past-bad : h ≡ Bad → (p ≡ tablesEnd s) × (p ≤ length s)
-    past-bad q = ends (not-found (drop p s) (at ∙ q))
+    past-bad q = ends (not-found (drop p s) (e ∙ ap headerAt part) q)
 
     module _ {n : ℕ} (q : h ≡ Record n) where
       here : (isTable (drop p s) ≡ true) × (lengthOf (drop p s) ≡ n)
-      here = found (drop p s) (at ∙ q)
+      here = found (drop p s) (e ∙ ap headerAt part) q
 
       pub record-room : p + (4 + n) ≤ length s
       record-room = omega (arith, P .within, whole (drop p s) (here .0) .within, here .1, length-drop p s)

@@ -15,11 +15,11 @@ use borrow.Author.Tests.{lt-ltb, le-ltb, eqb-true, eqb-false}
 use Rattle.calculus.specs.Lists.{pick}
 use Rattle.signed.proofs.Word.{up, mag-sub, no}
 use Rattle.signed.proofs.Word as Wo
-use Rattle.encoding.specs.Record.{Bytes, byte, two, four, signed, lengthOf, contentOf}
+use Rattle.encoding.specs.Record.{Bytes, refused, got, require, byte, two, four, signed, lengthOf, contentOf}
 use Rattle.encoding.specs.Data.{isTable, fits}
 use Rattle.encoding.proofs.Data.{Fit, fit}
 use Rattle.tables.specs.Description.{descriptionOf, columnsIn, rowsIn, positionIn, cellIn, CellOf}
-use Rattle.tables.specs.Reading.{headerOf, tableAt}
+use Rattle.tables.specs.Reading.{headerGives, headerAt, tableAt}
 use Rattle.tables.proofs.Records.{passes, Whole, whole, whole-is, fit-is}
 use Rattle.tables.specs.declared.Header.{Header}
 use Rattle.tables.specs.declared.Header.the-variants.{Record, Bad}
@@ -48,12 +48,12 @@ module _ {n : ℕ} (p : n < 2 ^ 32) where
     high = rw (toZ-ofZ high-ok, high-is) (rw (le-ltb n 2147483648 q, signed), omega arith)
 
 -- read_header
-pub header-bad : (s : Bytes) → (Whole s → ⊥) → Bad ≡ headerOf s
-unfolding headerOf pick
+pub header-bad : (s : Bytes) → (Whole s → ⊥) → headerGives Bad ≡ headerAt s
+unfolding headerGives headerAt require
 header-bad s h = rw (passes (isTable s) (whole s) h)
 
-pub header-good : (s : Bytes) {n : ℕ} → n ≡ lengthOf s → Whole s → Record n ≡ headerOf s
-unfolding headerOf pick
+pub header-good : (s : Bytes) {n : ℕ} → n ≡ lengthOf s → Whole s → headerGives (Record n) ≡ headerAt s
+unfolding headerGives headerAt require
 header-good s e w = rw (whole-is s w, e)
 
 -- well_formed
@@ -95,20 +95,20 @@ module _ {d : Bytes} {w r c : ℕ} where
           small = h .1;
         }
 
--- what a header that was found says of the bytes
-pub found : (l : Bytes) {n : ℕ} → headerOf l ≡ Record n → (isTable l ≡ true) × (lengthOf l ≡ n)
-unfolding headerOf pick
-found l {n} e = go (isTable l) e
+-- what a header's answer says of the bytes
+pub found : (l : Bytes) {h : Header} {n : ℕ} → headerGives h ≡ headerAt l → h ≡ Record n → (isTable l ≡ true) × (lengthOf l ≡ n)
+unfolding headerGives headerAt require
+found l {n = n} e q = go (isTable l) (sym e ∙ ap headerGives q)
   where
-    go : (t : Bool) → pick t (Record (lengthOf l)) Bad ≡ Record n → (t ≡ true) × (lengthOf l ≡ n)
+    go : (t : Bool) → require 11 t (got (lengthOf l)) ≡ got n → (t ≡ true) × (lengthOf l ≡ n)
     go true h = (refl, cc)
     go false h = no (cc)
 
-pub not-found : (l : Bytes) → headerOf l ≡ Bad → isTable l ≡ false
-unfolding headerOf pick
-not-found l e = go (isTable l) e
+pub not-found : (l : Bytes) {h : Header} → headerGives h ≡ headerAt l → h ≡ Bad → isTable l ≡ false
+unfolding headerGives headerAt require
+not-found l e q = go (isTable l) (sym e ∙ ap headerGives q)
   where
-    go : (t : Bool) → pick t (Record (lengthOf l)) Bad ≡ Bad → t ≡ false
+    go : (t : Bool) → require 11 t (got (lengthOf l)) ≡ refused 11 → t ≡ false
     go true h = no (cc)
     go false h = refl
 
@@ -117,20 +117,17 @@ not-found l e = go (isTable l) e
 part-from : (d : Bytes) (p : ℕ) → take (length d - p) (drop p d) ≡ drop p d
 part-from d p = take-all (length d - p) (drop p d) (rw length-drop (omega arith))
 
-module _ (d : Bytes) (p : ℕ) {h : Header} (e : h ≡ headerOf (take (length d - p) (drop p d))) where
-  at : headerOf (drop p d) ≡ h
-  at = sym (rw part-from at e)
-
+module _ (d : Bytes) (p : ℕ) {h : Header} (e : headerGives h ≡ headerAt (take (length d - p) (drop p d))) where
   pub table-bad : h ≡ Bad → Refused 11 ≡ tableAt d p
   unfolding tableAt pick
-  table-bad q = rw (not-found (drop p d) (at ∙ q))
+  table-bad q = rw (not-found (drop p d) (e ∙ ap headerAt (part-from d p)) q)
 
   module _ {n : ℕ} (q : h ≡ Record n) where
     good : isTable (drop p d) ≡ true
-    good = found (drop p d) (at ∙ q) .0
+    good = found (drop p d) (e ∙ ap headerAt (part-from d p)) q .0
 
     long : lengthOf (drop p d) ≡ n
-    long = found (drop p d) (at ∙ q) .1
+    long = found (drop p d) (e ∙ ap headerAt (part-from d p)) q .1
 
     pub table-within : p ≤ length d → p + 4 + n ≤ length d
     table-within l = omega (arith, whole (drop p d) good .within, long, length-drop p d)

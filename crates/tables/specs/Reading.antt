@@ -5,7 +5,7 @@ use Prim.Native.Nat.{ℕ, zero, suc, _+_, _≤_, _<_}
 use lib.ListN.{length, getD, drop}
 use Rattle.calculus.specs.Lists.{pick}
 use Rattle.calculus.specs.Value.{Tables}
-use Rattle.encoding.specs.Record.{Bytes, Result, refused, got, lengthOf, contentOf, behind}
+use Rattle.encoding.specs.Record.{Bytes, Result, refused, got, require, lengthOf, contentOf, behind}
 use Rattle.encoding.specs.Data.{isTable, fits, readData}
 use Rattle.tables.specs.Description.{descriptionOf}
 use Rattle.tables.specs.declared.Header.{Header}
@@ -13,8 +13,14 @@ use Rattle.tables.specs.declared.Header.the-variants.{Record, Bad}
 use Rattle.tables.specs.declared.TableRead.{TableRead}
 use Rattle.tables.specs.declared.TableRead.the-variants.{Is, Refused}
 
-unfoldable pub headerOf : Bytes → Header
-headerOf l = pick (isTable l) (Record (lengthOf l)) Bad
+-- 01's number and values for each case of a header's answer: "11: a record cut short or not kind 20", or the length of its content
+unfoldable pub headerGives : Header → Result ℕ
+headerGives (Record n) = got n
+headerGives Bad = refused 11
+
+-- what the header of a record must give
+unfoldable pub headerAt : Bytes → Result ℕ
+headerAt l = require 11 (isTable l) (got (lengthOf l))
 
 -- the record that begins at p: its description and the position behind it; "11 before 12"
 unfoldable pub tableAt : Bytes → ℕ → TableRead

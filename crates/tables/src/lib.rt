@@ -6,7 +6,7 @@ ghost use lib.IntN.{natAbs};
 ghost use Rattle.encoding.specs.Record.{four, signed};
 ghost use Rattle.encoding.specs.Data.{fits};
 ghost use Rattle.tables.specs.Description.{descriptionOf, collectionIn, columnsIn, rowsIn, CellOf};
-ghost use Rattle.tables.specs.Reading.{headerOf, tableAt, ReadsData};
+ghost use Rattle.tables.specs.Reading.{headerGives, headerAt, tableAt, ReadsData};
 
 // A whole record of kind 20 with the length of its content, or none.
 pub enum Header {
@@ -65,7 +65,7 @@ fn cells(columns: usize, rows: usize) -> usize
 
 // "a record cut short or not kind 20"
 pub fn read_header(s: &[u8]) -> Header
-    ensures { λ r. ⌜ r ≡ headerOf (now (s .entry)) ⌝ }
+    ensures { λ r. ⌜ headerGives r ≡ headerAt (now (s .entry)) ⌝ }
 {
     if s.len() < 4 {
         return Header::Bad;

@@ -1,4 +1,4 @@
--- `tables::read_header`: each way out is one of `headerOf`'s. Assumes nothing.
+-- `tables::read_header`: each way out gives what `headerAt` does. Assumes nothing.
 use native.Mathlib.Omega.{arith}
 use Rattle.tables.proofs.Readers.{header-bad, header-good}
 use borrow.Author.Needs.{needs}
