@@ -12,7 +12,8 @@ use Rattle.encoding.specs.Record.{Bytes, got}
 use Rattle.encoding.specs.Reader.{readQuestion}
 use Rattle.encoding.proofs.Data.{read-well-formed}
 use Rattle.normal_form.specs.Form.{asForm, value, normalValue}
-use Rattle.normal_form.proofs.Proper.{Ordered, normal-in-scope}
+use Rattle.normal_form.specs.NoRule.{Ordered}
+use Rattle.normal_form.proofs.Proper.{normal-in-scope}
 use Rattle.outcome.specs.Accepted.{Accepted}
 use Rattle.outcome.proofs.Checks.{Passed, judged}
 use Rattle.tables.specs.Reading.{Stored}

@@ -5,13 +5,14 @@ use Rattle.calculus.specs.Value.{nth, fieldOf, asInt, asBool, elems, eqZ
 use Rattle.calculus.specs.Order.{then, compareZ, compareV, leV, insert, put}
 use Rattle.calculus.specs.Monoid.{start, greater, step, foldBy, ordered, canonical}
 use Rattle.calculus.specs.Meaning.{eval, meaning}
-use Rattle.calculus.specs.Cases.{Case, answers, refuses, starred}
+use Rattle.calculus.specs.Cases.{Case, answers, prints, refuses, starred}
 use Rattle.calculus.proofs.Lists.{All}
 
 abbrev pub Meant : Case → Type 0
 Meant (answers T q v ws g) = meaning canonical T q ≡ v
+Meant (prints T q s) = Unit {0}
 Meant (refuses T q n) = Unit {0}
 
 pub starred-meant : All Meant starred
 unfolding bindL guard pick upd nth fieldOf asInt asBool elems eqZ binV count kindOf rowsOf then compareZ compareV leV insert put start greater step foldBy ordered canonical eval meaning
-starred-meant = (refl, (refl, (refl, (refl, (refl, (refl, (refl, (refl, (refl, (tt, (refl, tt)))))))))))
+starred-meant = (refl, (tt, (refl, (refl, (refl, (refl, (refl, (refl, (refl, (refl, (tt, (refl, tt))))))))))))

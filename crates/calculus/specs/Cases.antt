@@ -2,14 +2,16 @@
 use mathlib.Core.List.{List, [], _∷_}
 use mathlib.Core.Bool.{true, false}
 use Prim.Native.Nat.{ℕ}
+use Prim.Native.String.{String}
 use lib.IntN.{ℤ, pos, negsuc}
 use Rattle.calculus.specs.Syntax.{Collection, bag, set, Monoid, of, sum, max, all, equal, Term, num, truth, name, field, rec, bin, comp, table, tnil, tcons, qnil, gen, cond, Question}
 use Rattle.calculus.specs.Value.{Value, vnil, vcons, coll, Table, Tables}
 use Rattle.calculus.specs.Value as Va
 
--- a question over tables, and what it gives: its value, its written words and G; or the refusal's number
+-- a question over tables, and what it gives: its value, its written words and G; the lines of its plan; or the refusal's number
 pub data Case : Type 0 where
   answers : Tables → Question → Value → List ℤ → ℕ → Case
+  prints : Tables → Question → String → Case
   refuses : Tables → Question → ℕ → Case
 
 abbrev pub pair : ℕ → ℕ → Value
@@ -54,8 +56,9 @@ alone m h = record { monoid = m; quals = qnil; head = h }
 
 abbrev pub starred : List Case
 starred =
-    -- "The listing above"
+    -- "The listing above": its answer, and its plan's lines
     answers (harbour berths bollards) listing (coll (vcons (pair 1 110) (vcons (pair 2 0) vnil))) (pos 2 ∷ pos 1 ∷ pos 110 ∷ pos 2 ∷ pos 0 ∷ []) 5
+    ∷ prints (harbour berths bollards) listing "one\njoin 0 true\nouter 1 (= (. 0 $1) (. 0 $0))\nnest 1 sum (. 1 $1) true\nreduce bag (rec (. 0 $0) $1) true\n"
     -- "No berths: answer 0."
     ∷ answers (harbour [] bollards) listing (coll vnil) (pos 0 ∷ []) 1
     -- "No bollards: berth 1 with 0, berth 2 with 0."

@@ -9,7 +9,7 @@ use denote.Enum.Declared.{tagOf}
 use Rattle.calculus.specs.Syntax.{Bin, plus, minus, times, equal, less, and, or, some}
 use Rattle.normal_form.specs.Form.{Clauses, gensC}
 use Rattle.normal_form.specs.Normal.{Sem, givesWay, condition, ranges, binary}
-use Rattle.normal_form.proofs.Embed.{NotAnd}
+use Rattle.normal_form.specs.NoRule.{NotAnd}
 use Rattle.nodes.specs.Flat.{Env, At}
 use Rattle.nodes.specs.Word.{words, wordsC}
 use Rattle.nodes.proofs.Emit.{Whole, condition-whole, binary-whole, Never, ranges-never}

@@ -10,7 +10,7 @@ use Rattle.normal_form.specs.Form.{Form, Forms, Clauses, fcons, done, _⊕_, ge
 use Rattle.normal_form.specs.Form as Nf
 use Rattle.normal_form.specs.Normal.{Sem, Sems, row, fields, both, nested, plain, snil, scons, quote, quotes, idempotent, givesWay, one, condition, ranges, binary}
 use Rattle.normal_form.proofs.Writing.{gens-append, next-number, ⊕-assoc, condition-gives-way, condition-stays}
-use Rattle.normal_form.proofs.Embed.{NotAnd}
+use Rattle.normal_form.specs.NoRule.{NotAnd}
 use Rattle.normal_form.proofs.Fixed.{quote-binary}
 use Rattle.nodes.specs.Node.{Node, Nodes}
 use Rattle.nodes.specs.Flat.{Env, enter, At, qualOf, clausesOf, compOf}

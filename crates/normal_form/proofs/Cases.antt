@@ -4,7 +4,7 @@ use Rattle.calculus.specs.Lists.{bindL, guard, pick, upd}
 use Rattle.calculus.specs.Value.{nth, fieldOf, asInt, asBool, elems, eqZ, binV, count, kindOf, rowsOf}
 use Rattle.calculus.specs.Order.{then, compareZ, compareV, leV, insert, put}
 use Rattle.calculus.specs.Monoid.{start, greater, step, foldBy, ordered, canonical}
-use Rattle.calculus.specs.Cases.{Case, answers, refuses, starred}
+use Rattle.calculus.specs.Cases.{Case, answers, prints, refuses, starred}
 use Rattle.calculus.proofs.Lists.{All}
 use Rattle.normal_form.specs.Form.{_⊕_, gens, value, normalValue}
 use Rattle.normal_form.specs.Normal.{quote, idempotent, givesWay, condition, ranges, part, binary, before, norm, normal}
@@ -12,8 +12,9 @@ use Rattle.normal_form.specs.Normal as Nm
 
 abbrev pub Normalised : Case → Type 0
 Normalised (answers T q v ws g) = normalValue canonical T (normal (kindOf T) q) ≡ v
+Normalised (prints T q s) = Unit {0}
 Normalised (refuses T q n) = Unit {0}
 
 pub starred-normalised : All Normalised starred
 unfolding bindL guard pick upd nth fieldOf asInt asBool elems eqZ binV count kindOf rowsOf then compareZ compareV leV insert put start greater step foldBy ordered canonical _⊕_ gens value normalValue quote idempotent givesWay condition ranges Nm.nth part binary before norm normal
-starred-normalised = (refl, (refl, (refl, (refl, (refl, (refl, (refl, (refl, (refl, (tt, (refl, tt)))))))))))
+starred-normalised = (refl, (tt, (refl, (refl, (refl, (refl, (refl, (refl, (refl, (refl, (tt, (refl, tt))))))))))))

@@ -3,39 +3,16 @@ use mathlib.Core.Path.{_≡_, refl, sym, ap, fun-ext, _∙_}
 use mathlib.Core.Bool.{Bool, _||_}
 use Prim.Native.Nat.{ℕ}
 use Rattle.calculus.specs.Lists.{upd}
-use Rattle.calculus.specs.Syntax.{Collection, sum, Term, Terms, Quals, field, rec, bin, negate, comp, tcons, gen, bind, cond, Question, asTerm}
+use Rattle.calculus.specs.Syntax.{Collection, sum, Term, field, rec, bin, negate, comp, gen, bind, cond, Question, asTerm}
 use Rattle.normal_form.specs.Form.{Form, NormalForm, asForm, done}
 use Rattle.normal_form.specs.Form as Nf
 use Rattle.normal_form.specs.Normal.{Sem, fields, plain, scons, quote, idempotent, condition, ranges, part, binary, before, SemEnv, norm, norms, walk, nowhere, normal}
+use Rattle.normal_form.specs.Place.{Place, Places, PlaceQ, put, putL, putQ}
+use Rattle.normal_form.specs.Place as Pl
+use Rattle.normal_form.specs.Rules.{Rewrites, none, onwards}
 use Rattle.normal_form.proofs.Writing.{normal-is-quote}
 use Rattle.normal_form.proofs.Agree.{comp-cong}
-use Rattle.normal_form.proofs.Rules.{Rule, rule-keeps}
-use Rattle.normal_form.proofs.Place.{Place, Places, PlaceQ}
-use Rattle.normal_form.proofs.Place as Pl
-
--- the term with s in the hole
-unfoldable mutual
-  pub put : Place → Term → Term
-  put Pl.hole s = s
-  put (Pl.field i p) s = field i (put p s)
-  put (Pl.rec p) s = rec (putL p s)
-  put (Pl.binLeft o p t) s = bin o (put p s) t
-  put (Pl.binRight o t p) s = bin o t (put p s)
-  put (Pl.negate p) s = negate (put p s)
-  put (Pl.quals m p h) s = comp m (putQ p s) h
-  put (Pl.head m q p) s = comp m q (put p s)
-
-  pub putL : Places → Term → Terms
-  putL (Pl.here p ts) s = tcons (put p s) ts
-  putL (Pl.there t p) s = tcons t (putL p s)
-
-  pub putQ : PlaceQ → Term → Quals
-  putQ (Pl.gen x p q) s = gen x (put p s) q
-  putQ (Pl.bind x p q) s = bind x (put p s) q
-  putQ (Pl.cond p q) s = cond (put p s) q
-  putQ (Pl.pastGen x t p) s = gen x t (putQ p s)
-  putQ (Pl.pastBind x t p) s = bind x t (putQ p s)
-  putQ (Pl.pastCond t p) s = cond t (putQ p s)
+use Rattle.normal_form.proofs.Rules.{rule-keeps}
 
 module _ (K : ℕ → Collection) (s t : Term) (e : (δ : SemEnv) → norm K s δ ≡ norm K t δ) where
   mutual
@@ -62,11 +39,6 @@ module _ (K : ℕ → Collection) (s t : Term) (e : (δ : SemEnv) → norm K s �
     placeQ-keeps (Pl.pastGen x u p) b h δ n = ap (before (ranges (norm K u δ) b n .clauses) n) (fun-ext λ j. placeQ-keeps p b h (upd x (ranges (norm K u δ) b n .head) δ) j)
     placeQ-keeps (Pl.pastBind x u p) b h δ n = placeQ-keeps p b h (upd x (norm K u δ) δ) n
     placeQ-keeps (Pl.pastCond u p) b h δ n = ap (before (condition (norm K u δ) b n) n) (fun-ext λ j. placeQ-keeps p b h δ j)
-
--- what is made of a term by rules in any places, one after another
-pub data Rewrites (K : ℕ → Collection) (t : Term) : Term → Type 0 where
-  none : Rewrites K t t
-  onwards : {r s : Term} (p : Place) → Rewrites K t (put p r) → Rule K r s → Rewrites K t (put p s)
 
 rewriting-keeps : (K : ℕ → Collection) (t : Term) {u : Term} → Rewrites K t u → (δ : SemEnv) → norm K t δ ≡ norm K u δ
 rewriting-keeps K t none δ = refl

@@ -9,12 +9,9 @@ use Rattle.checks.specs.Types.{mayStand}
 use Rattle.normal_form.specs.Form.{NormalForm, done}
 use Rattle.normal_form.specs.Form as Nf
 use Rattle.normal_form.specs.Normal.{normal}
-use Rattle.normal_form.proofs.Embed.{termOf, questionOf, NoRule}
-use Rattle.normal_form.proofs.Proper.{behind, Ordered}
-use Rattle.normal_form.proofs.Substitute.{sub}
-use Rattle.normal_form.proofs.Rules.{_⊞_, ownNames, Rule, bound-name, flat-generator, rename}
-use Rattle.normal_form.proofs.Place.{hole}
-use Rattle.normal_form.proofs.Context.{put, Rewrites, none, onwards}
+use Rattle.normal_form.specs.NoRule.{termOf, questionOf, NoRule, behind, Ordered}
+use Rattle.normal_form.specs.Rules.{_⊞_, ownNames, sub, Rule, bound-name, flat-generator, rename, Rewrites, none, onwards}
+use Rattle.normal_form.specs.Place.{hole, put}
 use Rattle.normal_form.proofs.Fixed.{rewriting-ends-there}
 
 abbrev bags : ℕ → Collection

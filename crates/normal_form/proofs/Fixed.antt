@@ -13,10 +13,11 @@ use Rattle.normal_form.specs.Form.{Form, Forms, Clauses, NormalForm, asF
 use Rattle.normal_form.specs.Form as Nf
 use Rattle.normal_form.specs.Normal.{Sem, row, quote, quotes, idempotent, one, condition, Splice, ranges, part, binary, before, SemEnv, norm, norms, walk, nowhere, normal}
 use Rattle.normal_form.proofs.Writing.{inFront, spliceOf, condition-stays, normal-is-quote}
-use Rattle.normal_form.proofs.Embed.{termOf, termsOf, qualsOf, questionOf, NotAnd, Stays, NoRule, NoRuleL, NoRuleQ}
-use Rattle.normal_form.proofs.Proper.{behind, Ordered, OrderedF, OrderedC, normal-no-rule, normal-ordered}
+use Rattle.normal_form.specs.NoRule.{termOf, termsOf, qualsOf, questionOf, NotAnd, Stays, NoRule, NoRuleL, NoRuleQ, behind, Ordered, OrderedF, OrderedC}
+use Rattle.normal_form.proofs.Proper.{normal-no-rule, normal-ordered}
 use Rattle.normal_form.proofs.Shape.{no-rule-form}
-use Rattle.normal_form.proofs.Context.{Rewrites, same-form, normal-kept}
+use Rattle.normal_form.specs.Rules.{Rewrites}
+use Rattle.normal_form.proofs.Context.{same-form, normal-kept}
 
 upd-row : (g n : ℕ) → g ≡ n → upd g (row n) (λ i. row i) ≡ (λ i. row i)
 unfolding upd

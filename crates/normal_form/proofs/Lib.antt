@@ -3,14 +3,12 @@ pub mod Cases
 pub mod Idempotent
 pub mod Meaning
 pub mod Writing
-pub mod Embed
 pub mod Agree
 pub mod Proper
 pub mod Numbered
 pub mod Ranges
 pub mod Substitute
 pub mod Rules
-pub mod Place
 pub mod Context
 pub mod Shape
 pub mod Fixed

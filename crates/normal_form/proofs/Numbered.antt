@@ -11,7 +11,8 @@ use Rattle.calculus.proofs.Lists.{upd-other}
 use Rattle.checks.specs.Scope.{Scope, namesHold}
 use Rattle.normal_form.specs.Form.{Form, Forms, Clauses, num, truth, row, cell, rec, bin, negate, comp, fnil, fcons, done, gen, cond, gens, gensC, asForm}
 use Rattle.normal_form.specs.Normal.{normal}
-use Rattle.normal_form.proofs.Proper.{behind, Ordered, OrderedF, OrderedC, normal-in-scope}
+use Rattle.normal_form.specs.NoRule.{behind, Ordered, OrderedF, OrderedC}
+use Rattle.normal_form.proofs.Proper.{normal-in-scope}
 
 abbrev mutual
   pub Numbered : Form → ℕ → Type 0

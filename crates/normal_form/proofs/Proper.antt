@@ -10,40 +10,12 @@ use Rattle.calculus.specs.Lists.{upd}
 use Rattle.calculus.specs.Syntax.{Collection, Monoid, of, sum, max, some, all, Bin, plus, minus, times, equal, less, and, or, Term, Terms, Quals, num, truth, name, field, rec, bin, negate, comp, table, tnil, tcons, qnil, gen, bind, cond, Question, asTerm}
 use Rattle.calculus.proofs.Lists.{upd-hit}
 use Rattle.checks.specs.Scope.{Scope, inScope, inScopes, inScopeQ, namesHold, distinct, binders}
-use Rattle.normal_form.specs.Form.{Form, Forms, Clauses, fnil, fcons, done, _⊕_, gens, gensC, asForm}
+use Rattle.normal_form.specs.Form.{Form, Clauses, done, _⊕_, gens, gensC, asForm}
 use Rattle.normal_form.specs.Form as Nf
 use Rattle.normal_form.specs.Normal.{Sem, Sems, row, fields, both, nested, plain, snil, scons, nothing, quote, quotes, idempotent, givesWay, one, condition, Splice, never, ranges, nth, part, pair, binary, before, SemEnv, norm, norms, walk, nowhere, normal}
-use Rattle.normal_form.proofs.Embed.{termOf, termsOf, qualsOf, questionOf, NotAnd, Stays, NoRule, NoRuleL, NoRuleQ}
+use Rattle.normal_form.specs.NoRule.{termOf, termsOf, qualsOf, questionOf, NotAnd, Stays, NoRule, NoRuleL, NoRuleQ, behind, Ordered, OrderedF, OrderedC}
 use Rattle.normal_form.proofs.Agree.{Grows, upd-grows}
 use Rattle.normal_form.proofs.Writing.{condition-cases, normal-is-quote}
-
--- the names that hold behind clauses
-unfoldable pub behind : Clauses → Scope → Scope
-behind done S = S
-behind (Nf.gen g k q) S = behind q (upd g true S)
-behind (Nf.cond t q) S = behind q S
-
--- The generators are numbered i, i + 1, i + 2 .. in written order, and each name is one that holds in S or that of a
--- generator in whose scope it stands.
-unfoldable mutual
-  pub Ordered : Form → Scope → ℕ → Type 0
-  Ordered (Nf.num z) S i = Unit {0}
-  Ordered (Nf.truth b) S i = Unit {0}
-  Ordered (Nf.row g) S i = S g ≡ true
-  Ordered (Nf.cell f g) S i = S g ≡ true
-  Ordered (Nf.rec ts) S i = OrderedF ts S i
-  Ordered (Nf.bin o s t) S i = Ordered s S i × Ordered t S (i + gens s)
-  Ordered (Nf.negate t) S i = Ordered t S i
-  Ordered (Nf.comp m q h) S i = OrderedC q S i × Ordered h (behind q S) (i + gensC q)
-
-  pub OrderedF : Forms → Scope → ℕ → Type 0
-  OrderedF fnil S i = Unit {0}
-  OrderedF (fcons t ts) S i = Ordered t S i × OrderedF ts S (i + gens t)
-
-  pub OrderedC : Clauses → Scope → ℕ → Type 0
-  OrderedC done S i = Unit {0}
-  OrderedC (Nf.gen g k q) S i = (g ≡ i) × OrderedC q (upd g true S) (suc i)
-  OrderedC (Nf.cond t q) S i = Ordered t S i × OrderedC q S (i + gens t)
 
 -- no rule applies
 abbrev pub Normal : Form → Type 0

@@ -1,70 +1,21 @@
--- Document 01's six rules, and that each leaves what a term comes to the same.
+-- Each of document 01's rules leaves what a term comes to the same.
 use mathlib.Core.Path.{_≡_, refl, sym, ap, fun-ext, _∙_}
 use mathlib.Core.Bool.{Bool, true, false, _||_, false≢true}
-use mathlib.Core.List.{List, [], _∷_, _++_}
+use mathlib.Core.List.{_++_}
 use Prim.Native.Nat.{ℕ, zero, suc, _+_}
 use native.Mathlib.Omega.{arith}
-use lib.IntN.{pos}
 use Rattle.calculus.specs.Lists.{upd}
-use Rattle.calculus.specs.Syntax.{Collection, list, bag, set, Monoid, of, sum, max, some, all, and, Term, Terms, Quals, num, name, field, rec, bin, comp, table, tnil, tcons, qnil, gen, bind, cond}
+use Rattle.calculus.specs.Syntax.{Collection, list, bag, set, Monoid, of, sum, max, some, all, and, Term, Terms, Quals, name, field, rec, bin, comp, table, tnil, tcons, qnil, gen, bind, cond}
 use Rattle.calculus.proofs.Lists.{upd-hit}
-use Rattle.checks.specs.Scope.{Scope, inScope, inScopeQ, binders, bindersQ}
+use Rattle.checks.specs.Scope.{Scope, inScope, binders, bindersQ}
 use Rattle.checks.specs.Types.{mayStand}
 use Rattle.normal_form.specs.Form.{done, _⊕_, gens, gensC}
 use Rattle.normal_form.specs.Form as Nf
 use Rattle.normal_form.specs.Normal.{Sem, row, nested, idempotent, givesWay, condition, Splice, ranges, nth, part, binary, before, SemEnv, norm, walk}
+use Rattle.normal_form.specs.Rules.{_⊞_, ownNames, termAt, ReadsOnly, only, sub, subQ, Fresh, Rule, bound-name, record-field, bare-table, and-condition, flat-generator, some-condition, rename}
 use Rattle.normal_form.proofs.Writing.{inFront, before-append}
 use Rattle.normal_form.proofs.Agree.{upd-grows, Agree, agree-upd, agree-out, comp-cong, norm-agree, walk-agree}
-use Rattle.normal_form.proofs.Substitute.{sub, subQ, Fresh, fresh-split, sub-ok, walk-sub}
-
-infixr 60 _⊞_
-unfoldable pub _⊞_ : Quals → Quals → Quals
-qnil ⊞ r = r
-gen x t q ⊞ r = gen x t (q ⊞ r)
-bind x t q ⊞ r = bind x t (q ⊞ r)
-cond t q ⊞ r = cond t (q ⊞ r)
-
--- the names that qualifiers bind for what stands behind them
-unfoldable pub ownNames : Quals → List ℕ
-ownNames qnil = []
-ownNames (gen x t q) = x ∷ ownNames q
-ownNames (bind x t q) = x ∷ ownNames q
-ownNames (cond t q) = ownNames q
-
-unfoldable pub termAt : ℕ → Terms → Term
-termAt i tnil = num (pos 0)
-termAt zero (tcons t ts) = t
-termAt (suc i) (tcons t ts) = termAt i ts
-
--- every name that these qualifiers and this head read holds in S, or is bound on the way
-abbrev pub ReadsOnly : Quals → Term → Scope → Type 0
-ReadsOnly q h S = inScopeQ q (λ R. inScope h R) S ≡ true
-
--- the names x and y alone
-abbrev pub only : ℕ → ℕ → Scope
-only x y = upd x true (upd y true (λ z. false))
-
--- One rule, applied to a term: Rule K s t says that s becomes t. Each rule may look at any place of a comprehension's
--- qualifiers: q₁ are those before, q₃ those behind. The premises on S say only that no name is captured by a copy; where one
--- would be, `rename` comes first.
-pub data Rule (K : ℕ → Collection) : Term → Term → Type 0 where
-  -- (1) "a bound name is replaced by its term"
-  bound-name : (S : Scope) (m : Monoid) (q₁ : Quals) (x : ℕ) (s : Term) (q₃ : Quals) (h : Term) → S x ≡ true → inScope s S ≡ true → Fresh S (bindersQ q₃ ++ binders h) → Rule K (comp m (q₁ ⊞ bind x s q₃) h) (comp m (q₁ ⊞ subQ x s q₃) (sub x s h))
-  -- (2) "a field of a record becomes that term"
-  record-field : (i : ℕ) (ts : Terms) → Rule K (field i (rec ts)) (termAt i ts)
-  -- (3) "a table .. becomes the comprehension of its own collection whose one generator ranges over it and whose head is
-  --     that generator's name"
-  bare-table : (k x : ℕ) → Rule K (table k) (comp (of (K k)) (gen x (table k) qnil) (name x))
-  -- (4) "an "and" condition becomes two"
-  and-condition : (m : Monoid) (q₁ : Quals) (s t : Term) (q₃ : Quals) (h : Term) → Rule K (comp m (q₁ ⊞ cond (bin and s t) q₃) h) (comp m (q₁ ⊞ cond s (cond t q₃)) h)
-  -- (5) "a generator over a comprehension gives way to that comprehension's qualifiers, its name standing for the head";
-  --     26 says which generators may stand here
-  flat-generator : (S : Scope) (m : Monoid) (q₁ : Quals) (x : ℕ) (c : Collection) (q₂ : Quals) (t : Term) (q₃ : Quals) (h : Term) → mayStand c m ≡ true → Fresh S (ownNames q₂) → ReadsOnly q₃ h (upd x true S) → Rule K (comp m (q₁ ⊞ gen x (comp (of c) q₂ t) q₃) h) (comp m (q₁ ⊞ (q₂ ⊞ bind x t q₃)) h)
-  -- (6) "a condition that is a "some" comprehension, directly in set, max, some or all, gives way to its qualifiers and
-  --     then its head as a condition"
-  some-condition : (S : Scope) (m : Monoid) (q₁ q₂ : Quals) (t : Term) (q₃ : Quals) (h : Term) → idempotent m ≡ true → Fresh S (ownNames q₂) → ReadsOnly q₃ h S → Rule K (comp m (q₁ ⊞ cond (comp some q₂ t) q₃) h) (comp m (q₁ ⊞ (q₂ ⊞ cond t q₃)) h)
-  -- "Generators are renumbered": a generator's name x becomes y, which is not read behind it and, like x, not bound there
-  rename : (S : Scope) (m : Monoid) (q₁ : Quals) (x y : ℕ) (t : Term) (q₃ : Quals) (h : Term) → S y ≡ false → ReadsOnly q₃ h (upd x true S) → Fresh (only x y) (bindersQ q₃ ++ binders h) → Rule K (comp m (q₁ ⊞ gen x t q₃) h) (comp m (q₁ ⊞ gen y t (subQ x (name y) q₃)) (sub x (name y) h))
+use Rattle.normal_form.proofs.Substitute.{fresh-split, sub-ok, walk-sub}
 
 -- a set stands only where repeats do not count
 may-stand-idempotent : (c : Collection) (m : Monoid) → mayStand c m ≡ true → idempotent (of c) ≡ true → idempotent m ≡ true

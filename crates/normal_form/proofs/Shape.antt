@@ -12,7 +12,7 @@ use Rattle.checks.specs.Types.{Ty, Typed, Typeds, number, truth, record′, col
 use Rattle.normal_form.specs.Form.{Form, Forms, Clauses, NormalForm, fnil, fcons, done}
 use Rattle.normal_form.specs.Form as Nf
 use Rattle.normal_form.specs.Normal.{idempotent}
-use Rattle.normal_form.proofs.Embed.{termOf, termsOf, qualsOf, questionOf, NotRecord, IsTable, NoRule, NoRuleL, NoRuleQ}
+use Rattle.normal_form.specs.NoRule.{termOf, termsOf, qualsOf, questionOf, NotRecord, IsTable, NoRule, NoRuleL, NoRuleQ}
 
 -- what has a type is typed
 abbrev IsTyped : Typed → Type 0

@@ -6,40 +6,14 @@ use Prim.Native.Nat.{ℕ}
 use lib.Dec.{eqb, eqb→eq}
 use Rattle.calculus.specs.Lists.{pick, upd}
 use Rattle.calculus.specs.Syntax.{Collection, Term, Terms, Quals, num, truth, name, field, rec, bin, negate, comp, table, tnil, tcons, qnil, gen, bind, cond}
-use Rattle.calculus.proofs.Lists.{All, upd-same, upd-other}
+use Rattle.calculus.proofs.Lists.{upd-same, upd-other}
 use Rattle.checks.specs.Scope.{Scope, inScope, binders, bindersL, bindersQ}
 use Rattle.normal_form.specs.Form.{done}
 use Rattle.normal_form.specs.Form as Nf
 use Rattle.normal_form.specs.Normal.{Sem, fields, plain, scons, quote, idempotent, condition, ranges, part, binary, before, SemEnv, norm, norms, walk}
+use Rattle.normal_form.specs.Rules.{sub, subL, subQ, Fresh}
 use Rattle.normal_form.proofs.Writing.{spliceOf}
 use Rattle.normal_form.proofs.Agree.{agree-out, comp-cong, norm-agree}
-
--- s for each x
-unfoldable mutual
-  pub sub : ℕ → Term → Term → Term
-  sub x s (num z) = num z
-  sub x s (truth b) = truth b
-  sub x s (name y) = pick (eqb x y) s (name y)
-  sub x s (field i t) = field i (sub x s t)
-  sub x s (rec ts) = rec (subL x s ts)
-  sub x s (bin o t u) = bin o (sub x s t) (sub x s u)
-  sub x s (negate t) = negate (sub x s t)
-  sub x s (comp m qs h) = comp m (subQ x s qs) (sub x s h)
-  sub x s (table k) = table k
-
-  pub subL : ℕ → Term → Terms → Terms
-  subL x s tnil = tnil
-  subL x s (tcons t ts) = tcons (sub x s t) (subL x s ts)
-
-  pub subQ : ℕ → Term → Quals → Quals
-  subQ x s qnil = qnil
-  subQ x s (gen y t qs) = gen y (sub x s t) (subQ x s qs)
-  subQ x s (bind y t qs) = bind y (sub x s t) (subQ x s qs)
-  subQ x s (cond t qs) = cond (sub x s t) (subQ x s qs)
-
--- none of these names is in S
-abbrev pub Fresh : Scope → List ℕ → Type 0
-Fresh S l = All (λ y. S y ≡ false) l
 
 pub fresh-split : (S : Scope) (l m : List ℕ) → Fresh S (l ++ m) → Fresh S l × Fresh S m
 fresh-split S [] m a = (tt, a)

@@ -1,10 +1,10 @@
--- The starred cases: the values of their plans, and the printed plan of the listing.
+-- The starred cases: the values of their plans, and their lines.
 use mathlib.Core.Path.{_≡_, refl}
 use Rattle.calculus.specs.Lists.{bindL, guard, pick, upd}
 use Rattle.calculus.specs.Value.{nth, fieldOf, asInt, asBool, elems, eqZ, binV, count, kindOf, rowsOf}
 use Rattle.calculus.specs.Order.{then, compareZ, compareV, leV, insert, put}
 use Rattle.calculus.specs.Monoid.{start, greater, step, foldBy, ordered, canonical}
-use Rattle.calculus.specs.Cases.{Case, answers, refuses, starred, harbour, berths, bollards, listing}
+use Rattle.calculus.specs.Cases.{Case, answers, prints, refuses, starred}
 use Rattle.calculus.proofs.Lists.{All}
 use Rattle.normal_form.specs.Form.{_⊕_, gens}
 use Rattle.normal_form.specs.Normal.{quote, idempotent, givesWay, condition, ranges, part, binary, before, norm, normal}
@@ -22,16 +22,15 @@ unfoldable pub running : Unit {0}
 unfolding bindL guard pick nth fieldOf asInt asBool elems eqZ binV count rowsOf then compareZ compareV leV insert put start greater step foldBy ordered canonical valueOf at evalP meets whole sourceRows numbered matches kept matchesOrPad number same enter heads groups close apply exec one planValue
 running = tt
 
+unfoldable pub printing : Unit {0}
+unfolding ascii digits decimal signedDecimal monoidName binName truthName showTerm showSource showLast showOp showOps lines
+printing = tt
+
 abbrev pub Planned : Case → Type 0
 Planned (answers T q v ws g) = planValue canonical T (planOf (normal (kindOf T) q)) ≡ v
+Planned (prints T q s) = lines (planOf (normal (kindOf T) q)) ≡ ascii s
 Planned (refuses T q n) = Unit {0}
 
 pub starred-planned : All Planned starred
-unfolding planning running
-starred-planned = (refl, (refl, (refl, (refl, (refl, (refl, (refl, (refl, (refl, (tt, (refl, tt)))))))))))
-
--- the printed plan
-pub listing-lines : lines (planOf (normal (kindOf (harbour berths bollards)) listing))
-    ≡ ascii "one\njoin 0 true\nouter 1 (= (. 0 $1) (. 0 $0))\nnest 1 sum (. 1 $1) true\nreduce bag (rec (. 0 $0) $1) true\n"
-unfolding planning ascii digits decimal signedDecimal monoidName binName truthName showTerm showSource showLast showOp showOps lines
-listing-lines = refl
+unfolding planning running printing
+starred-planned = (refl, (refl, (refl, (refl, (refl, (refl, (refl, (refl, (refl, (refl, (tt, (refl, tt))))))))))))

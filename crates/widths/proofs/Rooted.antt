@@ -12,7 +12,7 @@ use Rattle.encoding.specs.Record.{Bytes}
 use Rattle.tables.specs.Description.{columnsIn}
 use Rattle.normal_form.specs.Form.{Form, Forms, Clauses, num, truth, row, cell, rec, bin, negate, comp, fnil, fcons, done, gen, cond, gens, gensF, gensC}
 use Rattle.normal_form.specs.Size.{nodes, nodesF, nodesC}
-use Rattle.normal_form.proofs.Proper.{behind, Ordered, OrderedF, OrderedC}
+use Rattle.normal_form.specs.NoRule.{behind, Ordered, OrderedF, OrderedC}
 use Rattle.normal_form.proofs.Numbered.{Numbered, NumberedF, NumberedC}
 use Rattle.form.specs.Packing.{places, next, nodeAt}
 use Rattle.form.specs.Tree.{clauseOf}

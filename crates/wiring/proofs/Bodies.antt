@@ -12,7 +12,8 @@ use lib.ListN.{length, length-append}
 use Rattle.calculus.specs.Lists.{pick, upd}
 use Rattle.calculus.specs.Syntax.{Monoid}
 use Rattle.normal_form.specs.Form.{Form, Clauses, comp, done, gen, cond, gens, gensC}
-use Rattle.normal_form.proofs.Proper.{behind, Ordered, OrderedC, behind-grows}
+use Rattle.normal_form.specs.NoRule.{behind, Ordered, OrderedC}
+use Rattle.normal_form.proofs.Proper.{behind-grows}
 use Rattle.form.specs.declared.Node.the-variants as N
 use Rattle.form.specs.Packing.{places, next, nodeAt}
 use Rattle.form.specs.Flat.{size, sizeC}

@@ -10,7 +10,8 @@ use Rattle.calculus.specs.Lists.{upd}
 use Rattle.calculus.specs.Syntax.{Monoid}
 use Rattle.normal_form.specs.Form.{Form, Forms, Clauses, NormalForm, asForm, num, truth, row, cell, rec, bin, negate, comp, fnil, fcons, done, gen, cond, gens, gensC}
 use Rattle.normal_form.proofs.Agree.{Grows}
-use Rattle.normal_form.proofs.Proper.{behind, Ordered, OrderedF, OrderedC, behind-grows}
+use Rattle.normal_form.specs.NoRule.{behind, Ordered, OrderedF, OrderedC}
+use Rattle.normal_form.proofs.Proper.{behind-grows}
 use Rattle.form.specs.Packing.{places}
 use Rattle.form.specs.Flat.{size, sizeF, sizeC}
 use Rattle.plan.specs.Planner as P

@@ -10,7 +10,7 @@ use lib.ListN.{length, length-append, length-map}
 use Rattle.calculus.specs.Lists.{upd}
 use Rattle.calculus.proofs.Lists.{upd-hit, upd-other}
 use Rattle.normal_form.specs.Form.{Clauses, done, gen, cond}
-use Rattle.normal_form.proofs.Proper.{behind}
+use Rattle.normal_form.specs.NoRule.{behind}
 use Rattle.form.specs.declared.Node.the-variants.{Generator}
 use Rattle.form.specs.Packing.{nodeAt}
 use Rattle.form.specs.Flat.{size}

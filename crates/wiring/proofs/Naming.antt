@@ -8,7 +8,7 @@ use Prim.Native.Nat.{ℕ, suc, _+_, _≤_, _<_}
 use lib.ListN.{length, length-append, List·getD-append}
 use lib.Seq.{getD-append-seam}
 use Rattle.normal_form.specs.Form.{Form, Forms, num, truth, row, cell, rec, bin, negate, comp, fnil, fcons, gens}
-use Rattle.normal_form.proofs.Proper.{Ordered, OrderedF}
+use Rattle.normal_form.specs.NoRule.{Ordered, OrderedF}
 use Rattle.monoid.specs.declared.Monoid.{Monoid}
 use Rattle.form.specs.declared.Node.the-variants.{Comprehension, Generator}
 use Rattle.form.specs.Packing.{nodeAt}

@@ -9,7 +9,8 @@ use lib.ListN.{length}
 use Rattle.calculus.specs.Value.{kindOf}
 use Rattle.encoding.specs.Record.{Bytes}
 use Rattle.normal_form.specs.Form.{NormalForm, asForm}
-use Rattle.normal_form.proofs.Proper.{Ordered, normal-in-scope}
+use Rattle.normal_form.specs.NoRule.{Ordered}
+use Rattle.normal_form.proofs.Proper.{normal-in-scope}
 use Rattle.form.specs.Packing.{next}
 use Rattle.form.specs.Tree.{formTree}
 use Rattle.plan.specs.Plan.{PTerm, Source}

@@ -1,8 +1,12 @@
--- The normal form read as a question again, and what it is for no rule of document 01 to apply to a question.
+-- The normal form read as a question again, and what it is for document 01's rules to have ended there: none applies, and the
+-- generators are numbered in written order.
 use mathlib.Core.Path.{_≡_}
-use mathlib.Core.Bool.{Bool, false}
+use mathlib.Core.Bool.{Bool, true, false}
+use Prim.Native.Nat.{ℕ, suc, _+_}
+use Rattle.calculus.specs.Lists.{upd}
 use Rattle.calculus.specs.Syntax.{Bin, plus, minus, times, equal, less, and, or, Term, Terms, Quals, num, truth, name, field, rec, bin, negate, comp, table, tnil, tcons, qnil, gen, bind, cond, Question}
-use Rattle.normal_form.specs.Form.{Form, Forms, Clauses, NormalForm, fnil, fcons, done}
+use Rattle.checks.specs.Scope.{Scope}
+use Rattle.normal_form.specs.Form.{Form, Forms, Clauses, NormalForm, fnil, fcons, done, gens, gensC}
 use Rattle.normal_form.specs.Form as Nf
 use Rattle.normal_form.specs.Normal.{idempotent, givesWay}
 
@@ -98,3 +102,31 @@ unfoldable mutual
   NoRuleQ (gen x t q) b = IsTable t × NoRuleQ q b  -- (5)
   NoRuleQ (bind x t q) b = ⊥  -- (1)
   NoRuleQ (cond t q) b = Stays b t × NoRule t × NoRuleQ q b  -- (4), (6)
+
+-- the names that hold behind clauses
+unfoldable pub behind : Clauses → Scope → Scope
+behind done S = S
+behind (Nf.gen g k q) S = behind q (upd g true S)
+behind (Nf.cond t q) S = behind q S
+
+-- "Generators are renumbered from 0 in written order": numbered i, i + 1, i + 2 .. from i on; and each name is one that holds in S or that of a
+-- generator in whose scope it stands.
+unfoldable mutual
+  pub Ordered : Form → Scope → ℕ → Type 0
+  Ordered (Nf.num z) S i = Unit {0}
+  Ordered (Nf.truth b) S i = Unit {0}
+  Ordered (Nf.row g) S i = S g ≡ true
+  Ordered (Nf.cell f g) S i = S g ≡ true
+  Ordered (Nf.rec ts) S i = OrderedF ts S i
+  Ordered (Nf.bin o s t) S i = Ordered s S i × Ordered t S (i + gens s)
+  Ordered (Nf.negate t) S i = Ordered t S i
+  Ordered (Nf.comp m q h) S i = OrderedC q S i × Ordered h (behind q S) (i + gensC q)
+
+  pub OrderedF : Forms → Scope → ℕ → Type 0
+  OrderedF fnil S i = Unit {0}
+  OrderedF (fcons t ts) S i = Ordered t S i × OrderedF ts S (i + gens t)
+
+  pub OrderedC : Clauses → Scope → ℕ → Type 0
+  OrderedC done S i = Unit {0}
+  OrderedC (Nf.gen g k q) S i = (g ≡ i) × OrderedC q (upd g true S) (suc i)
+  OrderedC (Nf.cond t q) S i = Ordered t S i × OrderedC q S (i + gens t)
