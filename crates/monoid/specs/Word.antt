@@ -1,7 +1,8 @@
 -- A monoid as the engine has it: its number, and the one word that is kept of its value while it runs. That is the number
 -- itself, the truth as 0 or 1, or how many heads a collection was made of: equal heads of a set all count.
 use mathlib.Core.Bool.{true, false}
-use Prim.Native.Nat.{ℕ}
+use Prim.Native.Nat.{ℕ, _+_}
+use lib.Dec.{ltb}
 use lib.IntN.{ℤ, pos, _+ℤ_}
 use Rattle.calculus.specs.Lists.{pick}
 use Rattle.calculus.specs.Syntax.{list, bag, set, of, sum, max, some, all}
@@ -60,3 +61,7 @@ headWord sum v = firstWord v
 headWord max v = firstWord v
 headWord some v = firstWord v
 headWord all v = firstWord v
+
+-- a collection's count with one more head; from 2^62 on it stays
+unfoldable pub oneMore : ℕ → ℕ
+oneMore n = pick (ltb n 4611686018427387904) (n + 1) n

@@ -2,7 +2,7 @@
 ghost use mathlib.Core.Path.{_≡_};
 ghost use Prim.Native.Nat.{_<_, _^_};
 ghost use lib.Signed.{mag};
-ghost use Rattle.monoid.specs.Word.{monoidOf, numberOf, zeroWord, mergeWord};
+ghost use Rattle.monoid.specs.Word.{monoidOf, numberOf, zeroWord, mergeWord, oneMore};
 
 pub enum Monoid {
     List,
@@ -44,6 +44,20 @@ impl Monoid {
             Monoid::Some => { if a == 0 { b } else { a } }
             Monoid::All => { if a == 0 { a } else { b } }
         }
+    }
+
+    // A collection is told by its count while its elements are written: how many over nothing, and with one element more. A count
+    // stops at 2^62: there can be more elements than a word counts, and nothing wraps.
+    pub fn no_elements() -> usize
+        ensures { λ r. ⌜ r ≡ 0 ⌝ }
+    {
+        0
+    }
+
+    pub fn one_more(n: usize) -> usize
+        ensures { λ r. ⌜ r ≡ oneMore n ⌝ }
+    {
+        if n < 4611686018427387904 { n + 1 } else { n }
     }
 
     // Document 01's number.
