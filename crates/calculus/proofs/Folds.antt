@@ -11,8 +11,9 @@ use Rattle.calculus.specs.Lists.{bindL, guard, pick}
 use Rattle.calculus.specs.Syntax.{Collection, list, bag, set, Monoid, of, sum, max, some, all}
 use Rattle.calculus.specs.Value.{Value, Values, num, truth, coll, vnil, vcons, toList, fromList, asInt, asBool, elems}
 use Rattle.calculus.specs.Order.{compareZ, leV}
+use Rattle.calculus.specs.Rearranged.{Rearranged, nil, Repeated, reorder, chain, Alike}
 use Rattle.calculus.specs.Monoid.{Entry, start, step, greater, foldBy, ordered, canonical, raw}
-use Rattle.calculus.proofs.Sorting.{Rearranged, Repeated, nil, reorder, chain, rearranged-path, rearranged-left, rearranged-right, repeated-left, repeated-right, repeated-twice, bind-rearranged, bind-repeated, Commuting, Idempotent, fold-rearranged, fold-repeated, IsTotal, sort, sortDistinct, le-self, by-order, insert-comm, put-comm, put-idem, sort-rearranged, distinct-repeated, same-sort, same-distinct, sort-rearranges, distinct-repeats}
+use Rattle.calculus.proofs.Sorting.{rearranged-path, rearranged-left, rearranged-right, repeated-left, repeated-right, repeated-twice, bind-rearranged, bind-repeated, Commuting, Idempotent, fold-rearranged, fold-repeated, IsTotal, sort, sortDistinct, le-self, by-order, insert-comm, put-comm, put-idem, sort-rearranged, distinct-repeated, same-sort, same-distinct, sort-rearranges, distinct-repeats}
 use Rattle.calculus.proofs.Order.{ℤ-order, order-total, V-total}
 
 pub to-from : (l : List Value) → toList (fromList l) ≡ l
@@ -30,12 +31,6 @@ seenAs sum = bag
 seenAs max = set
 seenAs some = set
 seenAs all = set
-
--- two lists that are the same list, bag, set
-abbrev pub Alike : {A : Type 0} → Collection → List A → List A → Type 0
-Alike list l m = l ≡ m
-Alike bag l m = Rearranged l m
-Alike set l m = Repeated l m
 
 pub alike-path : {A : Type 0} (c : Collection) (l m : List A) → l ≡ m → Alike c l m
 alike-path list l m h = h

@@ -6,8 +6,8 @@ use Rattle.calculus.specs.Lists.{bindL}
 use Rattle.calculus.specs.Syntax.{Collection, list, bag, set, Monoid, of, sum, max, some, all}
 use Rattle.calculus.specs.Value.{Value, elems}
 use Rattle.calculus.specs.Monoid.{canonical}
-use Rattle.calculus.proofs.Sorting.{reorder}
-use Rattle.calculus.proofs.Folds.{seenAs, Alike, alike-path, alike-over, canon, arranged, arranged-alike, elems-of, Eqv, alike-eqv}
+use Rattle.calculus.specs.Rearranged.{Alike, reorder}
+use Rattle.calculus.proofs.Folds.{seenAs, alike-path, alike-over, canon, arranged, arranged-alike, elems-of, Eqv, alike-eqv}
 use Rattle.checks.specs.Types.{mayStand}
 
 -- Where a generator over a set may stand, every generator may.

@@ -2,3 +2,4 @@
 pub mod Written
 pub mod Accepted
 pub mod Outcome
+pub mod RowOrder
