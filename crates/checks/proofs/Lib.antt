@@ -3,3 +3,4 @@ pub mod Fits
 pub mod Judgement
 pub mod Refold
 pub mod Raw
+pub mod Stored

@@ -2,3 +2,4 @@
 pub mod Calls
 pub mod Outcomes
 pub mod Demand3
+pub mod RowOrder

@@ -16,3 +16,4 @@ pub mod Size
 pub mod Example
 pub mod Bounds
 pub mod Arranged
+pub mod Stored

@@ -4,3 +4,5 @@ pub mod Checks
 pub mod Judging
 pub mod Written
 pub mod Agreement
+pub mod RowOrder
+pub mod Rewritten

@@ -13,7 +13,8 @@ use Rattle.calculus.specs.Value as Va
 use Rattle.calculus.specs.Order.{leV, insert, put}
 use Rattle.calculus.specs.Monoid.{Entry, foldBy, ordered, canonical, raw}
 use Rattle.calculus.specs.Meaning.{meaning}
-use Rattle.calculus.proofs.Sorting.{fold-rearranged, insert-rearranged, put-eq, put-lt, put-gt}
+use Rattle.calculus.specs.Rearranged.{Rearranged}
+use Rattle.calculus.proofs.Sorting.{rearranged-refl, fold-rearranged, insert-rearranged, put-eq, put-lt, put-gt}
 use Rattle.calculus.proofs.Folds.{to-from, fold-of}
 use Rattle.checks.specs.Types.{Ty, Tys, number, truth, record′, coll, ynil, ycons, generatorsFit}
 use Rattle.checks.proofs.Refold.{onParts, by-parts, refold, refolds}
@@ -117,22 +118,31 @@ arrange-shorter f v = refold-size at-most ordered ordered-enters (shape f) v
 pub answer-within-G : (T : Tables) (f : NormalForm) → length (words (normalValue canonical T f)) ≤ length (words (normalValue raw T f))
 answer-within-G T f = rw (normal-arranged T f) (arrange-shorter (asForm f) (normalValue raw T f))
 
+-- an entry by which no element is lost, wherever it then stands
+abbrev pub Keeping : Entry → Type 0
+Keeping E = (c : Collection) (v : Value) (l : List Value) → Rearranged (E c v l) (v ∷ l)
+
+-- By such an entry the value is as long as the raw one.
+pub kept-length : (E : Entry) → Keeping E → (T : Tables) (f : NormalForm) → length (words (normalValue (foldBy E) T f)) ≡ length (words (normalValue raw T f))
+unfolding total
+kept-length E h T f = ap size (normal-refold E T f) ∙ refold-size equal E (λ c v l. fold-rearranged add (λ x y n. omega arith) 0 (h c v l)) (shape (asForm f)) (normalValue raw T f)
+
 -- with each set written as a bag
 unfoldable pub bagged : Entry
 bagged list v l = v ∷ l
 bagged bag v l = insert leV v l
 bagged set v l = insert leV v l
 
-bagged-enters : (c : Collection) (v : Value) (l : List Value) → total (bagged c v l) ≡ size v + total l
-unfolding bagged total
-bagged-enters list v l = refl
-bagged-enters bag v l = insert-total v l
-bagged-enters set v l = insert-total v l
+bagged-keeps : Keeping bagged
+unfolding bagged
+bagged-keeps list v l = rearranged-refl (v ∷ l)
+bagged-keeps bag v l = insert-rearranged leV v l
+bagged-keeps set v l = insert-rearranged leV v l
 
 -- The order in which the elements stand does not change the length: the raw value is as long as the one with each set
 -- written as a bag.
 pub bagged-length : (T : Tables) (f : NormalForm) → length (words (normalValue (foldBy bagged) T f)) ≡ length (words (normalValue raw T f))
-bagged-length T f = ap size (normal-refold bagged T f) ∙ refold-size equal bagged bagged-enters (shape (asForm f)) (normalValue raw T f)
+bagged-length T f = kept-length bagged bagged-keeps T f
 
 -- "G being the answer's length in normal form with each set written as a bag"
 pub G-bagged : (a : Accepted) → G a ≡ length (words (normalValue (foldBy bagged) (a .tables) (a .form)))
