@@ -85,6 +85,10 @@ impl<T: Unit> Lent<T> {
         self.lent
     }
 
+    pub fn front(&self, units: usize) -> &[T] {
+        &self.units[..units]
+    }
+
     /// The units in front that another buffer has, too.
     pub fn shared_with<'a>(&'a self, other: &Lent<T>) -> &'a [T] {
         let pairs = self.units.iter().zip(&other.units);

@@ -17,6 +17,7 @@ mod offers;
 pub mod open;
 mod random;
 pub mod recorded;
+pub mod row_order;
 pub mod tally;
 pub mod timing;
 mod typed;

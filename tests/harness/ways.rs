@@ -13,13 +13,13 @@ use super::random::Random;
 use super::tally::{Place, Tally};
 
 /// Rows offered for an answer that is compared.
-const MOST_OFFERS: u64 = 1_000_000;
+pub const MOST_OFFERS: u64 = 1_000_000;
 
 /// Of two salts that differ by it the rubbish differs in every word.
-const OTHER: u64 = 1 << 63;
+pub const OTHER: u64 = 1 << 63;
 
 /// A way of answering, and what is lent to it.
-struct Way {
+pub struct Way {
     call: Call<i64>,
     scratch: Lent<u64>,
     answer: Lent<i64>,
@@ -77,40 +77,46 @@ impl Ways {
         let by_loops = self.loops.answers(input, lent, salt);
         let by_plan = self.plan.answers(input, lent, salt ^ OTHER);
         self.tally.called(by_plan.number, start.elapsed(), place);
-        self.agree(by_loops, by_plan)
+        agree([(&self.loops, by_loops), (&self.plan, by_plan)])
             .map_err(|what| format!("scratch and answer of {lent:?}: {what}"))
     }
+}
 
-    /// What both wrote is the same up to G, and each has its own rubbish behind it.
-    fn agree(&self, by_loops: Outcome, by_plan: Outcome) -> Result<usize, String> {
-        if by_loops != by_plan {
-            return Err(format!("{by_loops:?} by loops, {by_plan:?} by plan"));
+/// What two calls wrote is the same up to G, and each has its own rubbish behind it; gives how many
+/// words these are.
+pub fn agree(calls: [(&Way, Outcome); 2]) -> Result<usize, String> {
+    let [(first, outcome), (second, other)] = calls;
+    if outcome != other {
+        let names = [first.call.name, second.call.name];
+        return Err(format!(
+            "{outcome:?} by {}, {other:?} by {}",
+            names[0], names[1]
+        ));
+    }
+    let Outcome { number, length } = outcome;
+    let written = match number {
+        0 => first.answer.shared_with(&second.answer),
+        _ => &[],
+    };
+    for way in [first, second] {
+        let name = way.call.name;
+        if let Some(what) = way.answer.differs(written, 0) {
+            let alike = written.len();
+            return Err(format!(
+                "after {number} {alike} words are alike; by {name} word {what}"
+            ));
         }
-        let Outcome { number, length } = by_loops;
-        let written = match number {
-            0 => self.loops.answer.shared_with(&self.plan.answer),
-            _ => &[],
-        };
-        for way in [&self.loops, &self.plan] {
-            let name = way.call.name;
-            if let Some(what) = way.answer.differs(written, 0) {
-                let alike = written.len();
-                return Err(format!(
-                    "after {number} {alike} words are alike; by {name} word {what}"
-                ));
-            }
-            cleared(&way.scratch, number).map_err(|what| format!("by {name} {what}"))?;
-        }
-        // "After an answer the words from its length up to G are 0".
-        match written.get(length as usize..) {
-            Some(rest) if rest.iter().all(|word| *word == 0) => Ok(written.len()),
-            _ => Err(format!("length {length}, and written is {written:?}")),
-        }
+        cleared(&way.scratch, number).map_err(|what| format!("by {name} {what}"))?;
+    }
+    // "After an answer the words from its length up to G are 0".
+    match written.get(length as usize..) {
+        Some(rest) if rest.iter().all(|word| *word == 0) => Ok(written.len()),
+        _ => Err(format!("length {length}, and written is {written:?}")),
     }
 }
 
 impl Way {
-    fn new(call: Call<i64>) -> Way {
+    pub fn new(call: Call<i64>) -> Way {
         Way {
             call,
             scratch: Lent::new(),
@@ -119,9 +125,14 @@ impl Way {
     }
 
     /// Answers with so many words of scratch and of answer.
-    fn answers(&mut self, input: &Input, lent: (usize, usize), salt: u64) -> Outcome {
+    pub fn answers(&mut self, input: &Input, lent: (usize, usize), salt: u64) -> Outcome {
         let scratch = self.scratch.lend(lent.0, salt);
         let answer = self.answer.lend(lent.1, salt);
         (self.call.made)(&input.data, &input.question, scratch, answer)
+    }
+
+    /// The first words of the answer buffer.
+    pub fn front(&self, words: usize) -> &[i64] {
+        self.answer.front(words)
     }
 }

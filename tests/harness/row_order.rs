@@ -1,0 +1,208 @@
+//! "Survey order must not show" (document 02, E14): each way of answering against itself, over the
+//! tables as they were made and over the same tables in another state.
+
+use std::time::Instant;
+
+use super::generate::Input;
+use super::lent::{lengths, SCRATCH};
+use super::nodes::{BAG, LIST, SET, STORED};
+use super::offers::most_offers;
+use super::open::{LOOPS, MOST_WORDS, NUMBERS, PLAN};
+use super::random::Random;
+use super::tally::{Place, Tally};
+use super::ways::{agree, Way, MOST_OFFERS, OTHER};
+
+/// Bytes of a table's record ahead of its cells: length, kind, collection, columns, rows.
+const HEADER: usize = 8;
+const MOST_ROWS: usize = 1024;
+
+/// The rows of a table, each as its bytes.
+type Rows = Vec<Vec<u8>>;
+
+/// Another state of a table's rows, by its collection; nothing where it has none.
+pub type Change = fn(&mut Random, u8, Rows) -> Rows;
+
+/// "rearranging the rows of any bag or set table"
+pub const REARRANGED: Change = |random, collection, mut rows| {
+    if collection == BAG || collection == SET {
+        for last in (1..rows.len()).rev() {
+            rows.swap(last, random.between(0, last));
+        }
+    }
+    rows
+};
+
+/// "repeating a row of a set table, within 1,024 rows": up to three times, and all rows rearranged.
+pub const REPEATED: Change = |random, collection, mut rows| {
+    if collection == SET && !rows.is_empty() {
+        let copies = random
+            .between(1, 3)
+            .min(MOST_ROWS.saturating_sub(rows.len()));
+        for _ in 0..copies {
+            rows.push(rows[random.below(rows.len())].clone());
+        }
+    }
+    REARRANGED(random, collection, rows)
+};
+
+/// What two states of the tables must have in common.
+#[derive(Clone, Copy, PartialEq, Eq)]
+pub enum Common {
+    /// Number, length, the words up to G, with buffers of any one length.
+    Outcome,
+    /// Number, length and the words before it, where both buffers suffice.
+    Words,
+}
+
+/// Both ways of answering, each over two states of the tables.
+pub struct RowOrder {
+    change: Change,
+    common: Common,
+    ways: [(Way, Way); 2],
+    pub tally: Tally,
+}
+
+impl RowOrder {
+    pub fn new(name: &'static str, change: Change, common: Common) -> RowOrder {
+        let known = match common {
+            Common::Outcome => LOOPS.numbers(),
+            Common::Words => NUMBERS.to_vec(),
+        };
+        RowOrder {
+            change,
+            common,
+            ways: [
+                (Way::new(LOOPS), Way::new(LOOPS)),
+                (Way::new(PLAN), Way::new(PLAN)),
+            ],
+            tally: Tally::new(name, known),
+        }
+    }
+
+    /// Compares an input, if the change shows in its data.
+    pub fn input(&mut self, place: Place, input: &Input) {
+        let mut random = Random::new(!place.0, place.1);
+        let data = changed(&mut random, self.change, &input.data);
+        if data == input.data {
+            return;
+        }
+        self.tally.inputs += 1;
+        let other = Input {
+            data,
+            ..input.clone()
+        };
+        if most_offers(input).max(most_offers(&other)) > MOST_OFFERS {
+            return self.tally.skip("too many rows may be offered");
+        }
+        for way in 0..self.ways.len() {
+            let compared = match self.common {
+                Common::Outcome => self.outcomes(place, way, [input, &other], &mut random),
+                Common::Words => self.words(place, way, [input, &other], random.next()),
+            };
+            if let Err(what) = compared {
+                self.tally.input_differs(place, &other, &what);
+                return self
+                    .tally
+                    .input_differs(place, input, "was the first state");
+            }
+        }
+    }
+
+    /// The longest buffer shows G, the others are around it.
+    fn outcomes(
+        &mut self,
+        place: Place,
+        way: usize,
+        states: [&Input; 2],
+        random: &mut Random,
+    ) -> Result<(), String> {
+        let written = self.outcome(place, way, states, (SCRATCH, MOST_WORDS), random.next())?;
+        for lent in lengths(random, Some(written)) {
+            self.outcome(place, way, states, lent, random.next())?;
+        }
+        Ok(())
+    }
+
+    /// Answers over both states; gives how many words were written.
+    fn outcome(
+        &mut self,
+        place: Place,
+        way: usize,
+        [input, other]: [&Input; 2],
+        lent: (usize, usize),
+        salt: u64,
+    ) -> Result<usize, String> {
+        let (first, second) = &mut self.ways[way];
+        let start = Instant::now();
+        let one = first.answers(input, lent, salt);
+        let two = second.answers(other, lent, salt ^ OTHER);
+        self.tally.called(one.number, start.elapsed(), place);
+        agree([(&*first, one), (&*second, two)])
+            .map_err(|what| format!("scratch and answer of {lent:?}: {what}"))
+    }
+
+    fn words(
+        &mut self,
+        place: Place,
+        way: usize,
+        [input, other]: [&Input; 2],
+        salt: u64,
+    ) -> Result<(), String> {
+        let (first, second) = &mut self.ways[way];
+        let start = Instant::now();
+        let one = first.answers(input, (SCRATCH, MOST_WORDS), salt);
+        let two = second.answers(other, (SCRATCH, MOST_WORDS + 1), salt ^ OTHER);
+        if one.number == 32 || two.number == 32 {
+            self.tally.skip("a buffer that does not suffice");
+            return Ok(());
+        }
+        self.tally.called(one.number, start.elapsed(), place);
+        let length = one.length as usize;
+        if one != two || first.front(length) != second.front(length) {
+            return Err(format!("{one:?}, and {two:?} in the other state"));
+        }
+        Ok(())
+    }
+}
+
+/// The data with the rows of each whole table in front changed; from the first other byte on as it
+/// was.
+fn changed(random: &mut Random, change: Change, data: &[u8]) -> Vec<u8> {
+    let mut made = Vec::new();
+    let mut rest = data;
+    while let Some(end) = table_end(rest) {
+        let (table, behind) = rest.split_at(end);
+        made.extend(changed_table(random, change, table));
+        rest = behind;
+    }
+    made.extend(rest);
+    made
+}
+
+/// Where a well formed table at the front ends.
+fn table_end(data: &[u8]) -> Option<usize> {
+    let header = data.get(..HEADER)?;
+    let two_bytes = |at: usize| usize::from(u16::from_le_bytes([header[at], header[at + 1]]));
+    let (columns, rows) = (usize::from(header[5]), two_bytes(6));
+    let end = HEADER + 4 * columns * rows;
+    let ranges = (LIST..=SET).contains(&header[4]) && (1..=8).contains(&columns);
+    let whole = two_bytes(2) == usize::from(STORED) && two_bytes(0) + 4 == end;
+    (ranges && rows <= MOST_ROWS && whole && end <= data.len()).then_some(end)
+}
+
+fn changed_table(random: &mut Random, change: Change, table: &[u8]) -> Vec<u8> {
+    let (header, cells) = table.split_at(HEADER);
+    let width = 4 * usize::from(header[5]);
+    let rows = change(
+        random,
+        header[4],
+        cells.chunks(width).map(<[u8]>::to_vec).collect(),
+    );
+    let count = u16::try_from(rows.len()).expect("at most 1,024 rows");
+    let length = u16::try_from(HEADER - 4 + width * rows.len()).expect("a table's length");
+    let mut made = length.to_le_bytes().to_vec();
+    made.extend(&header[2..6]);
+    made.extend(count.to_le_bytes());
+    made.extend(rows.concat());
+    made
+}
