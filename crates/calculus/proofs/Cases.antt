@@ -3,7 +3,7 @@ use mathlib.Core.Path.{_≡_, refl}
 use Rattle.calculus.specs.Lists.{bindL, guard, pick, upd}
 use Rattle.calculus.specs.Value.{nth, fieldOf, asInt, asBool, elems, eqZ, binV, count, kindOf, rowsOf}
 use Rattle.calculus.specs.Order.{then, compareZ, compareV, leV, insert, put}
-use Rattle.calculus.specs.Monoid.{start, greater, step, foldBy, ordered, canonical}
+use Rattle.calculus.specs.Monoid.{start, greater, lesser, against, step, total, finish, foldBy, ordered, canonical}
 use Rattle.calculus.specs.Meaning.{eval, meaning}
 use Rattle.calculus.specs.Cases.{Case, answers, prints, refuses, starred}
 use Rattle.calculus.proofs.Lists.{All}
@@ -14,5 +14,5 @@ Meant (prints T q s) = Unit {0}
 Meant (refuses T q n) = Unit {0}
 
 pub starred-meant : All Meant starred
-unfolding bindL guard pick upd nth fieldOf asInt asBool elems eqZ binV count kindOf rowsOf then compareZ compareV leV insert put start greater step foldBy ordered canonical eval meaning
-starred-meant = (refl, (tt, (refl, (refl, (refl, (refl, (refl, (refl, (refl, (refl, (tt, (refl, tt))))))))))))
+unfolding bindL guard pick upd nth fieldOf asInt asBool elems eqZ binV count kindOf rowsOf then compareZ compareV leV insert put start greater lesser against step total finish foldBy ordered canonical eval meaning
+starred-meant = (refl, (tt, (refl, (refl, (refl, (refl, (refl, (refl, (refl, (refl, (refl, (refl, (refl, (refl, (refl, (refl, (tt, (tt, (refl, tt)))))))))))))))))))

@@ -7,7 +7,8 @@ use lib.Dec.{ltb}
 use lib.IntN.{ℤ, pos, negsuc, negℤ, natAbs, _+ℤ_, _-ℤ_, _*ℤ_}
 use lib.Signed.{ltZ}
 use Rattle.calculus.specs.Lists.{pick}
-use Rattle.calculus.specs.Monoid.{greater}
+use Rattle.calculus.specs.Value.{Value, num, truth, rec, coll, asInt}
+use Rattle.calculus.specs.Monoid.{greater, lesser, against}
 
 abs-cond : (t : Bool) (x y m : ℕ) → suc x ≤ m → y ≤ m → natAbs (cond t (negsuc x) (pos y)) ≤ m
 abs-cond true x y m p q = p
@@ -33,10 +34,23 @@ abs-times (pos a) (negsuc b) = abs-neg (pos (a * suc b))
 abs-times (negsuc a) (pos b) = abs-neg (pos (suc a * b))
 abs-times (negsuc a) (negsuc b) = le-refl (suc a * suc b)
 
+pub abs-pick : (t : Bool) (a b : ℤ) (m : ℕ) → natAbs a ≤ m → natAbs b ≤ m → natAbs (pick t a b) ≤ m
+unfolding pick
+abs-pick true a b m p q = p
+abs-pick false a b m p q = q
+
 pub abs-greater : (a b : ℤ) (m : ℕ) → natAbs a ≤ m → natAbs b ≤ m → natAbs (greater a b) ≤ m
-unfolding greater pick
-abs-greater a b m p q = go (ltZ a b)
-  where
-    go : (t : Bool) → natAbs (pick t b a) ≤ m
-    go true = q
-    go false = p
+unfolding greater
+abs-greater a b m p q = abs-pick (ltZ a b) b a m q p
+
+pub abs-lesser : (a b : ℤ) (m : ℕ) → natAbs a ≤ m → natAbs b ≤ m → natAbs (lesser a b) ≤ m
+unfolding lesser
+abs-lesser a b m p q = abs-pick (ltZ b a) b a m q p
+
+-- a head's number against what max or min has so far
+pub abs-against : (op : ℤ → ℤ → ℤ) → ((a b : ℤ) (m : ℕ) → natAbs a ≤ m → natAbs b ≤ m → natAbs (op a b) ≤ m) → (a : ℤ) (w : Value) (m : ℕ) → natAbs a ≤ m → natAbs (asInt w) ≤ m → natAbs (against op a w) ≤ m
+unfolding against asInt
+abs-against op h a (num z) m p q = h a z m p q
+abs-against op h a (truth t) m p q = p
+abs-against op h a (rec vs) m p q = p
+abs-against op h a (coll vs) m p q = p

@@ -1,10 +1,10 @@
--- The starred cases of "At the edges", as rows of one table. Each crate above shows its own side of all of them.
+-- The starred cases of "At the edges" as document 02 leaves them, and some of E1's own, as rows of one table. Each crate above shows its own side of all of them.
 use mathlib.Core.List.{List, [], _∷_}
 use mathlib.Core.Bool.{true, false}
 use Prim.Native.Nat.{ℕ}
 use Prim.Native.String.{String}
 use lib.IntN.{ℤ, pos, negsuc}
-use Rattle.calculus.specs.Syntax.{Collection, bag, set, Monoid, of, sum, max, all, equal, Term, num, truth, name, field, rec, bin, comp, table, tnil, tcons, qnil, gen, cond, Question}
+use Rattle.calculus.specs.Syntax.{Collection, bag, set, Monoid, of, sum, max, min, some, all, minus, times, equal, Term, num, truth, name, field, rec, bin, comp, table, tnil, tcons, qnil, gen, cond, Question}
 use Rattle.calculus.specs.Value.{Value, vnil, vcons, coll, Table, Tables}
 use Rattle.calculus.specs.Value as Va
 
@@ -34,12 +34,12 @@ abbrev pub harbour : List Value → List Value → Tables
 harbour b l = tableOf bag b ∷ tableOf bag l ∷ []
 
 -- "records (b.0, sum of l.1 over l in table 1 where l.0 = b.0) for b in table 0"; b is name 0, l is name 1, and what is
--- summed and the collection are left open
-abbrev pub loads : Term → Term
-loads h = comp sum (gen 1 (table 1) (cond (bin equal (field 0 (name 1)) (field 0 (name 0))) qnil)) h
+-- taken, the monoid and the collection are left open
+abbrev pub perBollard : Monoid → Term → Term
+perBollard m h = comp m (gen 1 (table 1) (cond (bin equal (field 0 (name 1)) (field 0 (name 0))) qnil)) h
 
 abbrev pub perBerth : Collection → Term → Question
-perBerth c h = record { monoid = of c; quals = gen 0 (table 0) qnil; head = rec (tcons (field 0 (name 0)) (tcons (loads h) tnil)) }
+perBerth c h = record { monoid = of c; quals = gen 0 (table 0) qnil; head = rec (tcons (field 0 (name 0)) (tcons (perBollard sum h) tnil)) }
 
 abbrev pub load : Term
 load = field 1 (name 1)
@@ -53,6 +53,14 @@ over m h = record { monoid = m; quals = gen 0 (table 0) qnil; head = h }
 
 abbrev pub alone : Monoid → Term → Question
 alone m h = record { monoid = m; quals = qnil; head = h }
+
+-- the highest of the berths' highest drying heights, each 0 - l.1
+abbrev pub highest : Question
+highest = over max (perBollard max (bin minus (num (pos 0)) load))
+
+-- the least b.1 of the berths that have a bollard
+abbrev pub shortest : Question
+shortest = record { monoid = min; quals = gen 0 (table 0) (cond (comp some (gen 1 (table 1) qnil) (bin equal (field 0 (name 1)) (field 0 (name 0)))) qnil); head = field 1 (name 0) }
 
 abbrev pub starred : List Case
 starred =
@@ -73,8 +81,18 @@ starred =
     ∷ answers [] (alone sum (num (pos 7))) (Va.num (pos 7)) (pos 7 ∷ []) 1
     -- "All over an empty table: true."
     ∷ answers (tableOf bag [] ∷ []) (over all (truth false)) (Va.truth true) (pos 1 ∷ []) 1
-    -- "Max of −3: 0."
-    ∷ answers [] (alone max (num (negsuc 2))) (Va.num (pos 0)) (pos 0 ∷ []) 1
+    -- "The case "max of −3" becomes −3." (document 02, E1)
+    ∷ answers [] (alone max (num (negsuc 2))) (Va.num (negsuc 2)) (negsuc 2 ∷ []) 1
+    -- "max over at least one qualifying row is the greatest head; over none it is 0" (02, E1), and min mirrored
+    ∷ answers (tableOf bag [] ∷ []) (over max (field 1 (name 0))) (Va.num (pos 0)) (pos 0 ∷ []) 1
+    ∷ answers (tableOf bag [] ∷ []) (over min (bin times (field 1 (name 0)) (field 1 (name 0)))) (Va.num (pos 0)) (pos 0 ∷ []) 1
+    ∷ answers [] (alone min (num (pos 3))) (Va.num (pos 3)) (pos 3 ∷ []) 1
+    -- of berth 1 alone; the 0 of berth 2, which has no bollards, is a head like any other
+    ∷ answers (harbour twice bollards) highest (Va.num (negsuc 49)) (negsuc 49 ∷ []) 1
+    ∷ answers (harbour berths bollards) highest (Va.num (pos 0)) (pos 0 ∷ []) 1
+    -- "max's bound, generators and rule for "some" conditions, and print it as "min""
+    ∷ answers (tableOf set twice ∷ []) (over min (field 1 (name 0))) (Va.num (pos 90)) (pos 90 ∷ []) 1
+    ∷ prints (harbour berths bollards) shortest "one\njoin 0 true\njoin 1 (= (. 0 $1) (. 0 $0))\nreduce min (. 1 $0) true\n"
     -- "A set-table generator in a sum: 26; in a set: accepted."
     ∷ refuses (tableOf set twice ∷ []) (over sum (field 1 (name 0))) 26
     ∷ answers (tableOf set twice ∷ []) (over (of set) (field 1 (name 0))) (coll (vcons (Va.num (pos 90)) vnil)) (pos 1 ∷ pos 90 ∷ []) 3

@@ -4,6 +4,7 @@ pub mod Syntax
 pub mod Value
 pub mod Order
 pub mod Rearranged
+pub mod Greatest
 pub mod Monoid
 pub mod Meaning
 pub mod Cases

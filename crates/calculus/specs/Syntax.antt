@@ -7,10 +7,10 @@ use lib.IntN.{ℤ}
 pub data Collection : Type 0 where
   list bag set : Collection
 
--- "1 list, 2 bag, 3 set (empty); 4 sum (0); 5 max (0 ..); 6 some (false); 7 all (true)"
+-- "1 list, 2 bag, 3 set (empty); 4 sum (0); 5 max (0 ..); 6 some (false); 7 all (true)"; "monoid 8, min" (document 02, E1)
 pub data Monoid : Type 0 where
   of : Collection → Monoid
-  sum max some all : Monoid
+  sum max min some all : Monoid
 
 -- "6 plus, 7 minus, 8 times, 9 equal, 10 less, 11 and, 12 or (two terms each)"
 pub data Bin : Type 0 where

@@ -3,7 +3,7 @@ use mathlib.Core.Path.{_≡_, refl, sym, ap, _∙_, subst}
 use mathlib.Core.List.{List}
 use mathlib.Core.Bool.{true, true≢false}
 use Rattle.calculus.specs.Lists.{bindL}
-use Rattle.calculus.specs.Syntax.{Collection, list, bag, set, Monoid, of, sum, max, some, all}
+use Rattle.calculus.specs.Syntax.{Collection, list, bag, set, Monoid, of, sum, max, min, some, all}
 use Rattle.calculus.specs.Value.{Value, elems}
 use Rattle.calculus.specs.Monoid.{canonical}
 use Rattle.calculus.specs.Rearranged.{Alike, reorder}
@@ -19,6 +19,7 @@ mayStand-any bag (of bag) h = refl
 mayStand-any bag (of set) h = refl
 mayStand-any bag sum h = refl
 mayStand-any bag max h = refl
+mayStand-any bag min h = refl
 mayStand-any bag some h = refl
 mayStand-any bag all h = refl
 mayStand-any set M h = h
@@ -42,6 +43,7 @@ mayStand-set (of bag) h = cc
 mayStand-set (of set) h = refl
 mayStand-set sum h = cc
 mayStand-set max h = refl
+mayStand-set min h = refl
 mayStand-set some h = refl
 mayStand-set all h = refl
 
@@ -54,6 +56,7 @@ fit-alike bag (of bag) h l n r = r
 fit-alike bag (of set) h l n r = reorder r
 fit-alike bag sum h l n r = r
 fit-alike bag max h l n r = reorder r
+fit-alike bag min h l n r = reorder r
 fit-alike bag some h l n r = reorder r
 fit-alike bag all h l n r = reorder r
 fit-alike set M h l n r = subst (λ c. Alike c l n) (sym (mayStand-set M h)) r

@@ -6,7 +6,7 @@ use native.Mathlib.Omega.{arith}
 use lib.Dec.{ltb}
 use lib.ListN.{length}
 use Rattle.calculus.specs.Lists.{pick, upd}
-use Rattle.calculus.specs.Syntax.{Collection, Monoid, of, sum, max, some, all, Bin, plus, minus, times, equal, less, and, or, Term, Terms, Quals, num, name, field, rec, bin, negate, comp, table, tnil, tcons, qnil, gen, bind, cond, Question, asTerm}
+use Rattle.calculus.specs.Syntax.{Collection, Monoid, of, sum, max, min, some, all, Bin, plus, minus, times, equal, less, and, or, Term, Terms, Quals, num, name, field, rec, bin, negate, comp, table, tnil, tcons, qnil, gen, bind, cond, Question, asTerm}
 use Rattle.calculus.specs.Syntax as Sy
 use Rattle.calculus.specs.Value.{Tables, kindOf, columnsOf}
 use Rattle.checks.specs.Types.{Ty, Tys, number, truth, record′, coll, ynil, ycons, Typed, wrong, has, Typeds, wrongs, hass, cells, typeAt, fieldType, ofNumber, ofTruth, binType, gathers, compType, ranges, typedAs, record″, consType, Context, typeOf, typesOf, typeOfQ, mayStand, isTyped, generatorsFit}
@@ -35,6 +35,7 @@ abbrev pub Gathers : Monoid → Ty → Ty → Type 0
 Gathers (of c) σ τ = τ ≡ coll c σ
 Gathers sum σ τ = (σ ≡ number) × (τ ≡ number)
 Gathers max σ τ = (σ ≡ number) × (τ ≡ number)
+Gathers min σ τ = (σ ≡ number) × (τ ≡ number)
 Gathers some σ τ = (σ ≡ truth) × (τ ≡ truth)
 Gathers all σ τ = (σ ≡ truth) × (τ ≡ truth)
 
@@ -120,6 +121,7 @@ comp-typed (of c) wrong τ e = untyped e
 comp-typed (of c) (has σ) τ e = (σ, refl, same-type (coll c σ) τ e)
 comp-typed sum s τ e = let a = number-typed s (has number) τ e in (number, a .0, (refl, same-type number τ (a .1)))
 comp-typed max s τ e = let a = number-typed s (has number) τ e in (number, a .0, (refl, same-type number τ (a .1)))
+comp-typed min s τ e = let a = number-typed s (has number) τ e in (number, a .0, (refl, same-type number τ (a .1)))
 comp-typed some s τ e = let a = truth-typed s (has truth) τ e in (truth, a .0, (refl, same-type truth τ (a .1)))
 comp-typed all s τ e = let a = truth-typed s (has truth) τ e in (truth, a .0, (refl, same-type truth τ (a .1)))
 

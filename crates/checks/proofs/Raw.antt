@@ -5,7 +5,7 @@ use mathlib.Core.Bool.{Bool, true, false}
 use Prim.Native.Nat.{ℕ}
 use lib.Dec.{eqb}
 use Rattle.calculus.specs.Lists.{bindL, guard, upd}
-use Rattle.calculus.specs.Syntax.{Monoid, of, sum, max, some, all, Term, Terms, Quals, num, name, field, rec, bin, negate, comp, table, tnil, tcons, qnil, gen, bind, cond, Question, asTerm}
+use Rattle.calculus.specs.Syntax.{Monoid, of, sum, max, min, some, all, Term, Terms, Quals, num, name, field, rec, bin, negate, comp, table, tnil, tcons, qnil, gen, bind, cond, Question, asTerm}
 use Rattle.calculus.specs.Syntax as Sy
 use Rattle.calculus.specs.Value.{Value, vcons, junk, asBool, elems, fieldOf, binV, notV, Tables, kindOf, columnsOf, rowsOf}
 use Rattle.calculus.specs.Value as Va
@@ -23,6 +23,7 @@ unfolding gathered
 gathers-type (of c) s t h = h
 gathers-type sum s t h = h .1
 gathers-type max s t h = h .1
+gathers-type min s t h = h .1
 gathers-type some s t h = h .1
 gathers-type all s t h = h .1
 

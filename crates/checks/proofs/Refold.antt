@@ -3,12 +3,12 @@ use mathlib.Core.Path.{_≡_, refl, sym, ap, ap₂, _∙_, fun-ext}
 use mathlib.Core.List.{List, [], _∷_, map}
 use mathlib.Core.Bool.{_&&_, _||_}
 use Prim.Native.Nat.{ℕ, zero, suc}
-use lib.IntN.{_+ℤ_, _-ℤ_, _*ℤ_}
+use lib.IntN.{ℤ, _+ℤ_, _-ℤ_, _*ℤ_}
 use lib.Signed.{ltZ}
-use Rattle.calculus.specs.Syntax.{Collection, Monoid, of, sum, max, some, all, Bin, plus, minus, times, equal, less, and, or}
+use Rattle.calculus.specs.Syntax.{Collection, Monoid, of, sum, max, min, some, all, Bin, plus, minus, times, equal, less, and, or}
 use Rattle.calculus.specs.Value.{Value, Values, vnil, vcons, toList, fromList, junk, asInt, asBool, elems, nth, fieldOf, eqZ, binV}
 use Rattle.calculus.specs.Value as Va
-use Rattle.calculus.specs.Monoid.{start, greater, Entry, step, foldBy, ordered, canonical, raw}
+use Rattle.calculus.specs.Monoid.{start, greater, lesser, against, Entry, step, total, finish, foldBy, ordered, canonical, raw}
 use Rattle.calculus.proofs.Lists.{map-same}
 use Rattle.calculus.proofs.Folds.{to-from, fold-of, arranged, canonical-of, raw-of}
 use Rattle.checks.specs.Types.{Ty, Tys, number, truth, record′, coll, ynil, ycons, has, cells, typeAt}
@@ -39,6 +39,7 @@ unfoldable pub gathered : Monoid → Ty → Ty
 gathered (of c) t = coll c t
 gathered sum t = number
 gathered max t = number
+gathered min t = number
 gathered some t = truth
 gathered all t = truth
 
@@ -81,14 +82,22 @@ module _ (E : Entry) where
   bin-refold and s t v w = ap₂ (λ a b. Va.truth (a && b)) (refold-reads s v .1) (refold-reads t w .1)
   bin-refold or s t v w = ap₂ (λ a b. Va.truth (a || b)) (refold-reads s v .1) (refold-reads t w .1)
 
+  -- The total of a monoid that holds a head's number against what it has so far.
+  total-refold : (m : Monoid) (op : ℤ → ℤ → ℤ) → ((F : Entry) (v w : Value) → step F m v w ≡ Va.num (against op (asInt v) w)) → (t : Ty) (l : List Value) → total E m (map (refold E t) l) ≡ total (λ c v n. v ∷ n) m l
+  unfolding total
+  total-refold m op h t [] = refl
+  total-refold m op h t (v ∷ l) =
+      h E (refold E t v) (total E m (map (refold E t) l)) ∙ ap₂ (λ a w. Va.num (against op a w)) (refold-reads t v .0) (total-refold m op h t l)
+      ∙ sym (h (λ c u n. u ∷ n) v (total (λ c u n. u ∷ n) m l))
+
   -- A monoid over heads folded anew is the raw one folded anew.
   pub fold-refold : (m : Monoid) (t : Ty) (l : List Value) → foldBy E m (map (refold E t) l) ≡ refold E (gathered m t) (raw m l)
-  unfolding refold onParts gathered raw foldBy step start
+  unfolding refold onParts gathered raw foldBy total finish step start
   fold-refold (of c) t l = ap (λ n. foldBy E (of c) (map (refold E t) n)) (sym (to-from l)) ∙ ap (refold E (coll c t)) (sym (raw-of c l))
   fold-refold sum t [] = refl
   fold-refold sum t (v ∷ l) = ap₂ (λ a w. Va.num (a +ℤ asInt w)) (refold-reads t v .0) (fold-refold sum t l)
-  fold-refold max t [] = refl
-  fold-refold max t (v ∷ l) = ap₂ (λ a w. Va.num (greater a (asInt w))) (refold-reads t v .0) (fold-refold max t l)
+  fold-refold max t l = ap (λ w. Va.num (asInt w)) (total-refold max greater (λ F v w. refl) t l)
+  fold-refold min t l = ap (λ w. Va.num (asInt w)) (total-refold min lesser (λ F v w. refl) t l)
   fold-refold some t [] = refl
   fold-refold some t (v ∷ l) = ap₂ (λ a w. Va.truth (a || asBool w)) (refold-reads t v .1) (fold-refold some t l)
   fold-refold all t [] = refl
@@ -118,7 +127,7 @@ module _ (E : Entry) where
   field-refold ts i t h (Va.coll vs) = sym (junk-kept t)
 
   pub elems-refold : (c : Collection) (t : Ty) (v : Value) → elems (foldBy E (of c) (map (refold E t) (elems v))) ≡ elems (refold E (coll c t) v)
-  unfolding elems refold onParts foldBy start
+  unfolding elems refold onParts foldBy total finish start
   elems-refold c t (Va.num z) = refl
   elems-refold c t (Va.truth b) = refl
   elems-refold c t (Va.rec vs) = refl

@@ -4,7 +4,7 @@ use Prim.Native.Nat.{ℕ, zero, suc}
 use lib.Dec.{ltb}
 use lib.ListN.{length}
 use Rattle.calculus.specs.Lists.{pick, upd}
-use Rattle.calculus.specs.Syntax.{Collection, list, bag, set, Monoid, of, sum, max, some, all, Bin, plus, minus, times, equal, less, and, or, Term, Terms, Quals, num, name, field, rec, bin, negate, comp, table, tnil, tcons, qnil, gen, bind, cond, Question, asTerm}
+use Rattle.calculus.specs.Syntax.{Collection, list, bag, set, Monoid, of, sum, max, min, some, all, Bin, plus, minus, times, equal, less, and, or, Term, Terms, Quals, num, name, field, rec, bin, negate, comp, table, tnil, tcons, qnil, gen, bind, cond, Question, asTerm}
 use Rattle.calculus.specs.Syntax as Sy
 use Rattle.calculus.specs.Value.{Tables, kindOf, columnsOf}
 
@@ -75,11 +75,12 @@ unfoldable pub gathers : Collection → Typed → Typed
 gathers c wrong = wrong
 gathers c (has t) = has (coll c t)
 
--- "Sum and max have number heads, some and all truth heads, the collections any head."
+-- "Sum and max have number heads, some and all truth heads, the collections any head." Min as max.
 unfoldable pub compType : Monoid → Typed → Typed
 compType (of c) t = gathers c t
 compType sum t = ofNumber t (has number)
 compType max t = ofNumber t (has number)
+compType min t = ofNumber t (has number)
 compType some t = ofTruth t (has truth)
 compType all t = ofTruth t (has truth)
 
@@ -131,7 +132,8 @@ unfoldable mutual
   typeOfQ J T m (bind x t qs) k Γ = typedAs (typeOf J T t Γ) (λ u. typeOfQ J T m qs k (upd x (has u) Γ))
   typeOfQ J T m (cond t qs) k Γ = ofTruth (typeOf J T t Γ) (typeOfQ J T m qs k Γ)
 
--- "A generator over a bag may not stand in a list; one over a set only in set, max, some or all."
+-- "A generator over a bag may not stand in a list; one over a set only in set, max, some or all." "monoid 8, min, with .. max's ..
+-- generators" (document 02, E1)
 unfoldable pub mayStand : Collection → Monoid → Bool
 mayStand list m = true
 mayStand bag (of list) = false
@@ -139,6 +141,7 @@ mayStand bag (of bag) = true
 mayStand bag (of set) = true
 mayStand bag sum = true
 mayStand bag max = true
+mayStand bag min = true
 mayStand bag some = true
 mayStand bag all = true
 mayStand set (of list) = false
@@ -146,6 +149,7 @@ mayStand set (of bag) = false
 mayStand set (of set) = true
 mayStand set sum = false
 mayStand set max = true
+mayStand set min = true
 mayStand set some = true
 mayStand set all = true
 

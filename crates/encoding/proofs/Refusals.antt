@@ -55,7 +55,8 @@ module _ (P : ℕ → Type 0) (p21 : P 21) (p22 : P 22) (p23 : P 23) where
   monoid-only (suc (suc (suc (suc (suc zero))))) = tt
   monoid-only (suc (suc (suc (suc (suc (suc zero)))))) = tt
   monoid-only (suc (suc (suc (suc (suc (suc (suc zero))))))) = tt
-  monoid-only (suc (suc (suc (suc (suc (suc (suc (suc k)))))))) = p22
+  monoid-only (suc (suc (suc (suc (suc (suc (suc (suc zero)))))))) = tt
+  monoid-only (suc (suc (suc (suc (suc (suc (suc (suc (suc k))))))))) = p22
 
   as-term : (x : Part) → Only P (asTerm x)
   unfolding asTerm

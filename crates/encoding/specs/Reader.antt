@@ -5,7 +5,7 @@ use mathlib.Core.Bool.{Bool, true, false, _&&_}
 use Prim.Native.Nat.{ℕ, zero, suc}
 use lib.Dec.{eqb, leb}
 use lib.ListN.{length, getD, drop}
-use Rattle.calculus.specs.Syntax.{list, bag, set, Monoid, of, sum, max, some, all, Bin, plus, minus, times, equal, less, and, or, Term, Terms, Quals, num, truth, name, field, rec, bin, negate, comp, table, tnil, tcons, qnil, gen, bind, cond, Question}
+use Rattle.calculus.specs.Syntax.{list, bag, set, Monoid, of, sum, max, min, some, all, Bin, plus, minus, times, equal, less, and, or, Term, Terms, Quals, num, truth, name, field, rec, bin, negate, comp, table, tnil, tcons, qnil, gen, bind, cond, Question}
 use Rattle.encoding.specs.Record.{Bytes, Result, refused, got, andThen, require, byte, two, four, signed, kindOf, contentOf, behind, isWhole}
 
 -- "Kinds: 1 number ..; 2 truth ..; 3 name ..; 4 field ..; 5 record ..; 6 plus, 7 minus, 8 times, 9 equal, 10 less, 11 and, 12 or
@@ -18,9 +18,9 @@ abbrev pub kinds : List Kind
 kinds = unknown ∷ number ∷ truthK ∷ nameK ∷ fieldK ∷ record′ ∷ two-terms plus ∷ two-terms minus ∷ two-terms times ∷ two-terms equal ∷ two-terms less
     ∷ two-terms and ∷ two-terms or ∷ not ∷ comprehension ∷ tableK ∷ generator ∷ binding ∷ condition ∷ []
 
--- monoids 1 to 7
+-- monoids 1 to 8
 abbrev pub monoids : List (Result Monoid)
-monoids = refused 22 ∷ got (of list) ∷ got (of bag) ∷ got (of set) ∷ got sum ∷ got max ∷ got some ∷ got all ∷ []
+monoids = refused 22 ∷ got (of list) ∷ got (of bag) ∷ got (of set) ∷ got sum ∷ got max ∷ got some ∷ got all ∷ got min ∷ []
 
 -- what a record of a question stands for
 pub data Part : Type 0 where

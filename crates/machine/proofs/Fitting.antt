@@ -1,11 +1,11 @@
 -- Where 25 and 26 pass, a normal form has records and collections in heads only: a condition, an operand and the head of a sum,
--- max, some or all are scalars all the way down.
+-- max, min, some or all are scalars all the way down.
 use mathlib.Core.Path.{_≡_, refl, sym, subst}
 use mathlib.Core.Bool.{Bool, true, false, _||_}
 use Prim.Native.Nat.{ℕ, zero, suc, _+_}
 use lib.Dec.{eqb}
 use Rattle.calculus.specs.Lists.{upd}
-use Rattle.calculus.specs.Syntax.{Monoid, of, sum, max, some, all, Bin, plus, minus, times, equal, less, and, or, Term, Terms, Quals, name, field, table, tnil, tcons, qnil, bind, Question, asTerm}
+use Rattle.calculus.specs.Syntax.{Monoid, of, sum, max, min, some, all, Bin, plus, minus, times, equal, less, and, or, Term, Terms, Quals, name, field, table, tnil, tcons, qnil, bind, Question, asTerm}
 use Rattle.calculus.specs.Syntax as Sy
 use Rattle.calculus.specs.Value.{Tables, kindOf, columnsOf}
 use Rattle.checks.specs.Types.{Ty, Tys, number, record′, coll, ynil, ycons, wrong, has, cells, typeAt, Context, generatorsFit}
@@ -146,6 +146,7 @@ module _ (q : Bool → ℕ → Clauses) (h : Bool → ℕ → Sem) where
   nested-good (of c) σ τ w g = subst (λ x. Good x (nested (of c) q h)) (sym g) (w, (λ n. (w false n .0, good-fits σ (h false n) (w false n .1) (n + gensC (q false n)))))
   nested-good sum σ τ w g = subst (λ x. Good x (nested sum q h)) (sym (g .1)) (λ n. (refl, w false n .0, subst (λ x. Good x (h false n)) (g .0) (w false n .1) (n + gensC (q false n))))
   nested-good max σ τ w g = subst (λ x. Good x (nested max q h)) (sym (g .1)) (λ n. (refl, w false n .0, subst (λ x. Good x (h false n)) (g .0) (w false n .1) (n + gensC (q false n))))
+  nested-good min σ τ w g = subst (λ x. Good x (nested min q h)) (sym (g .1)) (λ n. (refl, w false n .0, subst (λ x. Good x (h false n)) (g .0) (w false n .1) (n + gensC (q false n))))
   nested-good some σ τ w g =
       let v : (b : Bool) (n : ℕ) → ScalarC (q b n) × Good Ty.truth (h b n) = λ b n. (w b n .0, subst (λ x. Good x (h b n)) (g .0) (w b n .1)) in
       subst (λ x. Good x (nested some q h)) (sym (g .1)) ((λ n. (refl, v false n .0, v false n .1 .0 (n + gensC (q false n)))), some-condition v)
@@ -221,6 +222,7 @@ unfolding collects
 head-fits (of c) σ τ d e g n = good-fits σ d g n
 head-fits sum σ τ d e g n = subst (λ x. Good x d) (e .0) g n
 head-fits max σ τ d e g n = subst (λ x. Good x d) (e .0) g n
+head-fits min σ τ d e g n = subst (λ x. Good x d) (e .0) g n
 head-fits some σ τ d e g n = subst (λ x. Good x d) (e .0) g .0 n
 head-fits all σ τ d e g n = subst (λ x. Good x d) (e .0) g .0 n
 

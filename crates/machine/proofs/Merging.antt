@@ -3,9 +3,9 @@ use mathlib.Core.Path.{_≡_, refl, sym, ap, _∙_}
 use mathlib.Core.Logic.{_≢_}
 use mathlib.Core.List.{List, [], _∷_, _++_, foldl, foldr, append-assoc, append-nil}
 use mathlib.Core.Bool.{true≢false}
-use Rattle.calculus.specs.Syntax.{Collection, list, Monoid, of, sum, max, some, all}
+use Rattle.calculus.specs.Syntax.{Collection, list, Monoid, of, sum, max, min, some, all}
 use Rattle.calculus.specs.Value.{Value, coll, fromList, elems}
-use Rattle.calculus.specs.Monoid.{start, step, ordered, canonical, raw}
+use Rattle.calculus.specs.Monoid.{start, step, finish, ordered, canonical, raw}
 use Rattle.calculus.proofs.Sorting.{Commuting}
 use Rattle.calculus.proofs.Folds.{to-from, fold-foldr, step-comm, raw-of, raw-canonical}
 use Rattle.machine.specs.Machine.{behind, merge}
@@ -34,14 +34,15 @@ module _ {A B : Type 0} (op : A → B → B) (c : Commuting op) where
   left-right b [] = refl
   left-right b (v ∷ l) = left-right (op v b) l ∙ first-in v b l
 
-merges-scalar : (m : Monoid) → m ≢ of list → ((c : Collection) → m ≢ of c) → merge m ≡ (λ a v. step ordered m v a) → (l : List Value) → merges m (start m) l ≡ raw m l
+merges-scalar : (m : Monoid) → m ≢ of list → ((c : Collection) → m ≢ of c) → merge m ≡ (λ a v. step ordered m v a) → (l : List Value) → finish m (merges m (start m) l) ≡ raw m l
 unfolding canonical
-merges-scalar m h k e l = ap (λ f. foldl f (start m) l) e ∙ left-right (step ordered m) (step-comm m h) (start m) l ∙ sym (fold-foldr ordered m l) ∙ sym (raw-canonical m k l)
+merges-scalar m h k e l = ap (λ f. finish m (foldl f (start m) l)) e ∙ ap (finish m) (left-right (step ordered m) (step-comm m h) (start m) l) ∙ sym (fold-foldr ordered m l) ∙ sym (raw-canonical m k l)
 
-pub merged : (m : Monoid) (l : List Value) → merges m (start m) l ≡ raw m l
-unfolding start merge step
+pub merged : (m : Monoid) (l : List Value) → finish m (merges m (start m) l) ≡ raw m l
+unfolding start merge step finish
 merged (of c) l = merges-of c [] l ∙ sym (raw-of c l)
 merged sum l = merges-scalar sum (λ e. true≢false (cc)) (λ c e. true≢false (cc)) refl l
 merged max l = merges-scalar max (λ e. true≢false (cc)) (λ c e. true≢false (cc)) refl l
+merged min l = merges-scalar min (λ e. true≢false (cc)) (λ c e. true≢false (cc)) refl l
 merged some l = merges-scalar some (λ e. true≢false (cc)) (λ c e. true≢false (cc)) refl l
 merged all l = merges-scalar all (λ e. true≢false (cc)) (λ c e. true≢false (cc)) refl l

@@ -1,4 +1,4 @@
--- Theorem 8: every number of a normal form, and every sum and maximum on the way to it, is within its bound; so within
+-- Theorem 8: every number of a normal form, and every sum, maximum and minimum on the way to it, is within its bound; so within
 -- 2^62 wherever 28 does not refuse.
 use mathlib.Core.Path.{_≡_, refl, sym, ap, subst, _∙_}
 use mathlib.Core.List.{List, [], _∷_, _++_, foldl}
@@ -12,12 +12,12 @@ use lib.Dec.{eqb, leb}
 use lib.IntN.{pos, natAbs}
 use lib.ListN.{length, length-append}
 use Rattle.calculus.specs.Lists.{bindL, guard, upd}
-use Rattle.calculus.specs.Syntax.{Monoid, of, sum, max, some, all, Bin, plus, minus, times, equal, less, and, or}
+use Rattle.calculus.specs.Syntax.{Monoid, of, sum, max, min, some, all, Bin, plus, minus, times, equal, less, and, or}
 use Rattle.calculus.specs.Value.{Value, junk, asInt, asBool, fieldOf, binV, notV, Tables, columnsOf, rowsOf}
-use Rattle.calculus.specs.Monoid.{start, Entry, step, Fold, foldBy}
+use Rattle.calculus.specs.Monoid.{start, greater, lesser, Entry, step, total, finish, Fold, foldBy}
 use Rattle.calculus.specs.Meaning.{Env}
 use Rattle.calculus.proofs.Lists.{All, all-bind, all-front, all-behind, all-guard}
-use Rattle.calculus.proofs.Magnitude.{abs-plus, abs-minus, abs-times, abs-greater}
+use Rattle.calculus.proofs.Magnitude.{abs-plus, abs-minus, abs-times, abs-greater, abs-lesser, abs-against}
 use Rattle.calculus.proofs.WellFormed.{Row, cell-small, row-no-number, WellFormed, rows-at-most, rows-well-formed}
 use Rattle.normal_form.specs.Form.{Form, Forms, Clauses, NormalForm, asForm, num, truth, row, cell, rec, bin, negate, comp, fnil, fcons, done, gen, cond, value, loops}
 use Rattle.normal_form.specs.Bound.{ownGens, binBound, compBound, bound, within, withinF, withinC, numbersFit}
@@ -70,6 +70,7 @@ unfoldable pub foldBound : Monoid → ℕ → ℕ → ℕ
 foldBound (of c) n b = 0
 foldBound sum n b = n * b
 foldBound max n b = b
+foldBound min n b = b
 foldBound some n b = 0
 foldBound all n b = 0
 
@@ -78,6 +79,7 @@ unfolding foldBound
 fold-more (of c) b h = omega arith
 fold-more sum b h = mul-le-mul-right b h
 fold-more max b h = le-refl b
+fold-more min b h = le-refl b
 fold-more some b h = omega arith
 fold-more all b h = omega arith
 
@@ -86,30 +88,49 @@ unfolding start asInt
 start-small (of c) b = omega arith
 start-small sum b = omega arith
 start-small max b = omega arith
+start-small min b = omega arith
 start-small some b = omega arith
 start-small all b = omega arith
 
--- One more head, taken in front or behind.
-pub step-bound : (E : Entry) (m : Monoid) (b n : ℕ) (v w : Value) → Small b v → Small (foldBound m n b) w
-    → Small (foldBound m (suc n) b) (step E m v w) × Small (foldBound m (suc n) b) (step E m w v)
+-- One more head.
+pub step-bound : (E : Entry) (m : Monoid) (b n : ℕ) (v w : Value) → Small b v → Small (foldBound m n b) w → Small (foldBound m (suc n) b) (step E m v w)
 unfolding step foldBound asInt
-step-bound E (of c) b n v w p q = (omega arith, omega arith)
-step-bound E sum b n v w p q = (omega (arith, abs-plus (asInt v) (asInt w), suc-mul n b), omega (arith, abs-plus (asInt w) (asInt v), suc-mul n b))
-step-bound E max b n v w p q = (abs-greater (asInt v) (asInt w) b p q, abs-greater (asInt w) (asInt v) b q p)
-step-bound E some b n v w p q = (omega arith, omega arith)
-step-bound E all b n v w p q = (omega arith, omega arith)
+step-bound E (of c) b n v w p q = omega arith
+step-bound E sum b n v w p q = omega (arith, abs-plus (asInt v) (asInt w), suc-mul n b)
+step-bound E max b n v w p q = abs-against greater abs-greater (asInt v) w b p q
+step-bound E min b n v w p q = abs-against lesser abs-lesser (asInt v) w b p q
+step-bound E some b n v w p q = omega arith
+step-bound E all b n v w p q = omega arith
+
+-- a total, and the value that it comes to
+finish-small : (m : Monoid) (w : Value) (b : ℕ) → Small b w → Small b (finish m w)
+unfolding finish asInt
+finish-small (of c) w b h = h
+finish-small sum w b h = h
+finish-small max w b h = h
+finish-small min w b h = h
+finish-small some w b h = h
+finish-small all w b h = h
+
+-- a total, and one more head, as a loop takes them
+abbrev pub taken : Entry → Monoid → Value → Value → Value
+taken E m w v = step E m v w
 
 module _ (E : Entry) (m : Monoid) (b : ℕ) where
-  -- Heads within b, folded from the right, are within the bound of their count: a sum within length times b, a max within b.
+  -- Heads within b, folded from the right, are within the bound of their count: a sum within length times b, a max or min within b.
+  total-right : (l : List Value) → All (Small b) l → Small (foldBound m (length l) b) (total E m l)
+  unfolding total
+  total-right [] h = start-small m (foldBound m 0 b)
+  total-right (v ∷ l) h = step-bound E m b (length l) v (total E m l) (h .0) (total-right l (h .1))
+
   pub fold-right : (l : List Value) → All (Small b) l → Small (foldBound m (length l) b) (foldBy E m l)
   unfolding foldBy
-  fold-right [] h = start-small m (foldBound m 0 b)
-  fold-right (v ∷ l) h = step-bound E m b (length l) v (foldBy E m l) (h .0) (fold-right l (h .1)) .0
+  fold-right l h = finish-small m (total E m l) (foldBound m (length l) b) (total-right l h)
 
   -- The same from the left, as a loop accumulates, where w is within the bound of n heads.
-  pub fold-left : (n : ℕ) (w : Value) (l : List Value) → Small (foldBound m n b) w → All (Small b) l → Small (foldBound m (n + length l) b) (foldl (step E m) w l)
+  pub fold-left : (n : ℕ) (w : Value) (l : List Value) → Small (foldBound m n b) w → All (Small b) l → Small (foldBound m (n + length l) b) (foldl (taken E m) w l)
   fold-left n w [] p h = le-trans p (fold-more m b (omega arith))
-  fold-left n w (v ∷ l) p h = le-trans (fold-left (suc n) (step E m w v) l (step-bound E m b n v w (h .0) p .1) (h .1)) (fold-more m b (omega arith))
+  fold-left n w (v ∷ l) p h = le-trans (fold-left (suc n) (taken E m w v) l (step-bound E m b n v w (h .0) p) (h .1)) (fold-more m b (omega arith))
 
 -- ---- the heads that the loops meet
 abbrev pub heads : Fold → Tables → Clauses → Form → Env → List Value
@@ -155,6 +176,7 @@ unfolding foldBound compBound
 comp-bound (of c) g b = refl
 comp-bound sum g b = mul-comm (1024 ^ g) b
 comp-bound max g b = refl
+comp-bound min g b = refl
 comp-bound some g b = refl
 comp-bound all g b = refl
 
@@ -172,7 +194,7 @@ module _ (E : Entry) {T : Tables} (W : WellFormed T) where
     part-right = subst (λ (a : ℕ). Small a (foldBy E m s)) (comp-bound m (ownGens q) b)
         (le-trans (fold-right E m b s (all-behind (Small b) p s (subst (All (Small b)) (sym e) small))) (fold-more m b (omega (arith, parts-length))))
 
-    part-left : (n : ℕ) (w : Value) → Small (foldBound m n b) w → Small (foldBound m (n + 1024 ^ ownGens q) b) (foldl (step E m) w p)
+    part-left : (n : ℕ) (w : Value) → Small (foldBound m n b) w → Small (foldBound m (n + 1024 ^ ownGens q) b) (foldl (taken E m) w p)
     part-left n w k = le-trans (fold-left E m b n w p k (all-front (Small b) p s (subst (All (Small b)) (sym e) small))) (fold-more m b (omega (arith, parts-length)))
 
   -- where the head is within b, all heads are
@@ -196,19 +218,19 @@ module _ (E : Entry) {T : Tables} (W : WellFormed T) where
   heads-small q h ρ R = all-heads h (bound h) (value-bound h) q ρ R
 
   module _ (m : Monoid) (q : Clauses) (h : Form) (ρ : Env) (R : RowsIn ρ) (p s : List Value) (e : p ++ s ≡ heads (foldBy E) T q h ρ) where
-    -- A sum or maximum of the last heads is within the comprehension's bound.
+    -- A sum, maximum or minimum of the last heads is within the comprehension's bound.
     pub partial-right : Small (bound (comp m q h)) (foldBy E m s)
     unfolding bound
     partial-right = part-right m q h ρ (bound h) (heads-small q h ρ R) p s e
 
     -- A loop that had w, within the bound of n heads, and has gone over the first heads, has a number within that of n and all heads.
-    pub accumulated : (n : ℕ) (w : Value) → Small (foldBound m n (bound h)) w → Small (foldBound m (n + 1024 ^ ownGens q) (bound h)) (foldl (step E m) w p)
+    pub accumulated : (n : ℕ) (w : Value) → Small (foldBound m n (bound h)) w → Small (foldBound m (n + 1024 ^ ownGens q) (bound h)) (foldl (taken E m) w p)
     accumulated n w k = part-left m q h ρ (bound h) (heads-small q h ρ R) p s e n w k
 
-    -- A sum or maximum of the first heads, as a loop accumulates it from the start, is within the comprehension's bound.
-    pub partial-left : Small (bound (comp m q h)) (foldl (step E m) (start m) p)
+    -- A sum, maximum or minimum of the first heads, as a loop accumulates it from the start, is within the comprehension's bound.
+    pub partial-left : Small (bound (comp m q h)) (foldl (taken E m) (start m) p)
     unfolding bound
-    partial-left = subst (λ (b : ℕ). Small b (foldl (step E m) (start m) p))
+    partial-left = subst (λ (b : ℕ). Small b (foldl (taken E m) (start m) p))
         (ap (λ (n : ℕ). foldBound m n (bound h)) (zero-add (1024 ^ ownGens q)) ∙ comp-bound m (ownGens q) (bound h))
         (accumulated 0 (start m) (start-small m (foldBound m 0 (bound h))))
 
@@ -302,11 +324,11 @@ module _ (P : Form → Type 0) (k : (f : Form) → within f ≡ true → P f) wh
 -- The number of a form, and every number on the way to it from either end, within b.
 pub record Bounded (E : Entry) (T : Tables) (b : ℕ) (f : Form) (ρ : Env) : Type 0 where
   pub number : Small b (value (foldBy E) T f ρ)
-  pub first-heads : (m : Monoid) (q : Clauses) (h : Form) → f ≡ comp m q h → (p s : List Value) → p ++ s ≡ heads (foldBy E) T q h ρ → Small b (foldl (step E m) (start m) p)
+  pub first-heads : (m : Monoid) (q : Clauses) (h : Form) → f ≡ comp m q h → (p s : List Value) → p ++ s ≡ heads (foldBy E) T q h ρ → Small b (foldl (taken E m) (start m) p)
   pub last-heads : (m : Monoid) (q : Clauses) (h : Form) → f ≡ comp m q h → (p s : List Value) → p ++ s ≡ heads (foldBy E) T q h ρ → Small b (foldBy E m s)
 
 module _ (E : Entry) {T : Tables} (W : WellFormed T) where
-  -- Every number of a normal form, and every sum and maximum on the way to it, is within its bound, so within any greater b.
+  -- Every number of a normal form, and every sum, maximum and minimum on the way to it, is within its bound, so within any greater b.
   pub bounded : (f : Form) (b : ℕ) → bound f ≤ b → (ρ : Env) → RowsIn ρ → Bounded E T b f ρ
   bounded f b l ρ R = record {
     number = le-trans (value-bound E W f ρ R) l;
@@ -314,7 +336,7 @@ module _ (E : Entry) {T : Tables} (W : WellFormed T) where
     last-heads = λ m q h e p s c. le-trans (partial-right E W m q h ρ R p s c) (subst (λ x. bound x ≤ b) e l);
   }
 
-  -- Where 28 does not refuse, every number in the normal form, and every sum and maximum on the way to it, is within 2^62.
+  -- Where 28 does not refuse, every number in the normal form, and every sum, maximum and minimum on the way to it, is within 2^62.
   pub numbers-fit : (f : NormalForm) → numbersFit f ≡ true → Each (λ s. (ρ : Env) → RowsIn ρ → Bounded E T (2 ^ 62) s ρ) (asForm f)
   unfolding numbersFit
   numbers-fit f h = each (λ s. (ρ : Env) → RowsIn ρ → Bounded E T (2 ^ 62) s ρ) (λ s k. bounded s (2 ^ 62) (within-bound s k)) (asForm f) h

@@ -3,7 +3,7 @@ use mathlib.Core.Path.{_≡_, refl}
 use Rattle.calculus.specs.Lists.{bindL, guard, pick, upd}
 use Rattle.calculus.specs.Value.{nth, fieldOf, asInt, asBool, elems, eqZ, binV, count, kindOf, rowsOf}
 use Rattle.calculus.specs.Order.{then, compareZ, compareV, leV, insert, put}
-use Rattle.calculus.specs.Monoid.{start, greater, step, foldBy, ordered, canonical}
+use Rattle.calculus.specs.Monoid.{start, greater, lesser, against, step, total, finish, foldBy, ordered, canonical}
 use Rattle.calculus.specs.Cases.{Case, answers, prints, refuses, starred}
 use Rattle.calculus.proofs.Lists.{All}
 use Rattle.normal_form.specs.Form.{_⊕_, gens, value, normalValue}
@@ -16,5 +16,5 @@ Normalised (prints T q s) = Unit {0}
 Normalised (refuses T q n) = Unit {0}
 
 pub starred-normalised : All Normalised starred
-unfolding bindL guard pick upd nth fieldOf asInt asBool elems eqZ binV count kindOf rowsOf then compareZ compareV leV insert put start greater step foldBy ordered canonical _⊕_ gens value normalValue quote idempotent givesWay condition ranges Nm.nth part binary before norm normal
-starred-normalised = (refl, (tt, (refl, (refl, (refl, (refl, (refl, (refl, (refl, (refl, (tt, (refl, tt))))))))))))
+unfolding bindL guard pick upd nth fieldOf asInt asBool elems eqZ binV count kindOf rowsOf then compareZ compareV leV insert put start greater lesser against step total finish foldBy ordered canonical _⊕_ gens value normalValue quote idempotent givesWay condition ranges Nm.nth part binary before norm normal
+starred-normalised = (refl, (tt, (refl, (refl, (refl, (refl, (refl, (refl, (refl, (refl, (refl, (refl, (refl, (refl, (refl, (refl, (tt, (tt, (refl, tt)))))))))))))))))))

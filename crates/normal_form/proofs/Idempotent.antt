@@ -2,7 +2,7 @@
 -- stand.
 use mathlib.Core.Path.{_≡_, refl, sym, _∙_}
 use mathlib.Core.Bool.{Bool, true, false, _||_}
-use Rattle.calculus.specs.Syntax.{Collection, list, bag, set, Monoid, of, sum, max, some, all}
+use Rattle.calculus.specs.Syntax.{Collection, list, bag, set, Monoid, of, sum, max, min, some, all}
 use Rattle.calculus.proofs.Folds.{seenAs}
 use Rattle.checks.specs.Types.{mayStand}
 use Rattle.checks.proofs.Fits.{mayStand-any, mayStand-set}
@@ -15,6 +15,7 @@ idempotent-set (of bag) = refl
 idempotent-set (of set) = refl
 idempotent-set sum = refl
 idempotent-set max = refl
+idempotent-set min = refl
 idempotent-set some = refl
 idempotent-set all = refl
 

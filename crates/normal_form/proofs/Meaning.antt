@@ -6,7 +6,7 @@ use Prim.Native.Nat.{ℕ, zero, suc, _+_, _≤_, _<_}
 use native.Mathlib.Omega.{arith}
 use lib.Dec.{eqb}
 use Rattle.calculus.specs.Lists.{bindL, guard, upd}
-use Rattle.calculus.specs.Syntax.{Collection, Monoid, of, sum, max, some, all, Bin, plus, minus, times, equal, less, and, or, Term, Terms, Quals, num, name, field, rec, bin, negate, comp, table, tnil, tcons, qnil, gen, bind, cond, Question, asTerm}
+use Rattle.calculus.specs.Syntax.{Collection, Monoid, of, sum, max, min, some, all, Bin, plus, minus, times, equal, less, and, or, Term, Terms, Quals, num, name, field, rec, bin, negate, comp, table, tnil, tcons, qnil, gen, bind, cond, Question, asTerm}
 use Rattle.calculus.specs.Syntax as Sy
 use Rattle.calculus.specs.Value.{Value, Values, vcons, junk, asBool, elems, fieldOf, binV, notV, Tables, kindOf, columnsOf, rowsOf}
 use Rattle.calculus.specs.Value as Va
@@ -172,6 +172,7 @@ module _ (T : Tables) where
   comp-ok (of d) q h l s t n ρ e r = rw e (comp-coll d q h l s n ρ r)
   comp-ok sum q h l s t n ρ e r = rw (e .1) (comp-quotes sum q h l s n ρ r)
   comp-ok max q h l s t n ρ e r = rw (e .1) (comp-quotes max q h l s n ρ r)
+  comp-ok min q h l s t n ρ e r = rw (e .1) (comp-quotes min q h l s n ρ r)
   comp-ok some q h l s t n ρ e r = rw (e .1) (comp-quotes some q h l s n ρ r, some-ok q h l n ρ (subst (λ x. RunsAll some q h l x n ρ) (e .0) r))
   comp-ok all q h l s t n ρ e r = rw (e .1) (
       let p = comp-quotes all q h l s n ρ r in

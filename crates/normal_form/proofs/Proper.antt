@@ -7,7 +7,7 @@ use Prim.Native.Nat.{ℕ, zero, suc, _+_}
 use native.Mathlib.Omega.{arith}
 use lib.Dec.{eqb}
 use Rattle.calculus.specs.Lists.{upd}
-use Rattle.calculus.specs.Syntax.{Collection, Monoid, of, sum, max, some, all, Bin, plus, minus, times, equal, less, and, or, Term, Terms, Quals, num, truth, name, field, rec, bin, negate, comp, table, tnil, tcons, qnil, gen, bind, cond, Question, asTerm}
+use Rattle.calculus.specs.Syntax.{Collection, Monoid, of, sum, max, min, some, all, Bin, plus, minus, times, equal, less, and, or, Term, Terms, Quals, num, truth, name, field, rec, bin, negate, comp, table, tnil, tcons, qnil, gen, bind, cond, Question, asTerm}
 use Rattle.calculus.proofs.Lists.{upd-hit}
 use Rattle.checks.specs.Scope.{Scope, inScope, inScopes, inScopeQ, namesHold, distinct, binders}
 use Rattle.normal_form.specs.Form.{Form, Clauses, done, _⊕_, gens, gensC, asForm}
@@ -54,6 +54,7 @@ unfolding givesWay
 gives-way-less (of x) b c h = refl
 gives-way-less sum b c h = refl
 gives-way-less max b c h = refl
+gives-way-less min b c h = refl
 gives-way-less some true c h = h
 gives-way-less some false c h = refl
 gives-way-less all b c h = refl

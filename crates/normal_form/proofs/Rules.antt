@@ -5,7 +5,7 @@ use mathlib.Core.List.{_++_}
 use Prim.Native.Nat.{ℕ, zero, suc, _+_}
 use native.Mathlib.Omega.{arith}
 use Rattle.calculus.specs.Lists.{upd}
-use Rattle.calculus.specs.Syntax.{Collection, list, bag, set, Monoid, of, sum, max, some, all, and, Term, Terms, Quals, name, field, rec, bin, comp, table, tnil, tcons, qnil, gen, bind, cond}
+use Rattle.calculus.specs.Syntax.{Collection, list, bag, set, Monoid, of, sum, max, min, some, all, and, Term, Terms, Quals, name, field, rec, bin, comp, table, tnil, tcons, qnil, gen, bind, cond}
 use Rattle.calculus.proofs.Lists.{upd-hit}
 use Rattle.checks.specs.Scope.{Scope, inScope, binders, bindersQ}
 use Rattle.checks.specs.Types.{mayStand}
@@ -27,6 +27,7 @@ may-stand-idempotent set (of bag) h e = h
 may-stand-idempotent set (of set) h e = h
 may-stand-idempotent set sum h e = h
 may-stand-idempotent set max h e = h
+may-stand-idempotent set min h e = h
 may-stand-idempotent set some h e = h
 may-stand-idempotent set all h e = h
 

@@ -5,7 +5,7 @@ use Prim.Native.Nat.{ℕ, zero, suc}
 use lib.Dec.{eqb, ltb}
 use lib.ListN.{length}
 use Rattle.calculus.specs.Lists.{pick, upd}
-use Rattle.calculus.specs.Syntax.{Collection, Monoid, of, sum, max, some, all, Bin, plus, minus, times, equal, less, and, or, Term, Terms, Quals, num, name, field, rec, bin, negate, comp, table, tnil, tcons, qnil, gen, bind, cond, Question, asTerm}
+use Rattle.calculus.specs.Syntax.{Collection, Monoid, of, sum, max, min, some, all, Bin, plus, minus, times, equal, less, and, or, Term, Terms, Quals, num, name, field, rec, bin, negate, comp, table, tnil, tcons, qnil, gen, bind, cond, Question, asTerm}
 use Rattle.calculus.specs.Syntax as Sy
 use Rattle.calculus.specs.Value.{Tables, kindOf, columnsOf}
 use Rattle.checks.specs.Types.{Ty, Typed, Typeds, number, truth, record′, coll, wrong, has, wrongs, hass, cells, typeAt, fieldType, ofNumber, ofTruth, binType, gathers, compType, ranges, record″, consType, Context, typeOf, typesOf, typeOfQ, isTyped, typesFit}
@@ -58,6 +58,7 @@ comp-fields (of c) wrong = λ i. refl
 comp-fields (of c) (has t) = λ i. refl
 comp-fields sum t = number-fields t (has number) (λ i. refl)
 comp-fields max t = number-fields t (has number) (λ i. refl)
+comp-fields min t = number-fields t (has number) (λ i. refl)
 comp-fields some t = truth-fields t (has truth) (λ i. refl)
 comp-fields all t = truth-fields t (has truth) (λ i. refl)
 
@@ -132,6 +133,7 @@ comp-typed (of c) wrong h = h
 comp-typed (of c) (has t) h = refl
 comp-typed sum t h = number-typed t (has number) h .0
 comp-typed max t h = number-typed t (has number) h .0
+comp-typed min t h = number-typed t (has number) h .0
 comp-typed some t h = truth-typed t (has truth) h .0
 comp-typed all t h = truth-typed t (has truth) h .0
 

@@ -5,11 +5,11 @@ use mathlib.Core.Bool.{Bool, true, false}
 use Prim.Native.Nat.{ℕ}
 use native.Mathlib.Omega.{arith}
 use Rattle.calculus.specs.Lists.{bindL, guard, upd}
-use Rattle.calculus.specs.Syntax.{list, bag, Monoid, of, sum, max, some, all}
+use Rattle.calculus.specs.Syntax.{list, bag, Monoid, of, sum, max, min, some, all}
 use Rattle.calculus.specs.Value.{Value, vcons, asBool, binV, notV, Tables, rowsOf}
 use Rattle.calculus.specs.Value as Va
 use Rattle.calculus.specs.Order.{leV, insert}
-use Rattle.calculus.specs.Monoid.{Entry, start, step, foldBy, ordered, canonical}
+use Rattle.calculus.specs.Monoid.{Entry, start, step, finish, foldBy, ordered, canonical}
 use Rattle.calculus.specs.Meaning.{Env}
 use Rattle.calculus.specs.Rearranged.{Rearranged, nil, trans}
 use Rattle.calculus.proofs.Sorting.{rearranged-path, rearranged-left, rearranged-right, bind-rearranged}
@@ -25,17 +25,19 @@ abbrev asBag : Monoid → Monoid
 asBag (of c) = of bag
 asBag sum = sum
 asBag max = max
+asBag min = min
 asBag some = some
 asBag all = all
 
 as-bag : (m : Monoid) (l : List Value) → foldBy sorted m l ≡ canonical (asBag m) l
 unfolding canonical
-as-bag m l = fold-foldr sorted m l ∙ ap₂ (λ f e. foldr f e l) (steps m) (starts m) ∙ sym (fold-foldr ordered (asBag m) l)
+as-bag m l = fold-foldr sorted m l ∙ ap₂ (λ f e. finish m (foldr f e l)) (steps m) (starts m) ∙ finishes m (foldr (step ordered (asBag m)) (start (asBag m)) l) ∙ sym (fold-foldr ordered (asBag m) l)
   where
     steps : (m : Monoid) → step sorted m ≡ step ordered (asBag m)
     steps (of c) = unfold step sorted ordered in refl
     steps sum = unfold step in refl
     steps max = unfold step in refl
+    steps min = unfold step in refl
     steps some = unfold step in refl
     steps all = unfold step in refl
 
@@ -43,8 +45,17 @@ as-bag m l = fold-foldr sorted m l ∙ ap₂ (λ f e. foldr f e l) (steps m) (st
     starts (of c) = unfold start in refl
     starts sum = refl
     starts max = refl
+    starts min = refl
     starts some = refl
     starts all = refl
+
+    finishes : (m : Monoid) (w : Value) → finish m w ≡ finish (asBag m) w
+    finishes (of c) w = unfold finish in refl
+    finishes sum w = refl
+    finishes max w = refl
+    finishes min w = refl
+    finishes some w = refl
+    finishes all w = refl
 
 sorted-unseen : (m : Monoid) {l n : List Value} → Rearranged l n → foldBy sorted m l ≡ foldBy sorted m n
 sorted-unseen m {l} {n} r = as-bag m l ∙ order-unseen (asBag m) (no-list m) r ∙ sym (as-bag m n)
@@ -53,6 +64,7 @@ sorted-unseen m {l} {n} r = as-bag m l ∙ order-unseen (asBag m) (no-list m) r 
     no-list (of c) e = let z : _≡_ {A = ℕ} 0 1 = cc in omega arith
     no-list sum e = let z : _≡_ {A = ℕ} 0 1 = cc in omega arith
     no-list max e = let z : _≡_ {A = ℕ} 0 1 = cc in omega arith
+    no-list min e = let z : _≡_ {A = ℕ} 0 1 = cc in omega arith
     no-list some e = let z : _≡_ {A = ℕ} 0 1 = cc in omega arith
     no-list all e = let z : _≡_ {A = ℕ} 0 1 = cc in omega arith
 

@@ -3,7 +3,7 @@ use mathlib.Core.Bool.{Bool, true, _&&_}
 use Prim.Native.Nat.{ℕ, _+_, _*_, _^_}
 use lib.Dec.{leb}
 use lib.IntN.{natAbs}
-use Rattle.calculus.specs.Syntax.{Monoid, of, sum, max, some, all, Bin, plus, minus, times, equal, less, and, or}
+use Rattle.calculus.specs.Syntax.{Monoid, of, sum, max, min, some, all, Bin, plus, minus, times, equal, less, and, or}
 use Rattle.normal_form.specs.Form.{Form, Forms, Clauses, NormalForm, asForm, num, truth, row, cell, rec, bin, negate, comp, fnil, fcons, done, gen, cond}
 
 -- a comprehension's own generators
@@ -22,11 +22,13 @@ binBound less a b = 0
 binBound and a b = 0
 binBound or a b = 0
 
--- "max its head's; sum its head's times 1,024 for each generator"
+-- "max its head's; sum its head's times 1,024 for each generator"; "The bound of a max is still its head's." "monoid 8, min, with .. max's
+-- bound" (document 02, E1)
 unfoldable pub compBound : Monoid → ℕ → ℕ → ℕ
 compBound (of c) g a = 0
 compBound sum g a = a * 1024 ^ g
 compBound max g a = a
+compBound min g a = a
 compBound some g a = 0
 compBound all g a = 0
 

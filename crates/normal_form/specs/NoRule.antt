@@ -79,7 +79,7 @@ Stays b (table k) = Unit {0}
 
 -- None of the six rules applies anywhere in a term. In document 01's words and order: (1) no name is bound to a term;
 -- (2) no field of a record; (3) no table that is not a generator's term; (4) no "and" condition; (5) no generator over a
--- comprehension, and "every generator left ranges over a table"; (6) no "some" condition directly in set, max, some or all.
+-- comprehension, and "every generator left ranges over a table"; (6) no "some" condition directly in set, max, min, some or all.
 unfoldable mutual
   pub NoRule : Term → Type 0
   NoRule (num z) = Unit {0}
@@ -96,7 +96,7 @@ unfoldable mutual
   NoRuleL tnil = Unit {0}
   NoRuleL (tcons t ts) = NoRule t × NoRuleL ts
 
-  -- b: "directly in set, max, some or all"
+  -- b: directly in set, max, min, some or all
   pub NoRuleQ : Quals → Bool → Type 0
   NoRuleQ qnil b = Unit {0}
   NoRuleQ (gen x t q) b = IsTable t × NoRuleQ q b  -- (5)

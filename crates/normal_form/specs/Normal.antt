@@ -6,7 +6,7 @@ use mathlib.Core.Bool.{Bool, true, false, _||_}
 use Prim.Native.Nat.{ℕ, zero, suc, _+_}
 use lib.IntN.{pos}
 use Rattle.calculus.specs.Lists.{upd}
-use Rattle.calculus.specs.Syntax.{Collection, list, bag, set, Monoid, of, sum, max, some, all, Bin, plus, minus, times, equal, less, and, or, Term, Terms, Quals, num, truth, name, field, rec, bin, negate, comp, table, tnil, tcons, qnil, gen, bind, cond, Question}
+use Rattle.calculus.specs.Syntax.{Collection, list, bag, set, Monoid, of, sum, max, min, some, all, Bin, plus, minus, times, equal, less, and, or, Term, Terms, Quals, num, truth, name, field, rec, bin, negate, comp, table, tnil, tcons, qnil, gen, bind, cond, Question}
 use Rattle.normal_form.specs.Form.{Form, Forms, Clauses, fnil, fcons, done, _⊕_, gens, gensC, NormalForm}
 use Rattle.normal_form.specs.Form as Nf
 
@@ -42,13 +42,15 @@ unfoldable mutual
   quotes snil n = fnil
   quotes (scons d ds) n = let s = quote d n in fcons s (quotes ds (n + gens s))
 
--- "directly in set, max, some or all": the monoids that do not see repeats
+-- "directly in set, max, some or all": the monoids that do not see repeats; "monoid 8, min, with .. max's .. rule for "some" conditions"
+-- (document 02, E1)
 unfoldable pub idempotent : Monoid → Bool
 idempotent (of list) = false
 idempotent (of bag) = false
 idempotent (of set) = true
 idempotent sum = false
 idempotent max = true
+idempotent min = true
 idempotent some = true
 idempotent all = true
 
@@ -57,6 +59,7 @@ unfoldable pub givesWay : Monoid → Bool → Bool
 givesWay (of c) b = false
 givesWay sum b = false
 givesWay max b = false
+givesWay min b = false
 givesWay some b = b
 givesWay all b = false
 
@@ -66,7 +69,7 @@ one t = Nf.cond t done
 -- Written out as a condition; b says whether "some" gives way here.
 -- (4) "an "and" condition becomes two"
 -- (6) "a condition that is a "some" comprehension, directly in set, max, some or all, gives way to its qualifiers and
---     then its head as a condition"
+--     then its head as a condition"; in min too (document 02, E1)
 unfoldable pub condition : Sem → Bool → ℕ → Clauses
 condition (row g) b n = one (Nf.row g)
 condition (fields ds) b n = one (quote (fields ds) n)

@@ -84,7 +84,7 @@ pub data Rule (K : ℕ → Collection) : Term → Term → Type 0 where
   --     26 says which generators may stand here
   flat-generator : (S : Scope) (m : Monoid) (q₁ : Quals) (x : ℕ) (c : Collection) (q₂ : Quals) (t : Term) (q₃ : Quals) (h : Term) → mayStand c m ≡ true → Fresh S (ownNames q₂) → ReadsOnly q₃ h (upd x true S) → Rule K (comp m (q₁ ⊞ gen x (comp (of c) q₂ t) q₃) h) (comp m (q₁ ⊞ (q₂ ⊞ bind x t q₃)) h)
   -- (6) "a condition that is a "some" comprehension, directly in set, max, some or all, gives way to its qualifiers and
-  --     then its head as a condition"
+  --     then its head as a condition"; in min too (document 02, E1)
   some-condition : (S : Scope) (m : Monoid) (q₁ q₂ : Quals) (t : Term) (q₃ : Quals) (h : Term) → idempotent m ≡ true → Fresh S (ownNames q₂) → ReadsOnly q₃ h S → Rule K (comp m (q₁ ⊞ cond (comp some q₂ t) q₃) h) (comp m (q₁ ⊞ (q₂ ⊞ cond t q₃)) h)
   -- "Generators are renumbered": a generator's name x becomes y, which is not read behind it and, like x, not bound there
   rename : (S : Scope) (m : Monoid) (q₁ : Quals) (x y : ℕ) (t : Term) (q₃ : Quals) (h : Term) → S y ≡ false → ReadsOnly q₃ h (upd x true S) → Fresh (only x y) (bindersQ q₃ ++ binders h) → Rule K (comp m (q₁ ⊞ gen x t q₃) h) (comp m (q₁ ⊞ gen y t (subQ x (name y) q₃)) (sub x (name y) h))

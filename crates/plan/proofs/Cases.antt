@@ -3,7 +3,7 @@ use mathlib.Core.Path.{_≡_, refl}
 use Rattle.calculus.specs.Lists.{bindL, guard, pick, upd}
 use Rattle.calculus.specs.Value.{nth, fieldOf, asInt, asBool, elems, eqZ, binV, count, kindOf, rowsOf}
 use Rattle.calculus.specs.Order.{then, compareZ, compareV, leV, insert, put}
-use Rattle.calculus.specs.Monoid.{start, greater, step, foldBy, ordered, canonical}
+use Rattle.calculus.specs.Monoid.{start, greater, lesser, against, step, total, finish, foldBy, ordered, canonical}
 use Rattle.calculus.specs.Cases.{Case, answers, prints, refuses, starred}
 use Rattle.calculus.proofs.Lists.{All}
 use Rattle.normal_form.specs.Form.{_⊕_, gens}
@@ -19,7 +19,7 @@ unfolding upd pick kindOf _⊕_ gens quote idempotent givesWay condition ranges 
 planning = tt
 
 unfoldable pub running : Unit {0}
-unfolding bindL guard pick nth fieldOf asInt asBool elems eqZ binV count rowsOf then compareZ compareV leV insert put start greater step foldBy ordered canonical valueOf at evalP meets whole sourceRows numbered matches kept matchesOrPad number same enter heads groups close apply exec one planValue
+unfolding bindL guard pick nth fieldOf asInt asBool elems eqZ binV count rowsOf then compareZ compareV leV insert put start greater lesser against step total finish foldBy ordered canonical valueOf at evalP meets whole sourceRows numbered matches kept matchesOrPad number same enter heads groups close apply exec one planValue
 running = tt
 
 unfoldable pub printing : Unit {0}
@@ -33,4 +33,4 @@ Planned (refuses T q n) = Unit {0}
 
 pub starred-planned : All Planned starred
 unfolding planning running printing
-starred-planned = (refl, (refl, (refl, (refl, (refl, (refl, (refl, (refl, (refl, (refl, (tt, (refl, tt))))))))))))
+starred-planned = (refl, (refl, (refl, (refl, (refl, (refl, (refl, (refl, (refl, (refl, (refl, (refl, (refl, (refl, (refl, (refl, (refl, (tt, (refl, tt)))))))))))))))))))

@@ -9,7 +9,7 @@ use Rattle.calculus.specs.Syntax.{list, bag, of, sum, plus, equal}
 use Rattle.calculus.specs.Syntax as Sy
 use Rattle.calculus.specs.Value.{Value, Tables, Table, vnil, vcons, asInt, asBool, elems, nth, fieldOf, eqZ, binV, rowsOf}
 use Rattle.calculus.specs.Value as Va
-use Rattle.calculus.specs.Monoid.{Fold, start, step, foldBy, ordered, canonical}
+use Rattle.calculus.specs.Monoid.{Fold, start, step, total, finish, foldBy, ordered, canonical}
 use Rattle.normal_form.specs.Form.{NormalForm, num, cell, rec, bin, comp, fnil, fcons, done, gen, cond}
 use Rattle.plan.specs.Plan.{pnum, ptruth, place, pfield, prec, pbin, pnil, pcons, table, join, outer, nest, plan}
 use Rattle.plan.specs.Operators.{row, val, pad, valueOf, at, evalP, meets, whole, sourceRows, numbered, matches, kept, matchesOrPad, number, same, enter, heads, groups, close, apply, exec, one, planValue}
@@ -36,7 +36,7 @@ deep = record {
 }
 
 opens : Unit {0}
-unfolding pair bagOf harbour deep bindL guard pick upd asInt asBool elems nth fieldOf eqZ binV rowsOf start step foldBy ordered canonical valueOf at evalP meets whole sourceRows numbered matches kept matchesOrPad number same enter heads groups close apply exec one planValue free mentions next term nextL termL joined conj source gensOf condsOf orUnit planGens sift early late slot slots after mentioned lastOf home growsAt grows ops planOf
+unfolding pair bagOf harbour deep bindL guard pick upd asInt asBool elems nth fieldOf eqZ binV rowsOf start step total finish foldBy ordered canonical valueOf at evalP meets whole sourceRows numbered matches kept matchesOrPad number same enter heads groups close apply exec one planValue free mentions next term nextL termL joined conj source gensOf condsOf orUnit planGens sift early late slot slots after mentioned lastOf home growsAt grows ops planOf
 opens = tt
 
 pub deep-plan : planOf deep ≡ plan

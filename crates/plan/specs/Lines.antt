@@ -7,7 +7,7 @@ use Prim.Native.String.{String}
 use Prim.Native.String as S
 use lib.Dec.{ltb}
 use lib.IntN.{ℤ, pos, negsuc}
-use Rattle.calculus.specs.Syntax.{list, bag, set, Monoid, of, sum, max, some, all, Bin, plus, minus, times, equal, less, and, or}
+use Rattle.calculus.specs.Syntax.{list, bag, set, Monoid, of, sum, max, min, some, all, Bin, plus, minus, times, equal, less, and, or}
 use Rattle.plan.specs.Plan.{PTerm, PTerms, pnum, ptruth, place, pfield, prec, pbin, pnegate, pnil, pcons, Source, table, unit, Op, join, outer, nest, Plan, plan}
 
 unfoldable pub ascii : String → List ℕ
@@ -32,6 +32,7 @@ monoidName (of bag) = "bag"
 monoidName (of set) = "set"
 monoidName sum = "sum"
 monoidName max = "max"
+monoidName min = "min"
 monoidName some = "some"
 monoidName all = "all"
 
