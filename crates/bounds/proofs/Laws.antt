@@ -84,6 +84,7 @@ unfolding perHead compBound
 head-bound (of c) a = refl
 head-bound sum a = omega arith
 head-bound max a = refl
+head-bound Sy.min a = refl
 head-bound some a = refl
 head-bound all a = refl
 
@@ -92,6 +93,7 @@ unfolding perGenerator compBound
 generator-bound (of c) g a = refl
 generator-bound sum g a = cut-left (a * 1024 ^ g) 1024 ∙ ap cut (mul-assoc a (1024 ^ g) 1024 ∙ ap (λ x. a * x) (sym (pow-suc 1024 g) ∙ ap (λ x. 1024 ^ x) (omega arith)))
 generator-bound max g a = refl
+generator-bound Sy.min g a = refl
 generator-bound some g a = refl
 generator-bound all g a = refl
 

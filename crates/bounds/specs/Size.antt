@@ -21,6 +21,7 @@ unfoldable pub perHead : Sy.Monoid → ℕ → ℕ
 perHead (of c) a = 0
 perHead sum a = a
 perHead max a = a
+perHead Sy.min a = a
 perHead some a = 0
 perHead all a = 0
 
@@ -28,6 +29,7 @@ unfoldable pub perGenerator : Sy.Monoid → ℕ → ℕ
 perGenerator (of c) a = a
 perGenerator sum a = cut (a * 1024)
 perGenerator max a = a
+perGenerator Sy.min a = a
 perGenerator some a = a
 perGenerator all a = a
 

@@ -80,6 +80,7 @@ fn per_generator(m: Monoid, a: u64) -> u64
         Monoid::Max => a,
         Monoid::Some => a,
         Monoid::All => a,
+        Monoid::Min => a,
     }
 }
 
@@ -95,6 +96,7 @@ fn per_head(m: Monoid, a: u64) -> u64
         Monoid::Max => a,
         Monoid::Some => 0,
         Monoid::All => 0,
+        Monoid::Min => a,
     }
 }
 

@@ -9,6 +9,7 @@ use lib.Dec.{eqb}
 use lib.ListN.{length, length-append}
 use lib.IntN.{ℤ, pos}
 use Rattle.calculus.specs.Lists.{upd}
+use Rattle.calculus.specs.Syntax as Sy
 use Rattle.calculus.specs.Syntax.{Monoid, of, sum, max, some, all, Bin, plus, minus, times, equal, less, and, or}
 use Rattle.calculus.specs.Value.{Value, Values, vnil, vcons, num, truth, rec, coll, count, fromList, junk, fieldOf, binV, notV, rowsOf}
 use Rattle.calculus.specs.Monoid.{raw}
@@ -91,6 +92,7 @@ whole-fold m l h = go m (fold-made m l)
     go (of c) e = subst Whole (sym (raw-of c l)) (whole-coll l h)
     go sum e = subst Whole (sym e) (whole-num _)
     go max e = subst Whole (sym e) (whole-num _)
+    go Sy.min e = subst Whole (sym e) (whole-num _)
     go some e = subst Whole (sym e) (whole-truth _)
     go all e = subst Whole (sym e) (whole-truth _)
 

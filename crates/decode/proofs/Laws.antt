@@ -16,6 +16,7 @@ use mir.Val.{SFits, toZ, ofZ}
 use mir.Facts.{toZ-pos, toZ-ofZ}
 use borrow.Author.Tests.{ltb-true, ltb-false, lt-ltb, le-ltb, lt-leb, le-leb}
 use Rattle.calculus.specs.Lists.{pick}
+use Rattle.calculus.specs.Syntax as Sy
 use Rattle.calculus.specs.Syntax.{list, bag, set, of, sum, max, some, all}
 use Rattle.signed.proofs.Word.{by-test, fits}
 use Rattle.encoding.specs.Reader.{kinds, unknown}
@@ -54,13 +55,13 @@ pub no-kind : (k : ℕ) → Missed 0 k 18 → unknown ≡ getD kinds k unknown
 no-kind zero m = refl
 no-kind (suc k) m = let h : 19 ≤ suc k = omega (arith, past-all 0 (suc k) 18 (omega arith) m) in sym (List·getD-eq-default kinds unknown h)
 
-pub no-monoid : (a : ℕ) → Missed 1 a 6 → of list ≡ monoidAt a
+pub no-monoid : (a : ℕ) → Missed 1 a 7 → of list ≡ monoidAt a
 no-monoid zero m = refl
 no-monoid (suc zero) m = refl
-no-monoid (suc (suc a)) m = let h : 8 ≤ suc (suc a) = omega (arith, past-all 1 (suc (suc a)) 6 (omega arith) m) in sym (far a h)
+no-monoid (suc (suc a)) m = let h : 9 ≤ suc (suc a) = omega (arith, past-all 1 (suc (suc a)) 7 (omega arith) m) in sym (far a h)
   where
-    far : (x : ℕ) → 8 ≤ suc (suc x) → monoidAt (suc (suc x)) ≡ of list
-    far x h = List·getD-eq-default (of list ∷ of list ∷ of bag ∷ of set ∷ sum ∷ max ∷ some ∷ all ∷ []) (of list) h
+    far : (x : ℕ) → 9 ≤ suc (suc x) → monoidAt (suc (suc x)) ≡ of list
+    far x h = List·getD-eq-default (of list ∷ of list ∷ of bag ∷ of set ∷ sum ∷ max ∷ some ∷ all ∷ Sy.min ∷ []) (of list) h
 
 pub far-binder : (s : List ℕ) (x : ℕ) → most ≤ x → 0 ≡ binderWord s x
 unfolding binderWord pick

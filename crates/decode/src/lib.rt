@@ -107,6 +107,7 @@ fn monoid_at(a: u64) -> Monoid
         5 => Monoid::Max,
         6 => Monoid::Some,
         7 => Monoid::All,
+        8 => Monoid::Min,
         _ => Monoid::List,
     }
 }

@@ -44,7 +44,7 @@ abbrev pub notAnd : List ℕ
 notAnd = 0 ∷ 1 ∷ 2 ∷ 3 ∷ 4 ∷ 6 ∷ []
 
 abbrev pub notSome : List ℕ
-notSome = 0 ∷ 1 ∷ 2 ∷ 3 ∷ 4 ∷ 6 ∷ []
+notSome = 0 ∷ 1 ∷ 2 ∷ 3 ∷ 4 ∷ 6 ∷ 7 ∷ []
 
 abbrev pub undivided : List ℕ
 undivided = 0 ∷ 1 ∷ 2 ∷ 3 ∷ 4 ∷ 6 ∷ 8 ∷ 9 ∷ []
@@ -65,6 +65,7 @@ other-monoid Mo.Bag v w = refl
 other-monoid Mo.Set v w = refl
 other-monoid Mo.Sum v w = refl
 other-monoid Mo.Max v w = refl
+other-monoid Mo.Min v w = refl
 other-monoid Mo.Some v w = absurd (miss notSome 5 tt w)
 other-monoid Mo.All v w = refl
 

@@ -64,6 +64,7 @@ fn monoid_number(m: Monoid) -> u64
         Monoid::Max => 5,
         Monoid::Some => 6,
         Monoid::All => 7,
+        Monoid::Min => 0,
     }
 }
 

@@ -90,10 +90,13 @@ pub op-rest : (a : ℕ) → (a ≡ 1 → ⊥) → (a ≡ 2 → ⊥) → (a ≡ 3
 op-rest zero n1 n2 n3 n4 n5 n6 = refl
 op-rest (suc a) n1 n2 n3 n4 n5 n6 = sym (List·getD-eq-default operators Plus {n = suc a} (omega arith))
 
-pub monoid-rest : (a : ℕ) → (a ≡ 2 → ⊥) → (a ≡ 3 → ⊥) → (a ≡ 4 → ⊥) → (a ≡ 5 → ⊥) → (a ≡ 6 → ⊥) → (a ≡ 7 → ⊥) → Mo.List ≡ monoidAt a
-monoid-rest zero n2 n3 n4 n5 n6 n7 = refl
-monoid-rest (suc zero) n2 n3 n4 n5 n6 n7 = refl
-monoid-rest (suc (suc a)) n2 n3 n4 n5 n6 n7 = sym (List·getD-eq-default monoids Mo.List {n = suc (suc a)} (omega arith))
+monoid-far : (a : ℕ) → (suc (suc a) ≡ 2 → ⊥) → (suc (suc a) ≡ 3 → ⊥) → (suc (suc a) ≡ 4 → ⊥) → (suc (suc a) ≡ 5 → ⊥) → (suc (suc a) ≡ 6 → ⊥) → (suc (suc a) ≡ 7 → ⊥) → Mo.List ≡ monoidAt (suc (suc a))
+monoid-far a n2 n3 n4 n5 n6 n7 = sym (List·getD-eq-default monoids Mo.List {n = suc (suc a)} (omega arith))
+
+pub monoid-rest : (a : ℕ) → (a ≡ 0 → ⊥) → (a ≡ 2 → ⊥) → (a ≡ 3 → ⊥) → (a ≡ 4 → ⊥) → (a ≡ 5 → ⊥) → (a ≡ 6 → ⊥) → (a ≡ 7 → ⊥) → Mo.List ≡ monoidAt a
+monoid-rest zero n0 n2 n3 n4 n5 n6 n7 = absurd (n0 refl)
+monoid-rest (suc zero) n0 n2 n3 n4 n5 n6 n7 = refl
+monoid-rest (suc (suc a)) n0 n2 n3 n4 n5 n6 n7 = monoid-far a n2 n3 n4 n5 n6 n7
 
 -- ---- nodes
 -- P of each node of a list whose place, counted from j on, may be k

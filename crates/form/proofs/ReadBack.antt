@@ -11,6 +11,7 @@ use lib.ListN.{length, length-append}
 use lib.IntN.{ℤ, pos, negsuc}
 use lib.Signed.{mag}
 use Rattle.calculus.specs.Lists.{pick}
+use Rattle.calculus.specs.Syntax as Sy
 use Rattle.calculus.specs.Syntax.{list, bag, set, Monoid, of, sum, max, some, all, Bin, plus, minus, times, equal, less, and, or}
 use Rattle.normal_form.specs.Form.{Form, Forms, Clauses, num, truth, row, cell, rec, bin, negate, comp, fnil, fcons, done, gen, cond}
 use Rattle.normal_form.specs.Size.{nodes, nodesF, nodesC}
@@ -127,6 +128,7 @@ monoid-low (of bag) = refl
 monoid-low (of set) = refl
 monoid-low sum = refl
 monoid-low max = refl
+monoid-low Sy.min = refl
 monoid-low some = refl
 monoid-low all = refl
 
@@ -136,6 +138,7 @@ monoid-back (of bag) = refl
 monoid-back (of set) = refl
 monoid-back sum = refl
 monoid-back max = refl
+monoid-back Sy.min = refl
 monoid-back some = refl
 monoid-back all = refl
 

@@ -6,7 +6,7 @@ use Prim.Native.Nat.{ℕ, suc, _+_, _-_, _*_, _^_, _<_}
 use lib.IntN.{ℤ, pos, negsuc}
 use lib.Signed.{mag}
 use Rattle.calculus.specs.Lists.{pick}
-use Rattle.calculus.specs.Syntax.{list, bag, set, Monoid, of, sum, max, some, all, Bin, plus, minus, times, equal, less, and, or}
+use Rattle.calculus.specs.Syntax.{list, bag, set, Monoid, of, sum, max, min, some, all, Bin, plus, minus, times, equal, less, and, or}
 use Rattle.normal_form.specs.Form.{Form, Forms, Clauses, num, truth, row, cell, rec, bin, negate, comp, fnil, fcons, done, gen, cond}
 use Rattle.form.specs.Packing.{wordAt, pack}
 
@@ -31,7 +31,7 @@ unfoldable mutual
   sizeC (gen g k q) = suc (sizeC q)
   sizeC (cond t q) = suc (size t + sizeC q)
 
--- arguments: a number's distance from -2^31, an operator's and a monoid's number
+-- arguments: a number's distance from -2^31, an operator's and a monoid's number; that of min is 0, as 8 takes a fourth bit
 abbrev pub numberArg : ℤ → ℕ
 numberArg (pos n) = 0x80000000 + n
 numberArg (negsuc n) = 0x7fffffff - n
@@ -51,6 +51,7 @@ monoidArg (of bag) = 2
 monoidArg (of set) = 3
 monoidArg sum = 4
 monoidArg max = 5
+monoidArg min = 0
 monoidArg some = 6
 monoidArg all = 7
 

@@ -51,9 +51,9 @@ operators = Plus ∷ Minus ∷ Times ∷ Equal ∷ Less ∷ And ∷ Or ∷ []
 abbrev pub opAt : ℕ → Op
 opAt a = getD operators a Plus
 
--- "1 list, 2 bag, 3 set ..; 4 sum ..; 5 max ..; 6 some ..; 7 all"
+-- "1 list, 2 bag, 3 set ..; 4 sum ..; 5 max ..; 6 some ..; 7 all"; min is 0 here, as 8 takes a fourth bit
 abbrev pub monoids : List Monoid
-monoids = Mo.List ∷ Mo.List ∷ Mo.Bag ∷ Mo.Set ∷ Mo.Sum ∷ Mo.Max ∷ Mo.Some ∷ Mo.All ∷ []
+monoids = Mo.Min ∷ Mo.List ∷ Mo.Bag ∷ Mo.Set ∷ Mo.Sum ∷ Mo.Max ∷ Mo.Some ∷ Mo.All ∷ []
 
 abbrev pub monoidAt : ℕ → Monoid
 monoidAt a = getD monoids a Mo.List

@@ -116,6 +116,7 @@ pub fn monoid_of(a: u64) -> Monoid
     ensures { λ r. ⌜ r ≡ monoidAt a ⌝ }
 {
     match a {
+        0 => Monoid::Min,
         2 => Monoid::Bag,
         3 => Monoid::Set,
         4 => Monoid::Sum,

@@ -64,6 +64,7 @@ unfolding Narrow
 gathers-narrow (of c) σ τ a g = subst Narrow (sym g) a
 gathers-narrow sum σ τ a g = subst Narrow (sym (g .1)) tt
 gathers-narrow max σ τ a g = subst Narrow (sym (g .1)) tt
+gathers-narrow Sy.min σ τ a g = subst Narrow (sym (g .1)) tt
 gathers-narrow some σ τ a g = subst Narrow (sym (g .1)) tt
 gathers-narrow all σ τ a g = subst Narrow (sym (g .1)) tt
 

@@ -61,6 +61,7 @@ fn comprehension_shape(m: Monoid) -> Shape
         Monoid::Max => Shape::Word(Sort::Number),
         Monoid::Some => Shape::Word(Sort::Truth),
         Monoid::All => Shape::Word(Sort::Truth),
+        Monoid::Min => Shape::Word(Sort::Number),
     }
 }
 

@@ -8,10 +8,11 @@ use lib.Dec.{T, eqb, eqb→eq}
 use lib.IntN.{ℤ, pos}
 use lib.ListN.{length}
 use Rattle.calculus.specs.Lists.{guard, upd}
+use Rattle.calculus.specs.Syntax as Sy
 use Rattle.calculus.specs.Syntax.{Monoid, of, sum, max, some, all, Bin, plus, minus, times, equal, less, and, or}
 use Rattle.calculus.specs.Value.{Value, Values, toList, fromList, junk, asBool, nth, fieldOf, binV, notV, Tables, columnsOf, rowsOf}
 use Rattle.calculus.specs.Value as Va
-use Rattle.calculus.specs.Monoid.{start, step, foldBy, raw}
+use Rattle.calculus.specs.Monoid.{start, step, total, finish, foldBy, raw}
 use Rattle.calculus.specs.Meaning.{Env}
 use Rattle.calculus.proofs.Lists.{All, all-bind}
 use Rattle.calculus.proofs.Folds.{raw-of}
@@ -109,12 +110,12 @@ bin-of and v w = a-truth _
 bin-of or v w = a-truth _
 
 fold-of : (m : Monoid) (t : Ty) (l : List Value) → All (Of t) l → Of (gathered m t) (raw m l)
-unfolding gathered raw foldBy start step
+unfolding gathered raw foldBy total finish start step
 fold-of (of c) t l h = subst (Of (coll c t)) (sym (raw-of c l)) (a-collection c (from-all l h))
 fold-of sum t [] h = a-number _
 fold-of sum t (v ∷ l) h = a-number _
-fold-of max t [] h = a-number _
-fold-of max t (v ∷ l) h = a-number _
+fold-of max t l h = a-number _
+fold-of Sy.min t l h = a-number _
 fold-of some t [] h = a-truth _
 fold-of some t (v ∷ l) h = a-truth _
 fold-of all t [] h = a-truth _

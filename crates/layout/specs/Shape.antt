@@ -84,6 +84,7 @@ gatherOf Mo.Bag h = Elements Ki.Bag h
 gatherOf Mo.Set h = Elements Ki.Set h
 gatherOf Mo.Sum h = Word
 gatherOf Mo.Max h = Word
+gatherOf Mo.Min h = Word
 gatherOf Mo.Some h = Word
 gatherOf Mo.All h = Word
 

@@ -319,6 +319,7 @@ unfolding givesWay
 stays-false (Sy.of c) = refl
 stays-false Sy.sum = refl
 stays-false Sy.max = refl
+stays-false Sy.min = refl
 stays-false Sy.some = refl
 stays-false Sy.all = refl
 

@@ -221,6 +221,7 @@ fn gives_way(m: Monoid) -> bool
         Monoid::Max => false,
         Monoid::Some => true,
         Monoid::All => false,
+        Monoid::Min => false,
     }
 }
 

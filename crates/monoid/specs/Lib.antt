@@ -1,2 +1,2 @@
--- A monoid's start and combining step on words.
+-- A monoid's start, combining step and last step on words.
 pub mod Word

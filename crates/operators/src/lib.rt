@@ -44,6 +44,7 @@ pub fn sort_of(m: Monoid) -> Sort
         Monoid::Max => Sort::Number,
         Monoid::Some => Sort::Truth,
         Monoid::All => Sort::Truth,
+        Monoid::Min => Sort::Number,
     }
 }
 

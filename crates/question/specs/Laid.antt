@@ -55,7 +55,7 @@ abbrev mutual
   Laid s d a (negate t) = Laid s d a t × Node s d a (a + nodes t) not
   Laid s d a (comp m qs h) =
       LaidQ s (d + 1) a qs × Laid s (d + 1) (a + nodesQ qs) h × Node s d a (a + nodesQ qs + nodes h) comprehension ×
-      (monoidAt (argAt s (a + nodesQ qs + nodes h)) ≡ m) × (1 ≤ argAt s (a + nodesQ qs + nodes h)) × (argAt s (a + nodesQ qs + nodes h) ≤ 7)
+      (monoidAt (argAt s (a + nodesQ qs + nodes h)) ≡ m) × (1 ≤ argAt s (a + nodesQ qs + nodes h)) × (argAt s (a + nodesQ qs + nodes h) ≤ 8)
   Laid s d a (table k) = Node s d a a tableK × (argAt s a ≡ k)
 
   pub LaidL : List ℕ → ℕ → ℕ → Terms → Type 0

@@ -8,6 +8,7 @@ use lib.Dec.{leb, ltb, eqb}
 use lib.ListN.{getD}
 use lib.IntN.{ℤ, pos, negsuc}
 use Rattle.calculus.specs.Lists.{pick}
+use Rattle.calculus.specs.Syntax as Sy
 use Rattle.calculus.specs.Syntax.{Monoid, of, list, bag, set, sum, max, some, all, Term, Terms, Quals, num, truth, name, field, rec, bin, negate, comp, table, tnil, tcons, qnil, gen, bind, cond}
 use Rattle.encoding.specs.Reader.{Kind, kinds, unknown, number, truthK, nameK, fieldK, record′, not, tableK, comprehension, generator, binding, condition, two-terms}
 use Rattle.question.specs.Packing.{kindOf, argOf, startOf, nodeWord}
@@ -16,9 +17,9 @@ use Rattle.question.specs.Packing.{kindOf, argOf, startOf, nodeWord}
 abbrev pub numberOf : ℕ → ℤ
 numberOf a = elim (ltb a 0x80000000) [ true ↦ negsuc (0x7fffffff - a) | false ↦ pos (a - 0x80000000) ]
 
--- monoids 1 to 7
+-- monoids 1 to 8
 abbrev pub monoidAt : ℕ → Monoid
-monoidAt k = getD (of list ∷ of list ∷ of bag ∷ of set ∷ sum ∷ max ∷ some ∷ all ∷ []) k (of list)
+monoidAt k = getD (of list ∷ of list ∷ of bag ∷ of set ∷ sum ∷ max ∷ some ∷ all ∷ Sy.min ∷ []) k (of list)
 
 -- the kind and the argument of node i, and where the subtree of the node that ends at e begins, below e in any case
 abbrev pub kindAt : List ℕ → ℕ → Kind

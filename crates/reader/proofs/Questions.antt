@@ -173,8 +173,8 @@ module _ {l : Bytes} {s s′ : List ℕ} {p : Place} {i : Item} (I : ItemRead l 
 abbrev MonoidAt : ℕ → Type 0
 MonoidAt b = getD monoids b (refused 22) ≡ got (monoidAt b)
 
-monoid-is : (b : ℕ) → (b ≡ 0 → ⊥) → b ≤ 7 → MonoidAt b
-monoid-is b h l = from-at MonoidAt 1 7 (refl, (refl, (refl, (refl, (refl, (refl, (refl, tt))))))) b (omega arith) (omega arith)
+monoid-is : (b : ℕ) → (b ≡ 0 → ⊥) → b ≤ 8 → MonoidAt b
+monoid-is b h l = from-at MonoidAt 1 8 (refl, (refl, (refl, (refl, (refl, (refl, (refl, (refl, tt)))))))) b (omega arith) (omega arith)
 
 module _ (R : Reader) (c : Bytes) (n : ℕ) where
   no-monoid : length c ≡ 0 → comprehends R c n ≡ refused 22
@@ -203,7 +203,7 @@ module _ {c : Bytes} {s : List ℕ} {p : Place} {b : ℕ} (some : length c ≡ 0
       let z : byte c 0 ≡ 0 = sym (M .is) ∙ e in
       record { is = with-monoid (readPart (p .levels)) c (p .left) some ∙ ap (λ (b : ℕ). andThen (getD monoids b (refused 22)) (λ m. E.parts (readPart (p .levels)) m (p .left) (drop 1 c) (p .left))) z; kept = kept-refl }
 
-  pub comprehension-over : 7 < b → ComprehensionRead c s p s (Filled.Refused 22)
+  pub comprehension-over : 8 < b → ComprehensionRead c s p s (Filled.Refused 22)
   unfolding andThen
   comprehension-over h =
       let z : getD monoids (byte c 0) (refused 22) ≡ refused 22 = List·getD-eq-default monoids (refused 22) {n = byte c 0} (omega (arith, M .is)) in
@@ -213,7 +213,7 @@ module _ {c : Bytes} {s : List ℕ} {p : Place} {b : ℕ} (some : length c ≡ 0
 abbrev pub insideOf : Place → Place
 insideOf p = record { levels = p .levels; left = p .left; node = p .node; depth = p .depth + 1 }
 
-module _ (p : Place) {c : Bytes} {s s′ : List ℕ} {b : ℕ} {r : Filled} (some : length c ≡ 0 → ⊥) (M : ByteAt c 0 b) (l : b ≡ 0 → ⊥) (h : b ≤ 7) (P : PartsRead (after c 1) s (insideOf p) s′ r) where
+module _ (p : Place) {c : Bytes} {s s′ : List ℕ} {b : ℕ} {r : Filled} (some : length c ≡ 0 → ⊥) (M : ByteAt c 0 b) (l : b ≡ 0 → ⊥) (h : b ≤ 8) (P : PartsRead (after c 1) s (insideOf p) s′ r) where
   comprehension-by : {x : Monoid → E.Read Question} → rounds (insideOf p) (after c 1) x → comprehends (readPart (p .levels)) c (p .left) ≡ x (monoidAt b)
   unfolding andThen
   comprehension-by {x} f =
@@ -334,7 +334,7 @@ finishing-terms M T e hk hx =
 pub few-terms : {most : ℕ} {l : Bytes} {s s′ : List ℕ} {p : Place} {t : Several} {count left i : ℕ} → Room 1 s p → TermsRead most l s p s′ t → t ≡ Several.Read count left i → count < 8589934592
 few-terms M T e = let F = terms-found T e .0 in omega (arith, F .many, F .spent, M .nodes, count-nodes (F .trees))
 
-pub finishing-parts : (p : Place) {l : Bytes} {s s′ : List ℕ} {r : Filled} {left i b : ℕ} → Room 1 s p → PartsRead l s (insideOf p) s′ r → r ≡ Filled.Read left i → b ≤ 7 → Finishing s′ 14 b p i
+pub finishing-parts : (p : Place) {l : Bytes} {s s′ : List ℕ} {r : Filled} {left i b : ℕ} → Room 1 s p → PartsRead l s (insideOf p) s′ r → r ≡ Filled.Read left i → b ≤ 8 → Finishing s′ 14 b p i
 finishing-parts p {l} {s′ = s′} M P e h =
     let F = subst (PartsBy l s′ (insideOf p)) e (P .is) in
     let n = F .end in

@@ -159,7 +159,7 @@ fn comprehension(c: &[u8], s: &mut [u64], p: Place) -> Filled
     if m == 0 {
         return Filled::Refused(22);
     }
-    if 7 < m {
+    if 8 < m {
         return Filled::Refused(22);
     }
     let inside = Place {

@@ -72,6 +72,7 @@ pub fn joined(v: bool, m: Monoid) -> bool
         Monoid::Max => true,
         Monoid::Some => true,
         Monoid::All => true,
+        Monoid::Min => true,
     }
 }
 

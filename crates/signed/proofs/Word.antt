@@ -102,7 +102,7 @@ natural (pos n) e = refl
 natural (negsuc n) e = absurd (let y : _≡_ {A = ℕ} 0 1 = cc in omega arith)
 
 -- ... as they come of the machine's words
-module _ {z : ℤ} (f : SFits w64 z) (p : natAbs z ≤ 2 ^ 62) where
+module _ {z : ℤ} (f : SFits w64 z) (p : natAbs z ≤ 2 ^ 62 + 1) where
   pub negative-ok : SFits w64 (toZ w64 (ofZ w64 (pos 0)) -ℤ toZ w64 (ofZ w64 z))
   negative-ok = sub-ok (sfits-lit {z = pos 0} tt) f (omega (arith, mag-abs z))
 
@@ -144,12 +144,27 @@ eqZ-no (negsuc a) (negsuc b) h = ne-eqb a b (λ e. h (ap negsuc e))
 pub eqZ-yes : (a b : ℤ) → a ≡ b → eqZ a b ≡ true
 eqZ-yes a b e = subst (λ (x : ℤ). eqZ a x ≡ true) e (eqZ-refl a)
 
+pub eqZ-same : (a b : ℤ) → eqZ a b ≡ true → a ≡ b
+unfolding eqZ
+eqZ-same (pos a) (pos b) e = ap pos (eqb-true a b e)
+eqZ-same (pos a) (negsuc b) e = absurd (true≢false (sym e))
+eqZ-same (negsuc a) (pos b) e = absurd (true≢false (sym e))
+eqZ-same (negsuc a) (negsuc b) e = ap negsuc (eqb-true a b e)
+
+-- as the machine's words are tested
+module _ {a b : ℤ} (fa : SFits w64 a) (fb : SFits w64 b) where
+  pub eq-yes : ofZ w64 a ≡ ofZ w64 b → eqZ a b ≡ true
+  eq-yes e = eqZ-yes a b (eq-is fa fb e)
+
+  pub eq-no : (ofZ w64 a ≡ ofZ w64 b → ⊥) → eqZ a b ≡ false
+  eq-no h = eqZ-no a b (ne-is fa fb h)
+
 pub same-is : {a b : ℤ} → SFits w64 a → SFits w64 b → eqb (ofZ w64 a) (ofZ w64 b) ≡ eqZ a b
 same-is {a} {b} fa fb =
     by-test
     (eqb (ofZ w64 a) (ofZ w64 b))
-    (λ e. e ∙ sym (eqZ-yes a b (eq-is fa fb (eqb-true (ofZ w64 a) (ofZ w64 b) e))))
-    (λ e. e ∙ sym (eqZ-no a b (ne-is fa fb (eqb-false (ofZ w64 a) (ofZ w64 b) e))))
+    (λ e. e ∙ sym (eq-yes fa fb (eqb-true (ofZ w64 a) (ofZ w64 b) e)))
+    (λ e. e ∙ sym (eq-no fa fb (eqb-false (ofZ w64 a) (ofZ w64 b) e)))
 
 -- ---- order as a test
 lt-le : (a b : ℤ) → T (ltZ a b) → T (leZ a b)

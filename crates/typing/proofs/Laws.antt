@@ -85,6 +85,7 @@ may-bag Mo.Bag = refl
 may-bag Mo.Set = refl
 may-bag Mo.Sum = refl
 may-bag Mo.Max = refl
+may-bag Mo.Min = refl
 may-bag Mo.Some = refl
 may-bag Mo.All = refl
 
@@ -95,6 +96,7 @@ may-set Mo.Bag h = refl
 may-set Mo.Set h = absurd (h refl)
 may-set Mo.Sum h = refl
 may-set Mo.Max h = refl
+may-set Mo.Min h = refl
 may-set Mo.Some h = refl
 may-set Mo.All h = refl
 
@@ -105,6 +107,7 @@ may-set-set Mo.Bag h = absurd (omega arith)
 may-set-set Mo.Set h = refl
 may-set-set Mo.Sum h = absurd (omega arith)
 may-set-set Mo.Max h = refl
+may-set-set Mo.Min h = refl
 may-set-set Mo.Some h = refl
 may-set-set Mo.All h = refl
 
@@ -189,6 +192,7 @@ number-low Mo.Bag h = refl
 number-low Mo.Set h = refl
 number-low Mo.Sum h = absurd (omega arith)
 number-low Mo.Max h = absurd (omega arith)
+number-low Mo.Min h = absurd (omega arith)
 number-low Mo.Some h = absurd (omega arith)
 number-low Mo.All h = absurd (omega arith)
 
@@ -199,6 +203,7 @@ number-high Mo.Bag h = absurd (omega arith)
 number-high Mo.Set h = absurd (omega arith)
 number-high Mo.Sum h = refl
 number-high Mo.Max h = refl
+number-high Mo.Min h = refl
 number-high Mo.Some h = refl
 number-high Mo.All h = refl
 

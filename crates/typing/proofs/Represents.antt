@@ -8,6 +8,7 @@ use lib.Dec.{ltb, leb·zero, leb·suc-zero, leb·suc-suc}
 use lib.ListN.{length}
 use borrow.Author.Tests.{ltb-true}
 use Rattle.calculus.specs.Lists.{pick}
+use Rattle.calculus.specs.Syntax as Sy
 use Rattle.calculus.specs.Syntax.{Collection, Monoid, of, sum, max, some, all, Bin, plus, minus, times, equal, less, and, or}
 use Rattle.calculus.specs.Value.{Tables, kindOf, columnsOf}
 use Rattle.checks.specs.Types.{Ty, Tys, number, truth, record′, coll, ynil, ycons, Typed, wrong, has, Typeds, wrongs, hass, cells, typeAt, fieldType, ofNumber, ofTruth, binType, gathers, compType, ranges, typedAs, record″, consType, isTyped}
@@ -40,6 +41,7 @@ unfolding compType gathers ofNumber ofTruth
 no-comp (of c) = refl
 no-comp sum = refl
 no-comp max = refl
+no-comp Sy.min = refl
 no-comp some = refl
 no-comp all = refl
 
@@ -192,6 +194,7 @@ module _ (J : Rule) (T : Tables) (N : Nodes) where
   rep-comp (of c) i h cs a e p = gathered c i h cs a e p (τ h) refl
   rep-comp sum i h cs a e p = rep-number a (τ h) p
   rep-comp max i h cs a e p = rep-number a (τ h) p
+  rep-comp Sy.min i h cs a e p = rep-number a (τ h) p
   rep-comp some i h cs a e p = rep-truth a (τ h) p
   rep-comp all i h cs a e p = rep-truth a (τ h) p
 
@@ -200,6 +203,7 @@ module _ (J : Rule) (T : Tables) (N : Nodes) where
   within-comp (of c) i a = within-pick i (fits a) (Coll i) (omega arith)
   within-comp sum i a = within-pick i (isNumber a) Number tt
   within-comp max i a = within-pick i (isNumber a) Number tt
+  within-comp Sy.min i a = within-pick i (isNumber a) Number tt
   within-comp some i a = within-pick i (isTruth a) Truth tt
   within-comp all i a = within-pick i (isTruth a) Truth tt
 

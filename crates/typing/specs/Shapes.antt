@@ -4,6 +4,7 @@ use mathlib.Core.Bool.{Bool, true, false, _&&_}
 use Prim.Native.Nat.{ℕ, zero, suc}
 use lib.Dec.{ltb, eqb}
 use Rattle.calculus.specs.Lists.{pick}
+use Rattle.calculus.specs.Syntax as Sy
 use Rattle.calculus.specs.Syntax.{Collection, list, Monoid, of, sum, max, some, all, Bin, plus, minus, times, equal, less, and, or}
 use Rattle.nodes.specs.Node.{Node, Nodes, nnum, ntruth, nname, nfield, nrec, nbin, nnegate, ncomp, ntable, ngen, nbind, ncond, nbad}
 use Rattle.typing.specs.declared.Shape.{Shape}
@@ -55,6 +56,7 @@ abbrev pub collects : Monoid → Collection
 collects (of c) = c
 collects sum = list
 collects max = list
+collects Sy.min = list
 collects some = list
 collects all = list
 
@@ -154,11 +156,12 @@ numberShape a = pick (isNumber a) Number Wrong
 abbrev pub gathersShape : ℕ → Shape → Shape
 gathersShape i a = pick (fits a) (Coll i) Wrong
 
--- "Sum and max have number heads, some and all truth heads, the collections any head."
+-- "Sum and max have number heads, some and all truth heads, the collections any head." Min as max.
 unfoldable pub compShape : ℕ → Monoid → Shape → Shape
 compShape i (of c) a = gathersShape i a
 compShape i sum a = numberShape a
 compShape i max a = numberShape a
+compShape i Sy.min a = numberShape a
 compShape i some a = truthShape a
 compShape i all a = truthShape a
 

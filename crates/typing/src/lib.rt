@@ -243,7 +243,7 @@ fn element(s: &[u64], a: Shape) -> Shape
     }
 }
 
-// "A generator over a bag may not stand in a list; one over a set only in set, max, some or all."
+// "A generator over a bag may not stand in a list; one over a set only in set, max, some or all." Min as max.
 fn may_stand(c: u64, m: Monoid) -> bool
     ensures { λ r. ⌜ r ≡ mayStand (collectionBy c) (monoidOf m) ⌝ }
 {
@@ -387,7 +387,7 @@ fn quals_fit(s: &[u64], i: usize, m: Monoid, rule: bool) -> bool
     true
 }
 
-// "Sum and max have number heads, some and all truth heads, the collections any head."
+// "Sum and max have number heads, some and all truth heads, the collections any head." Min as max.
 fn comprehends(i: usize, m: Monoid, a: Shape) -> Shape
     ensures { λ r. ⌜ r ≡ compShape i (monoidOf m) a ⌝ }
 {
@@ -399,6 +399,7 @@ fn comprehends(i: usize, m: Monoid, a: Shape) -> Shape
         Monoid::Max => number(a),
         Monoid::Some => truth(a),
         Monoid::All => truth(a),
+        Monoid::Min => number(a),
     }
 }
 

@@ -6,6 +6,7 @@ use mathlib.Core.List.{List, [], _∷_, map}
 use Prim.Native.Nat.{ℕ, suc, _≤_}
 use native.Mathlib.Omega.{arith}
 use lib.ListN.{length}
+use Rattle.calculus.specs.Syntax as Sy
 use Rattle.calculus.specs.Syntax.{Collection, list, bag, set, Monoid, of, sum, max, some, all}
 use Rattle.calculus.specs.Value.{Value, Values, vnil, vcons, count, toList, fromList}
 use Rattle.calculus.specs.Value as Va
@@ -103,6 +104,7 @@ unfolding gathered refold
 gathered-same (of c) t u h v = ap (λ (f : Value → Value). onParts Va.rec (λ vs. foldBy ordered (of c) (map f (toList vs))) v) (fun-ext h)
 gathered-same sum t u h v = refl
 gathered-same max t u h v = refl
+gathered-same Sy.min t u h v = refl
 gathered-same some t u h v = refl
 gathered-same all t u h v = refl
 

@@ -23,8 +23,11 @@ returns-6 : tie.Need-returns-6
 returns-6 c = search needs
 
 returns-7 : tie.Need-returns-7
-returns-7 c = no-monoid (c .before .args .a) (c .match .rest)
+returns-7 c = search needs
+
+returns-8 : tie.Need-returns-8
+returns-8 c = no-monoid (c .before .args .a) (c .match .rest)
 
 pub monoid-at-spec : {M : Type 1} → statement M
 monoid-at-spec =
-    tie.close (tie.spec returns returns-2 returns-3 returns-4 returns-5 returns-6 returns-7)
+    tie.close (tie.spec returns returns-2 returns-3 returns-4 returns-5 returns-6 returns-7 returns-8)

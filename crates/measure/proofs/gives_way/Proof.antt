@@ -56,6 +56,10 @@ returns-7 : tie.Need-returns-7
 unfolding givesWay
 returns-7 c = sym (ap (λ m. givesWay (monoidOf m) true) (c .enum-told7 .given .1))
 
+returns-8 : tie.Need-returns-8
+unfolding givesWay
+returns-8 c = sym (ap (λ m. givesWay (monoidOf m) true) (c .enum-told8 .given .1))
+
 pub gives-way-spec : {M : Type 1} → statement M
 gives-way-spec =
     tie.close
@@ -67,10 +71,12 @@ gives-way-spec =
     enum-told-5
     enum-told-6
     enum-told-7
+    (λ c. search needs)
     returns
     returns-2
     returns-3
     returns-4
     returns-5
     returns-6
-    returns-7)
+    returns-7
+    returns-8)

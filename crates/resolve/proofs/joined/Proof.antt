@@ -59,6 +59,10 @@ returns-8 : tie.Need-returns-8
 unfolding idempotent
 returns-8 c = joined-by Mo.All (c .before .before .if1 .left) (c .enum-told7 .given .1) refl
 
+returns-9 : tie.Need-returns-9
+unfolding idempotent
+returns-9 c = joined-by Mo.Min (c .before .before .if1 .left) (c .enum-told8 .given .1) refl
+
 pub joined-spec : {M : Type 1} → statement M
 joined-spec =
     tie.close
@@ -71,10 +75,12 @@ joined-spec =
     enum-told-5
     enum-told-6
     enum-told-7
+    (λ c. search needs)
     returns-2
     returns-3
     returns-4
     returns-5
     returns-6
     returns-7
-    returns-8)
+    returns-8
+    returns-9)

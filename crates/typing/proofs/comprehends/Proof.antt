@@ -35,10 +35,16 @@ returns-7 : tie.Need-returns-7
 unfolding compShape
 returns-7 c = c .truth2 .ensures ∙ sym (ap (λ (m : Monoid). compShape (c .before .before .before .args .i) (monoidOf m) (c .before .before .before .args .a)) (c .before .enum-told7 .given .1))
 
+returns-8 : tie.Need-returns-8
+unfolding compShape
+returns-8 c = c .number3 .ensures ∙ sym (ap (λ (m : Monoid). compShape (c .before .before .before .args .i) (monoidOf m) (c .before .before .before .args .a)) (c .before .enum-told8 .given .1))
+
 pub comprehends-spec : {M : Type 1} → statement M
 comprehends-spec =
     tie.close
     (tie.spec
+    (λ c. search needs)
+    (λ c κs. search needs)
     (λ c. search needs)
     (λ c κs. search needs)
     (λ c. search needs)
@@ -59,4 +65,5 @@ comprehends-spec =
     returns-4
     returns-5
     returns-6
-    returns-7)
+    returns-7
+    returns-8)

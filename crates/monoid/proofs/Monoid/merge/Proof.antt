@@ -1,18 +1,17 @@
 use borrow.Author.Needs.{needs}
-use mathlib.Core.Path.{_≡_, refl, sym, ap, subst, _∙_}
+use mathlib.Core.Path.{_≡_, refl, sym, ap, ap₂, subst, _∙_}
 use mathlib.Core.Bool.{Bool, true, false}
 use Prim.Native.Nat.{_<_, _^_}
 use lib.IntN.{ℤ, pos, _+ℤ_}
-use lib.Signed.{mag}
+use lib.Signed.{mag, ltZ}
 use mir.Syntax.{w64}
 use mir.Val.{SFits, toZ, ofZ}
 use mir.Facts.{toZ-ofZ, sfits-lit}
 use Rattle.calculus.specs.Lists.{pick}
 use Rattle.calculus.specs.Value.{eqZ}
-use Rattle.calculus.specs.Monoid.{greater}
-use Rattle.signed.proofs.Word.{sum-ok, sum-is, lt-is, eq-is, ne-is, eqZ-yes, eqZ-no}
+use Rattle.signed.proofs.Word.{fits, sum-ok, sum-is, eq-yes, eq-no}
 use Rattle.monoid.specs.declared.Monoid.{Monoid}
-use Rattle.monoid.specs.Word.{monoidOf, mergeWord}
+use Rattle.monoid.specs.Word.{monoidOf, chosen, mergeWord}
 use Rattle.monoid.proofs.Monoid.merge.Statement.{statement}
 use Rattle.monoid.proofs.Monoid.merge.Tie as tie
 
@@ -42,13 +41,13 @@ picked p q h = sym (ap (λ (v : Bool). pick v p q) h)
 
 module _ {a : ℤ} (f : SFits w64 a) where
   is-zero : ofZ w64 a ≡ ofZ w64 (pos 0) → eqZ a (pos 0) ≡ true
-  is-zero e = eqZ-yes a (pos 0) (eq-is f (sfits-lit {z = pos 0} tt) e)
+  is-zero e = eq-yes f (sfits-lit {z = pos 0} tt) e
 
   not-zero : (ofZ w64 a ≡ ofZ w64 (pos 0) → ⊥) → eqZ a (pos 0) ≡ false
-  not-zero h = eqZ-no a (pos 0) (ne-is f (sfits-lit {z = pos 0} tt) h)
+  not-zero h = eq-no f (sfits-lit {z = pos 0} tt) h
 
 pub merge-spec : {M : Type 1} → statement M
-unfolding mergeWord greater pick
+unfolding mergeWord pick
 merge-spec =
     tie.close
     (tie.spec
@@ -61,18 +60,22 @@ merge-spec =
     (λ c. search needs)
     (λ c. adds-ok (c .before .before) (c .enum-told4 .given .1) refl)
     (λ c. search needs)
+    (λ c κs. search needs)
     (λ c. search needs)
     (λ c. search needs)
+    (λ c. search needs)
+    (λ c κs. search needs)
     (λ c. adds (c .before .before) (c .enum-told .given .1) refl)
     (λ c. adds (c .before .before) (c .enum-told2 .given .1) refl)
     (λ c. adds (c .before .before) (c .enum-told3 .given .1) refl)
     (λ c. adds (c .before .before) (c .enum-told4 .given .1) refl)
     -- max
-    (λ c. let z = c .before .before .before in answers z (c .before .enum-told5 .given .1) (z .fits .b) (picked (z .args .b) (z .args .a) (lt-is (z .fits .a) (z .fits .b) (c .if1 .taken))))
-    (λ c. let z = c .before .before .before in answers z (c .before .enum-told5 .given .1) (z .fits .a) (picked (z .args .b) (z .args .a) (lt-is (z .fits .a) (z .fits .b) (c .if1 .left))))
+    (λ c. let z = c .before .before .before in answers z (c .before .enum-told5 .given .1) (fits (c .choose .ok)) (c .choose .ensures ∙ ap₂ (λ (x y : ℤ). chosen x y (ltZ x y)) (toZ-ofZ (z .fits .a)) (toZ-ofZ (z .fits .b))))
     -- some
-    (λ c. let z = c .before .before .before in answers z (c .before .enum-told6 .given .1) (z .fits .b) (picked (z .args .b) (z .args .a) (is-zero (z .fits .a) (c .if2 .taken))))
-    (λ c. let z = c .before .before .before in answers z (c .before .enum-told6 .given .1) (z .fits .a) (picked (z .args .b) (z .args .a) (not-zero (z .fits .a) (c .if2 .left))))
+    (λ c. let z = c .before .before .before in answers z (c .before .enum-told6 .given .1) (z .fits .b) (picked (z .args .b) (z .args .a) (is-zero (z .fits .a) (c .if1 .taken))))
+    (λ c. let z = c .before .before .before in answers z (c .before .enum-told6 .given .1) (z .fits .a) (picked (z .args .b) (z .args .a) (not-zero (z .fits .a) (c .if1 .left))))
     -- all
-    (λ c. let z = c .before .before .before in answers z (c .before .enum-told7 .given .1) (z .fits .a) (picked (z .args .a) (z .args .b) (is-zero (z .fits .a) (c .if3 .taken))))
-    (λ c. let z = c .before .before .before in answers z (c .before .enum-told7 .given .1) (z .fits .b) (picked (z .args .a) (z .args .b) (not-zero (z .fits .a) (c .if3 .left)))))
+    (λ c. let z = c .before .before .before in answers z (c .before .enum-told7 .given .1) (z .fits .a) (picked (z .args .a) (z .args .b) (is-zero (z .fits .a) (c .if2 .taken))))
+    (λ c. let z = c .before .before .before in answers z (c .before .enum-told7 .given .1) (z .fits .b) (picked (z .args .a) (z .args .b) (not-zero (z .fits .a) (c .if2 .left))))
+    -- min
+    (λ c. let z = c .before .before .before in answers z (c .before .enum-told8 .given .1) (fits (c .choose2 .ok)) (c .choose2 .ensures ∙ ap₂ (λ (x y : ℤ). chosen x y (ltZ y x)) (toZ-ofZ (z .fits .a)) (toZ-ofZ (z .fits .b)))))
