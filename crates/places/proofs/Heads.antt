@@ -49,6 +49,7 @@ single-comp Mv.Sum = tt
 single-comp Mv.Max = tt
 single-comp Mv.Some = tt
 single-comp Mv.All = tt
+single-comp Mv.Min = tt
 
 pub own-part : {t u : PTerm} → t ≡ u → parts u ≡ u ∷ [] → parts t ≡ t ∷ []
 own-part {t} {u} e o = subst (λ (y : PTerm). parts y ≡ y ∷ []) (sym e) o

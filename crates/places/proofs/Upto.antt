@@ -4,6 +4,7 @@ use mathlib.Core.List.{List}
 use mathlib.Core.Bool.{true}
 use Prim.Native.Nat.{ℕ, zero, suc, pred, _+_, _≤_, _<_}
 use native.Mathlib.Omega.{arith}
+use Rattle.calculus.specs.Syntax as Sy
 use Rattle.calculus.specs.Syntax.{Monoid, of, list, bag, set, sum, max, some, all}
 use Rattle.encoding.specs.Record.{Bytes}
 use Rattle.normal_form.specs.Form.{Form, Forms, Clauses, num, truth, row, cell, rec, bin, negate, comp, fnil, fcons}
@@ -29,6 +30,7 @@ abbrev unlessCollection : Monoid → Type 0 → Type 0
 unlessCollection (of c) A = Unit {0}
 unlessCollection sum A = A
 unlessCollection max A = A
+unlessCollection Sy.min A = A
 unlessCollection some A = A
 unlessCollection all A = A
 
@@ -83,6 +85,7 @@ module _ (d : Bytes) (s : List ℕ) (r : Row) (b : ℕ) where
   comp-agree (of set) q u i f h n l v a p k = skipped (comp (of set) q u) i f h n l p k (ap shapeOf (h .0))
   comp-agree sum q u i f h n l v a p k = written (comp sum q u) i f h n l p k (Sh.Word So.Number) tt v a (ap shapeOf (h .0))
   comp-agree max q u i f h n l v a p k = written (comp max q u) i f h n l p k (Sh.Word So.Number) tt v a (ap shapeOf (h .0))
+  comp-agree Sy.min q u i f h n l v a p k = written (comp Sy.min q u) i f h n l p k (Sh.Word So.Number) tt v a (ap shapeOf (h .0))
   comp-agree some q u i f h n l v a p k = written (comp some q u) i f h n l p k (Sh.Word So.Truth) tt v a (ap shapeOf (h .0))
   comp-agree all q u i f h n l v a p k = written (comp all q u) i f h n l p k (Sh.Word So.Truth) tt v a (ap shapeOf (h .0))
 

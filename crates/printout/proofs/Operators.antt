@@ -8,7 +8,7 @@ use borrow.Author.Tests.{eqb-true, leb-true}
 use lib.Dec.{eqb}
 use lib.ListN.{length, length-append}
 use Rattle.calculus.specs.Lists.{pick}
-use Rattle.calculus.specs.Syntax.{list, bag, set, Monoid, of, sum, max, some, all, and}
+use Rattle.calculus.specs.Syntax.{list, bag, set, Monoid, of, sum, max, min, some, all, and}
 use Rattle.normal_form.specs.Form.{Form, Forms, Clauses, NormalForm, asForm, num, truth, row, cell, rec, bin, negate, comp, fnil, fcons, done, gen, cond}
 use Rattle.normal_form.specs.Size.{nodes, nodesF, nodesC, sizeFits}
 use Rattle.form.specs.Flat.{Fits, FitsF, FitsC}
@@ -264,6 +264,7 @@ monoid-most (of bag) = omega arith
 monoid-most (of set) = omega arith
 monoid-most sum = omega arith
 monoid-most max = omega arith
+monoid-most min = omega arith
 monoid-most some = omega arith
 monoid-most all = omega arith
 

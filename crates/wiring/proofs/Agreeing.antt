@@ -4,6 +4,7 @@ use mathlib.Core.Path.{_≡_, refl, sym, ap, subst, _∙_}
 use mathlib.Core.Bool.{false}
 use mathlib.Core.List.{List}
 use Prim.Native.Nat.{ℕ, suc, _+_, _≤_}
+use Rattle.calculus.specs.Syntax as Sy
 use Rattle.calculus.specs.Syntax.{Monoid, of, sum, max, some, all}
 use Rattle.calculus.specs.Value.{Value}
 use Rattle.encoding.specs.Record.{Bytes}
@@ -23,7 +24,6 @@ use Rattle.links.specs.Spots.{Spots}
 use Rattle.links.specs.Alike.{fuel}
 use Rattle.environment.specs.Env.{envOf, tablesIn}
 use Rattle.environment.proofs.Frame.{node-same, form-same}
-use Rattle.operators.specs.Sorts.{sortOf}
 use Rattle.places.specs.Agrees.{heldAt, Kept}
 use Rattle.places.proofs.Forms.{tree-is, AgreesOn, AgreesOnC}
 use Rattle.places.proofs.Upto.{AgreesUpto, AgreesUptoF}
@@ -51,7 +51,7 @@ module _ (d : Bytes) (p : Spots) (b s : List ℕ) (same : (i : ℕ) → wordAt s
       let v : Value = heldAt (markAt s i) r in
       let x : monoidBy (nodeAt s i) ≡ m = ap monoidBy (node-same s b same i ∙ L .0) ∙ monoid-back m in
       let t : formTree fuel s i ≡ comp m q u = form-same s b same fuel i ∙ tree-is b (comp m q u) i fuel L n (omega arith) in
-      subst (λ (y : Form). Kept s i (sortOf m) y v) t (subst (λ (y : Monoid). Kept s i (sortOf y) (formTree fuel s i) v) x (end-held i N .kept (ap collects x ∙ e)))
+      subst (λ (y : Form). Kept s i m y v) t (subst (λ (y : Monoid). Kept s i y (formTree fuel s i) v) x (end-held i N .kept (ap collects x ∙ e)))
 
   -- ---- terms of one word
   mutual
@@ -83,6 +83,7 @@ module _ (d : Bytes) (p : Spots) (b s : List ℕ) (same : (i : ℕ) → wordAt s
   comp-upto e (of c) q u i L n h = tt
   comp-upto e sum q u i L n h = λ l. comp-agrees sum q u i L n refl (h l)
   comp-upto e max q u i L n h = λ l. comp-agrees max q u i L n refl (h l)
+  comp-upto e Sy.min q u i L n h = λ l. comp-agrees Sy.min q u i L n refl (h l)
   comp-upto e some q u i L n h = λ l. comp-agrees some q u i L n refl (h l)
   comp-upto e all q u i L n h = λ l. comp-agrees all q u i L n refl (h l)
 

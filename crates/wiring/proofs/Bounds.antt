@@ -7,6 +7,7 @@ use mathlib.Core.List.{List, [], _∷_}
 use mathlib.Core.Bool.{true}
 use Prim.Native.Nat.{ℕ, pred, _+_, _*_, _^_, _≤_, _<_}
 use lib.ListN.{length}
+use Rattle.calculus.specs.Syntax as Sy
 use Rattle.calculus.specs.Syntax.{Monoid, of, sum, max, some, all}
 use Rattle.calculus.specs.Value.{Tables, rowsOf}
 use Rattle.normal_form.specs.Form.{Form, Forms, Clauses, num, truth, row, cell, rec, bin, negate, comp, fnil, fcons, done, gen, cond}
@@ -28,7 +29,7 @@ use Rattle.links.specs.Spots.{Spots, end, loop, inner, compOf, loopsAt, gensAt,
 use Rattle.links.specs.Alike.{fuel}
 use Rattle.links.proofs.Joined.{comp-own}
 use Rattle.operators.specs.Sorts.{sortOf, wordBound, mergeBound}
-use Rattle.operators.proofs.Words.{more-words, comp-small}
+use Rattle.operators.proofs.Words.{more-words, comp-within}
 use Rattle.places.proofs.Heads.{term-same}
 use Rattle.places.proofs.Forms.{tree-is, clauses-are, head-node}
 use Rattle.cursors.specs.Cursors.{most}
@@ -63,12 +64,13 @@ Fit s T (end c) = Unit {0}
 Fit s T (loop i p) = Fit s T p
 Fit s T (inner a p) = CompFits s T a × (Fit s T a × Fit s T p)
 
--- "max its head's; sum its head's times 1,024 for each generator"
+-- "max its head's; sum its head's times 1,024 for each generator"; min as max
 heads-within : (m : Monoid) (q : Clauses) (h : Form) → mergeBound m (0 + 1024 ^ ownGens q) (wordBound (sortOf m) h) ≤ wordBound (sortOf m) (comp m q h)
 unfolding mergeBound bound compBound
 heads-within (of c) q h = omega (arith, mul-zero (0 + 1024 ^ ownGens q))
 heads-within sum q h = omega (arith, mul-comm (bound h) (1024 ^ ownGens q), ap (λ (x : ℕ). x * bound h) (zero-add (1024 ^ ownGens q)))
 heads-within max q h = le-refl (bound h)
+heads-within Sy.min q h = le-refl (bound h)
 heads-within some q h = le-refl 1
 heads-within all q h = le-refl 1
 
@@ -170,7 +172,7 @@ module _ (s : List ℕ) (T : Tables) (few : (k : ℕ) → length (rowsOf T k) �
     total-small w =
         subst (λ (x : Monoid). mergeBound x (spotTakes s T (spotsOf q h c)) (wordBound (sortOf x) (formTree fuel s (headAt s c))) ≤ most) (sym monoid-node)
         (subst (λ (x : Form). mergeBound m (spotTakes s T (spotsOf q h c)) (wordBound (sortOf m) x) ≤ most) (sym head-tree)
-        (le-trans (more-words m (wordBound (sortOf m) h) (omega (arith, takes-comp m q h c L))) (comp-small m (ownGens q) h (within-bound (comp m q h) w))))
+        (le-trans (more-words m (wordBound (sortOf m) h) (omega (arith, takes-comp m q h c L))) (comp-within m (ownGens q) h (within-bound (comp m q h) w))))
 
     pub comp-fits : within (comp m q h) ≡ true → CompFits s T (spotsOf q h c)
     comp-fits w =

@@ -23,6 +23,7 @@ monoid-collects Mo.Bag e = refl
 monoid-collects Mo.Set e = refl
 monoid-collects Mo.Sum e = cc e
 monoid-collects Mo.Max e = cc e
+monoid-collects Mo.Min e = cc e
 monoid-collects Mo.Some e = cc e
 monoid-collects Mo.All e = cc e
 
@@ -37,6 +38,7 @@ collects-shape (of bag) e = refl
 collects-shape (of set) e = refl
 collects-shape sum e = cc e
 collects-shape max e = cc e
+collects-shape Sy.min e = cc e
 collects-shape some e = cc e
 collects-shape all e = cc e
 

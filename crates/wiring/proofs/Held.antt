@@ -10,8 +10,11 @@ use lib.Dec.{ltb}
 use lib.IntN.{ℤ, natAbs}
 use lib.ListN.{length, getD, length-append, List·getD-append}
 use lib.Seq.{getD-at}
+use Rattle.calculus.specs.Syntax as Sy
 use Rattle.calculus.specs.Syntax.{Monoid, of, sum, max, some, all}
-use Rattle.calculus.specs.Value.{Value, Tables, junk, rowsOf}
+use Rattle.calculus.specs.Value.{Value, Tables, junk, asInt, rowsOf}
+use Rattle.calculus.specs.Monoid.{finish}
+use Rattle.monoid.specs.Word.{finishWord}
 use Rattle.encoding.specs.Record.{Bytes}
 use Rattle.normal_form.specs.Form.{Form}
 use Rattle.form.specs.declared.Node.the-variants as N
@@ -26,8 +29,8 @@ use Rattle.plan.proofs.Rows.{at-before, at-here}
 use Rattle.planner.specs.PlanIn.{monoidBy}
 use Rattle.machine.specs.Program.{Program, endOf}
 use Rattle.machine.specs.Program as Pr
-use Rattle.machine.specs.Machine.{rowsFor}
-use Rattle.machine.specs.Flat.{Words, Path, start, loopP, inP, pastP, before, pos, Valid, here, row, Begun}
+use Rattle.machine.specs.Machine.{valueFrom, rowsFor}
+use Rattle.machine.specs.Flat.{Words, Path, start, loopP, inP, pastP, before, pos, Valid, last, here, row, Begun}
 use Rattle.machine.specs.Text.{collects}
 use Rattle.machine.proofs.Spans.{Spans}
 use Rattle.machine.proofs.Telling.{row-width}
@@ -37,13 +40,15 @@ use Rattle.environment.specs.Env.{envAt, rowsAt, rowWord, rowOf, envOf, tablesI
 use Rattle.environment.proofs.Laws.{slot-in, row-word}
 use Rattle.environment.proofs.Frame.{node-same, form-same}
 use Rattle.operators.specs.Sorts.{asWord, sortOf, wordBound, mergeBound}
+use Rattle.operators.proofs.Words.{small-fits, finish-word}
 use Rattle.places.specs.Kept.{accOf}
 use Rattle.places.specs.Agrees as Ag
-use Rattle.cursors.specs.Cursors.{offeredAt, totalIn}
+use Rattle.cursors.specs.Cursors.{most, Total, offeredAt, totalIn}
 use Rattle.tracking.specs.Places.{inside, loopNode, spotsAt, backAt}
-use Rattle.tracking.specs.Room.{takesOf, Room}
+use Rattle.tracking.specs.Room.{takesOf, Room, compAt}
 use Rattle.tracking.specs.Standing.{Question, SaysEnd, SaysRow, SaysAt, Stands}
 use Rattle.tracking.specs.Wired.{Id, loopI, endI, ids, idAt}
+use Rattle.tracking.proofs.Taking.{kept-total}
 use Rattle.tracking.proofs.Along.{as-loop, wired-at, number-low, loop-id, end-id, comp-node}
 use Rattle.wiring.specs.Fillers.{fillers, fillerAt}
 use Rattle.wiring.specs.Holding.{HoldsBy, Holding}
@@ -78,11 +83,21 @@ unfolding offeredAt
 offered-few s i e = rw e (omega arith)
 
 -- ---- a comprehension's value
+finish-reads : (m : Monoid) (a : Value) → asWord (sortOf m) (finish m a) ≡ asWord (sortOf m) a
+unfolding finish asInt
+finish-reads (of c) a = refl
+finish-reads sum a = refl
+finish-reads max a = refl
+finish-reads Sy.min a = refl
+finish-reads some a = refl
+finish-reads all a = refl
+
 total-is : (m : Monoid) (s : List ℕ) (c : ℕ) → collects m ≡ false → totalIn s c ≡ accOf s c (sortOf m)
 unfolding collects
 total-is (of x) s c e = absurd (false≢true (sym e))
 total-is sum s c e = refl
 total-is max s c e = refl
+total-is Sy.min s c e = refl
 total-is some s c e = refl
 total-is all s c e = refl
 
@@ -142,14 +157,25 @@ module _ {d : Bytes} (Q : Question d) (s : List ℕ) (w : Words) (r : Spans) (S 
       nest-bound = subst (λ (m : Monoid). natAbs (asWord (sortOf m) (w .acc o)) ≤ wordBound (sortOf m) (formTree fuel s c)) (sym monoid-is)
           (subst (λ (t : Form). natAbs (asWord (sortOf (endOf i .monoid)) (w .acc o)) ≤ wordBound (sortOf (endOf i .monoid)) t) (sym (form-same s (Q .base) (S .kept .form) fuel c)) (le-trans room (own π i p v)))
 
-      nest-kept : collects (monoidBy (nodeAt s c)) ≡ false → Ag.Kept s c (sortOf (monoidBy (nodeAt s c))) (formTree fuel s c) (w .acc o)
-      nest-kept e =
-          let z = nest-says .0 e .1 ∙ total-is (monoidBy (nodeAt s c)) s c e in
-          record { made = nest-says .0 e .0; is = z; small = subst (λ (x : ℤ). natAbs x ≤ wordBound (sortOf (monoidBy (nodeAt s c))) (formTree fuel s c)) z nest-bound }
+      -- within 2^62 too
+      nest-small : natAbs (asWord (sortOf (monoidBy (nodeAt s c))) (w .acc o)) ≤ most
+      unfolding compAt last
+      nest-small = subst (λ (m : Monoid). natAbs (asWord (sortOf m) (w .acc o)) ≤ most) (sym monoid-is) (le-trans room (Q .fits (inP π i p) i (refl, v)))
 
-      nest-holds : HoldsBy d sp s w (endI c) (valueOf (val (w .acc o)))
+      nest-kept : collects (monoidBy (nodeAt s c)) ≡ false → Ag.Kept s c (monoidBy (nodeAt s c)) (formTree fuel s c) (finish (monoidBy (nodeAt s c)) (w .acc o))
+      nest-kept e =
+          let m = monoidBy (nodeAt s c) in
+          let z = nest-says .0 e .1 ∙ total-is m s c e in
+          record {
+            made = nest-says .0 e .0;
+            is = sym (finish-word m (w .acc o) (small-fits m (w .acc o) nest-small)) ∙ ap (finishWord m) z;
+            small = subst (λ (x : ℤ). natAbs x ≤ wordBound (sortOf m) (formTree fuel s c)) (sym (finish-reads m (w .acc o))) nest-bound;
+            so-far = subst Total z (kept-total m (w .acc o) nest-small);
+          }
+
+      nest-holds : HoldsBy d sp s w (endI c) (valueOf (val (valueFrom i (w .acc o))))
       unfolding valueOf
-      nest-holds = record { number = o; low = nest-low; id = nest-id; is = refl; kept = nest-kept }
+      nest-holds = subst (HoldsBy d sp s w (endI c)) (ap (λ (m : Monoid). finish m (w .acc o)) monoid-is) (record { number = o; low = nest-low; id = nest-id; is = refl; kept = nest-kept })
 
     -- Every place of the row at a path.
     pub holding : (π : Path) (x : Program) (k : ℕ) → Valid (Q .program) π x → Begun w π → Room T (Q .bound) (Q .program) w π k → Holding d sp s w (fillers sp π) (row T w π)
@@ -158,5 +184,5 @@ module _ {d : Bytes} (Q : Question d) (s : List ℕ) (w : Words) (r : Spans) (S 
     holding (loopP π a t p) x k v b R = one-more d sp s w (fillers sp π) (row T w π) (loopI (loopNode (spotsAt sp π))) (at (w .cur (pos π) - 1) (rowsFor T a)) (fillers-width sp π ∙ sym (row-width T w π))
         (holding π (Pr.loop a t p) _ (v .1) (b .1) R) (loop-holds π a t p (v .1) (b .0))
     holding (inP π i p) x k v b R = holding π (Pr.inner i p) _ (v .1) b (R .1)
-    holding (pastP π i p) x k v b R = one-more d sp s w (fillers sp π) (row T w π) (endI (compOf (inside (spotsAt sp π)))) (val (w .acc (pos π + before i))) (fillers-width sp π ∙ sym (row-width T w π))
+    holding (pastP π i p) x k v b R = one-more d sp s w (fillers sp π) (row T w π) (endI (compOf (inside (spotsAt sp π)))) (val (valueFrom i (w .acc (pos π + before i)))) (fillers-width sp π ∙ sym (row-width T w π))
         (holding π (Pr.inner i p) k (v .1) b (R .1)) (nest-holds π i p (v .1) (R .0))

@@ -3,7 +3,7 @@ use native.Mathlib.Omega.{arith}
 use mathlib.Core.Path.{_≡_, refl, sym, ap, ap₂, subst, _∙_}
 use mathlib.Core.List.{List}
 use Prim.Native.Nat.{ℕ, _+_, _*_, _≤_}
-use lib.IntN.{natAbs, ℤ}
+use lib.IntN.{natAbs}
 use lib.ListN.{length}
 use Rattle.calculus.specs.Syntax.{Monoid}
 use Rattle.calculus.specs.Value.{Tables}
@@ -24,7 +24,7 @@ use Rattle.machine.proofs.Moves.{last-is}
 use Rattle.links.specs.Spots.{Spots, end, loop, inner, loopCode, compOf}
 use Rattle.links.specs.Alike.{fuel, SourceAt}
 use Rattle.operators.specs.Sorts.{asWord, sortOf, wordBound, mergeBound}
-use Rattle.operators.proofs.Words.{zero-small, start-word}
+use Rattle.operators.proofs.Words.{start-small}
 use Rattle.cursors.specs.Cursors.{most}
 use Rattle.tracking.specs.Wired.{Wired}
 use Rattle.tracking.specs.Reading.{headAt}
@@ -33,9 +33,6 @@ use Rattle.tracking.specs.Places.{behindFirst, inside, spotsAt, backAt}
 use Rattle.tracking.proofs.Along.{as-loop, as-inner, wired-along, end-along, end-node}
 use Rattle.wiring.specs.Bounds.{headBound, boundOf, boundAt}
 use Rattle.wiring.proofs.Bounds.{rowsBy, spotTakes, Smalls, CompFits, Fit}
-
-zero-start : (m : Monoid) (h : Form) → natAbs (asWord (sortOf m) (start m)) ≤ mergeBound m 0 (wordBound (sortOf m) h)
-zero-start m h = subst (λ (z : ℤ). natAbs z ≤ mergeBound m 0 (wordBound (sortOf m) h)) (start-word m) (zero-small m h)
 
 module _ (s : List ℕ) (T : Tables) where
   source-rows : (c i : ℕ) (a : Source) → SourceAt s c i a → length (sourceRows T a) ≡ rowsBy T (clauseOf (nodeAt s i))
@@ -99,7 +96,7 @@ module _ (s : List ℕ) (T : Tables) (q : Program) (sp : Spots) (W : Wired s 1 q
     zero-here =
         let m = endOf x .monoid in
         let h : Form = formTree fuel s (headAt s (compOf y)) in
-        subst (λ (b : ℕ). natAbs (asWord (sortOf m) (start m)) ≤ mergeBound m 0 b) (ap (λ (n : Monoid). wordBound (sortOf n) h) (sym (monoid-is s T (backAt sp π) x y wired-here)) ∙ sym bound-is) (zero-start m h)
+        subst (λ (b : ℕ). natAbs (asWord (sortOf m) (start m)) ≤ mergeBound m 0 b) (ap (λ (n : Monoid). wordBound (sortOf n) h) (sym (monoid-is s T (backAt sp π) x y wired-here)) ∙ sym bound-is) (start-small m h)
 
     -- what its heads come to is within b, where the words say so
     module _ (b : Monoid → ℕ) (h : mergeBound (monoidBy (nodeAt s (compOf y))) (spotTakes s T y) (headBound s (compOf y)) ≤ b (monoidBy (nodeAt s (compOf y)))) where

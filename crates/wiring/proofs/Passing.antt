@@ -15,6 +15,7 @@ use Rattle.form.specs.Packing.{nodeAt}
 use Rattle.laying.specs.declared.Shape.the-variants as Sh
 use Rattle.laying.specs.Shapes.{shapeOf}
 use Rattle.machine.specs.Program.{Program, inner, endOf}
+use Rattle.machine.specs.Machine.{valueFrom}
 use Rattle.machine.specs.Flat.{Words, Path, start, loopP, inP, pastP, before, pos, Valid, row}
 use Rattle.machine.specs.Text.{said, upto, headParts, width, writes, told, textBack, textInto}
 use Rattle.machine.proofs.Tidy.{Begins, Steady, When, tidy-path}
@@ -88,7 +89,7 @@ module _ {d : Bytes} (Q : Question d) (w : Words) (r : Spans) where
         low = E .low;
         id = E .id;
         ends = E .ends ∙ ap length (ap (λ y. y ++ said most (row (tablesIn d) w π) ts) (sym (past-text most (tablesIn d) q π i p w))
-            ∙ ap (λ y. textBack most (tablesIn d) q w (pastP π i p) ++ y) (sym (said-grown most (width π) (row (tablesIn d) w π) (val (w .acc (pos π + before i)) ∷ []) ts (row-width (tablesIn d) w π) f)));
+            ∙ ap (λ y. textBack most (tablesIn d) q w (pastP π i p) ++ y) (sym (said-grown most (width π) (row (tablesIn d) w π) (val (valueFrom i (w .acc (pos π + before i))) ∷ []) ts (row-width (tablesIn d) w π) f)));
       }
 
   pub told-pass : (π : Path) (x : Program) → Valid q π x → Keeps most (tablesIn d) q true w r π → (n j : ℕ) → Has n j (passes sp π) → shapeOf (nodeAt (Q .base) j) ≡ Sh.Collection → ToldAt Q w r π x n j

@@ -6,6 +6,7 @@ use mathlib.Core.List.{List}
 use Prim.Native.Nat.{ℕ, _<_}
 use lib.ListN.{length}
 use Rattle.calculus.specs.Value.{Value}
+use Rattle.calculus.specs.Monoid.{finish}
 use Rattle.encoding.specs.Record.{Bytes}
 use Rattle.form.specs.declared.Node.the-variants.{Generator}
 use Rattle.form.specs.Packing.{nodeAt}
@@ -17,7 +18,6 @@ use Rattle.machine.specs.Text.{collects}
 use Rattle.links.specs.Spots.{Spots}
 use Rattle.links.specs.Alike.{fuel}
 use Rattle.environment.specs.Env.{envOf, tablesIn}
-use Rattle.operators.specs.Sorts.{sortOf}
 use Rattle.places.specs.Agrees.{Kept}
 use Rattle.tracking.specs.Wired.{Id, loopI, endI, ids, idAt}
 use Rattle.wiring.specs.Fillers.{fillerAt}
@@ -28,8 +28,8 @@ module _ (d : Bytes) (p : Spots) (s : List ℕ) (w : Words) where
     pub number : ℕ  -- of its nest
     pub low : number < length (ids p)
     pub id : idAt p number ≡ endI c
-    pub is : v ≡ w .acc number
-    pub kept : collects (monoidBy (nodeAt s c)) ≡ false → Kept s c (sortOf (monoidBy (nodeAt s c))) (formTree fuel s c) v
+    pub is : v ≡ finish (monoidBy (nodeAt s c)) (w .acc number)
+    pub kept : collects (monoidBy (nodeAt s c)) ≡ false → Kept s c (monoidBy (nodeAt s c)) (formTree fuel s c) v
 
   abbrev pub HoldsBy : Id → Value → Type 0
   HoldsBy (loopI j) v = (g k : ℕ) → nodeAt s j ≡ Generator g k → v ≡ envOf (tablesIn d) s g
