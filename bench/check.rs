@@ -38,7 +38,7 @@ fn main() -> ExitCode {
     println!("{usual:8.0}  {:8.2}  the listing", 1.0);
     let named = cases
         .into_iter()
-        .filter(|case| !case.name.starts_with("random-"));
+        .filter(|case| !case.name.contains("/random-"));
     let mut measure = |case: Case| {
         let time = fastest(|| check(&case.data, &case.question, &mut scratch));
         (time, case.name)

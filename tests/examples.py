@@ -11,21 +11,22 @@ sys.path.insert(0, str(ROOT / 'tests' / 'examples'))
 sys.dont_write_bytecode = True
 
 import edges  # noqa: E402
+import request_e1  # noqa: E402
 import source_000  # noqa: E402
 import source_001  # noqa: E402
 import source_002  # noqa: E402
 import source_003  # noqa: E402
 import source_004  # noqa: E402
 
-SOURCES = [source_000, source_001, source_002, source_003, source_004, edges]
+SOURCES = [source_000, source_001, source_002, source_003, source_004, edges, request_e1]
 
 OPENING = '''# Example queries
 
 Made by `tests/examples.py`; do not edit. `tests/harness/examples.rs` runs every case.
 
-The example queries of the source documents, recast over tables, and the cases of document 01's "At
-the edges". The words were worked out by hand from the paper and reckoned again in plain Python; no
-engine was asked.
+The example queries of the source documents, recast over tables, the cases of document 01's "At the
+edges", and cases of document 02's requests. The words were worked out by hand from the papers and
+reckoned again in plain Python; no engine was asked.
 
 - Strings, objects and keys are numbers. An extent is a table; a set that is counted or summed is a
   bag table, since a set may not stand in a sum (26).

@@ -44,7 +44,8 @@ fn bound_of_binary(operation: Operation, left: &Term, right: &Term) -> Result<Op
     })
 }
 
-/// "max its head's; sum its head's times 1,024 for each generator".
+/// "max its head's; sum its head's times 1,024 for each generator"; E1: "The bound of a max is still its
+/// head's", and min has "max's bound".
 fn bound_of_comprehension(inner: &Comprehension) -> Result<Option<u128>, Stop> {
     let mut times: u128 = 1;
     for qualifier in &inner.qualifiers {
@@ -58,7 +59,7 @@ fn bound_of_comprehension(inner: &Comprehension) -> Result<Option<u128>, Stop> {
     let head = bound_of(&inner.head)?;
     within(match inner.monoid {
         Monoid::Sum => Some(head.ok_or(FAULT)?.saturating_mul(times)),
-        Monoid::Max => head,
+        Monoid::Max | Monoid::Min => head,
         _ => None,
     })
 }

@@ -197,17 +197,18 @@ fn truth(found: &Type) -> Result<(), Stop> {
     }
 }
 
-/// "Sum and max have number heads, some and all truth heads, the collections any head."
+/// "Sum and max have number heads, some and all truth heads, the collections any head." Min is max's
+/// mirror (E1), so its head is a number too.
 fn type_of_comprehension(monoid: Monoid, head: Rc<Type>) -> Result<Rc<Type>, Stop> {
     match monoid {
-        Monoid::Sum | Monoid::Max => number(&head).map(|()| head),
+        Monoid::Sum | Monoid::Max | Monoid::Min => number(&head).map(|()| head),
         Monoid::Some | Monoid::All => truth(&head).map(|()| head),
         Monoid::List | Monoid::Bag | Monoid::Set => Ok(Rc::new(Type::Collection(monoid, head))),
     }
 }
 
 /// "A generator over a bag may not stand in a list; one over a set only in set, max, some or
-/// all."
+/// all"; E1: min has "max's .. generators".
 fn may_stand(collection: Monoid, monoid: Monoid) -> bool {
     match collection {
         Monoid::Bag => monoid != Monoid::List,

@@ -1,6 +1,6 @@
-//! A second evaluator of document 01, written from its text alone and as literally as it can be:
-//! trees are rewritten, streams are kept whole, and nothing is fast. It serves the four calls
-//! and says `Unknown` where an input would take it too long.
+//! A second evaluator of document 01 with the landed requests of document 02 (E1), written from their
+//! text alone and as literally as it can be: trees are rewritten, streams are kept whole, and nothing
+//! is fast. It serves the four calls and says `Unknown` where an input would take it too long.
 
 mod bounds;
 mod budget;

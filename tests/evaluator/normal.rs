@@ -109,7 +109,7 @@ impl Rewriting {
                 Ok(None)
             }
             // "a condition that is a "some" comprehension, directly in set, max, some or all,
-            // gives way to its qualifiers and then its head as a condition"
+            // gives way to its qualifiers and then its head as a condition"; in min too (E1)
             Term::Comprehension(inner)
                 if inner.monoid == Monoid::Some && monoid.ignores_repeats() =>
             {

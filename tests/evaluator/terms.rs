@@ -3,7 +3,8 @@
 /// A name: 0 to 255 in a typed question, any number in a tree that is being rewritten.
 pub type Name = u32;
 
-/// "Monoids, with the value over nothing". The first three are also the collections.
+/// "Monoids, with the value over nothing", and request E1's "monoid 8, min". The first three are also
+/// the collections.
 #[derive(Clone, Copy, Debug, PartialEq, Eq)]
 pub enum Monoid {
     List,
@@ -13,10 +14,12 @@ pub enum Monoid {
     Max,
     Some,
     All,
+    Min,
 }
 
 impl Monoid {
-    /// The monoid of a byte: "1 list, 2 bag, 3 set .. 4 sum .. 5 max .. 6 some .. 7 all".
+    /// The monoid of a byte: "1 list, 2 bag, 3 set .. 4 sum .. 5 max .. 6 some .. 7 all"; E1: "Add
+    /// monoid 8, min".
     pub fn of_byte(byte: u8) -> Option<Monoid> {
         match byte {
             1 => Some(Monoid::List),
@@ -26,6 +29,7 @@ impl Monoid {
             5 => Some(Monoid::Max),
             6 => Some(Monoid::Some),
             7 => Some(Monoid::All),
+            8 => Some(Monoid::Min),
             _ => None,
         }
     }
@@ -34,12 +38,16 @@ impl Monoid {
         matches!(self, Monoid::List | Monoid::Bag | Monoid::Set)
     }
 
-    /// "set, max, some or all": the monoids that do not see repeats.
+    /// "set, max, some or all": the monoids that do not see repeats. E1: min has "max's .. generators
+    /// and rule for "some" conditions".
     pub fn ignores_repeats(self) -> bool {
-        matches!(self, Monoid::Set | Monoid::Max | Monoid::Some | Monoid::All)
+        matches!(
+            self,
+            Monoid::Set | Monoid::Max | Monoid::Min | Monoid::Some | Monoid::All
+        )
     }
 
-    /// The word of the plan's lines.
+    /// The word of the plan's lines; E1: "print it as "min"".
     pub fn word(self) -> &'static str {
         match self {
             Monoid::List => "list",
@@ -49,6 +57,7 @@ impl Monoid {
             Monoid::Max => "max",
             Monoid::Some => "some",
             Monoid::All => "all",
+            Monoid::Min => "min",
         }
     }
 }

@@ -153,8 +153,8 @@ fn rank(value: &Value) -> u8 {
     }
 }
 
-/// The monoid over the heads, in order. "1 list, 2 bag, 3 set (empty); 4 sum (0); 5 max (0, so max
-/// is the greatest of 0 and the heads); 6 some (false); 7 all (true)".
+/// The monoid over the heads, in order. "1 list, 2 bag, 3 set (empty); 4 sum (0); .. 6 some (false);
+/// 7 all (true)"; max and min as E1 has them.
 pub fn over(monoid: Monoid, heads: Vec<Value>, budget: &mut Budget) -> Result<Value, Stop> {
     match monoid {
         Monoid::List => Ok(Value::collection(heads)),
@@ -164,11 +164,11 @@ pub fn over(monoid: Monoid, heads: Vec<Value>, budget: &mut Budget) -> Result<Va
             values.dedup_by(|later, kept| compare(later, kept) == Ordering::Equal);
             Ok(Value::collection(values))
         }
-        Monoid::Sum | Monoid::Max => {
-            let mut total = Some(0);
-            for head in &heads {
-                total = merge_numbers(monoid, total, head.number()?);
-            }
+        Monoid::Sum | Monoid::Max | Monoid::Min => {
+            let numbers = heads.iter().map(Value::number);
+            let numbers = numbers.collect::<Result<Vec<_>, Stop>>()?;
+            let known: Option<Vec<i128>> = numbers.into_iter().collect();
+            let total = known.and_then(|known| over_numbers(monoid, &known));
             Ok(number_of(total))
         }
         Monoid::Some | Monoid::All => {
@@ -186,10 +186,17 @@ pub fn over(monoid: Monoid, heads: Vec<Value>, budget: &mut Budget) -> Result<Va
     }
 }
 
-fn merge_numbers(monoid: Monoid, left: Option<i128>, right: Option<i128>) -> Option<i128> {
+/// The sum, or nothing where it is over 127 bits. E1: "max over at least one qualifying row is the
+/// greatest head; over none it is 0", and min has "the mirrored rule": the least head, over none 0.
+/// There is one head for each qualifying row: for each run through all qualifiers, or for each row of
+/// a stream without a pad that meets the condition.
+fn over_numbers(monoid: Monoid, heads: &[i128]) -> Option<i128> {
     match monoid {
-        Monoid::Sum => left?.checked_add(right?),
-        _ => Some(left?.max(right?)),
+        Monoid::Max => Some(heads.iter().max().copied().unwrap_or(0)),
+        Monoid::Min => Some(heads.iter().min().copied().unwrap_or(0)),
+        _ => heads
+            .iter()
+            .try_fold(0, |total: i128, head| total.checked_add(*head)),
     }
 }
 

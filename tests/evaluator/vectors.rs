@@ -1,16 +1,18 @@
-//! Compares the evaluator with recorded vectors, one JSON object a line. The file is the only
+//! Compares the evaluator with the recorded vectors. The folder of the crate that has them is the only
 //! argument.
 
 use std::process::ExitCode;
 
 use evaluator::{by_loops, by_plan, check, normal_form_holds, plan_lines, Unknown};
 use harness::open::NUMBERS;
-use harness::recorded::{self, Recorded};
+use harness::recorded::{recorded_in, Recorded};
 use harness::tally::{exit_code, Tally};
 
 fn main() -> ExitCode {
-    match recorded::from_arguments() {
-        Ok((vectors, _)) => compare_all(&vectors),
+    let folder = std::env::args().nth(1);
+    let folder = folder.ok_or("argument: a crate's folder".to_string());
+    match folder.and_then(|folder| recorded_in(&folder)) {
+        Ok(vectors) => compare_all(&vectors),
         Err(what) => {
             eprintln!("{what}");
             ExitCode::FAILURE

@@ -85,9 +85,9 @@ STARRED = [
          'all{ e.n < 0 | e <- Empty }',
          '''join 0 true
             reduce all (< (. 0 $0) 0) true''', [1], plain=lambda: all(e.n < 0 for e in EMPTY)),
-    Case('01-max-of-minus-3', '*', 'Max of −3: 0', [], 'max{ -3 }',
+    Case('01-max-of-minus-3', '*', 'Max of −3: 0; 02, E1: becomes −3', [], 'max{ -3 }',
          '''join unit true
-            reduce max -3 true''', [0], plain=lambda: most([-3])),
+            reduce max -3 true''', [-3], plain=lambda: most([-3])),
     Case('01-set-in-a-sum', '*', 'A set-table generator in a sum: 26', [S], 'sum{ s.n | s <- S }',
          refused=26),
     Case('01-set-in-a-set', '*', 'in a set: accepted', [S], 'set{ s.n | s <- S }',

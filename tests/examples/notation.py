@@ -1,7 +1,7 @@
 """Tables and questions in a small readable notation, and document 01's bytes of both.
 
     question   monoid{ head | qualifier, qualifier, .. }      or  monoid{ head }
-    monoid     list  bag  set  sum  max  some  all
+    monoid     list  bag  set  sum  max  some  all  min
     qualifier  x <- term (generator)   let x = term (binding)   term (condition)
     term       7  -3  true  false  x  Table  x.column  x.0  (a, b)  (a,)  a + b  a - b  a * b
                a = b  a < b  a and b  a or b  not a  and a question inside the question
@@ -15,7 +15,7 @@ import re
 from collections import namedtuple
 
 COLLECTIONS = {'list': 1, 'bag': 2, 'set': 3}
-MONOIDS = {'list': 1, 'bag': 2, 'set': 3, 'sum': 4, 'max': 5, 'some': 6, 'all': 7}
+MONOIDS = {'list': 1, 'bag': 2, 'set': 3, 'sum': 4, 'max': 5, 'some': 6, 'all': 7, 'min': 8}
 BINARY = {'+': 6, '-': 7, '*': 8, '=': 9, '<': 10, 'and': 11, 'or': 12}
 TOKEN = re.compile(r'\s*(\d+|\w+|<-|<=|>=|!=|[-+*=<>(){}|.,])')
 
@@ -279,8 +279,13 @@ def setof(values):
 
 
 def most(values):
-    """Document 01's max: the greatest of 0 and the heads."""
-    return max([0, *values])
+    """Max as request E1 has it: the greatest head, over nothing 0."""
+    return max(values, default=0)
+
+
+def least(values):
+    """Request E1's min, its mirror."""
+    return min(values, default=0)
 
 
 def words(value):

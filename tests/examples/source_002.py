@@ -271,7 +271,7 @@ LEFT_OUT = [
      '01 has no union or difference of two collections as a term; intersection is 000-2.3-intersect.'),
     ('§2.1', 'left outer join with a default value',
      'Its other attributes are null, and nulls are no values of 01.'),
-    ('§2.1', 'Min', '01 has no monoid min (a later request adds it).'),
+    ('§2.1', 'Min', 'Document 02 adds min (E1); its case would be that of Max, mirrored.'),
     ('§3', 'the query with best_sales',
      'It calls a method, and its listing is lost in the text that we have.'),
     ('§6', 'the if operator (55)', 'A choice between a collection and none is a condition in 01; '

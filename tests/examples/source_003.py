@@ -204,9 +204,8 @@ CASES = [
 ]
 
 LEFT_OUT = [
-    ('§2, figure 4', 'the aggregates min and prod', '01 has neither monoid (a later request adds min).'),
-    ('§2', 'max over nothing, −∞ there', 'Where a source differs 01 rules: max over nothing is 0, '
-     'and max is the greatest of 0 and the heads.'),
+    ('§2, figure 4', 'the aggregates min and prod', '01 has no prod; document 02 adds min (E1).'),
+    ('§2', 'max over nothing, −∞ there', 'Where a source differs 01 rules: max over nothing is 0.'),
     ('§2.1, §4', 'foldr and build themselves', 'They take functions, which are no values of 01; '
      'what they compute is in the comprehensions above.'),
     ('§3, rules 7 and 8', 'generators over the empty and the written-out collection',

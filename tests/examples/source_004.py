@@ -100,7 +100,7 @@ CASES = [
          plain=lambda: bagof(h.name for c in CITIES if c.name == 1 for h in hotels(c.id)
                              for r in ROOMS if r.hotel == h.id and r.beds == 3),
          says='''The paper takes this for the normal form of the query above; a hotel with two such
-                 rooms comes twice. 01 flattens "some" in set, max, some and all only.'''),
+                 rooms comes twice. 01 flattens "some" in set, max, min, some and all only.'''),
     Case('004-3-sql3', '§3',
          '''set{ addr | hs ← set{ c.hotels | c ← cities, c.name="C" }, addr ← set{ h.address | h ← hs,
             h.name="H" } }''', [CITIES, HOTELS],

@@ -36,7 +36,7 @@ fn change_own_bytes(random: &mut Random, node: &mut Node) {
         return replace_term(random, node);
     };
     *byte = match node.kind {
-        COMPREHENSION => random.one_of(&[LIST, BAG, SET, SUM, MAX, SOME, ALL], LIST),
+        COMPREHENSION => random.one_of(&[LIST, BAG, SET, SUM, MAX, SOME, ALL, MIN], LIST),
         TRUTH => *byte ^ 1,
         _ => byte.wrapping_add(change),
     };
@@ -80,6 +80,9 @@ fn random_swap(random: &mut Random, node: &mut Node) {
 
 /// Changes one record so that it breaks the byte rules, its length fitting its content.
 pub fn break_record(random: &mut Random, question: &mut Node) {
+    if random.chance(15) {
+        return break_monoid(random, question);
+    }
     let position = random.below(question.count());
     let extra = random.byte();
     let Some(node) = question.at(position) else {
@@ -106,6 +109,21 @@ pub fn break_record(random: &mut Random, question: &mut Node) {
             }
         }
     }
+}
+
+/// A byte just beside the monoids', in one of the comprehensions: the question itself is one.
+fn break_monoid(random: &mut Random, question: &mut Node) {
+    let mut position = random.below(question.count());
+    while position > 0 && !question.at(position).is_some_and(is_comprehension) {
+        position -= 1;
+    }
+    if let Some(node) = question.at(position) {
+        node.fixed = vec![random.one_of(&[0, 9], 9)];
+    }
+}
+
+fn is_comprehension(node: &mut Node) -> bool {
+    node.kind == COMPREHENSION
 }
 
 /// Changes bytes without regard for records.

@@ -1,10 +1,10 @@
 //! Makes the files of the program `vectors` from recorded vectors: the cases that it reads, the
-//! lines that it must print, and the cases' names. Arguments: file of vectors, folder of the crate;
-//! with --check behind them nothing is written, and it fails where a file is not what would be.
+//! lines that it must print, and the cases' names. Argument: the folder of the crate; with --check
+//! behind it nothing is written, and it fails where a file is not what would be.
 
 use std::process::ExitCode;
 
-use harness::recorded::{self, Recorded};
+use harness::recorded::{recorded_in, Recorded};
 
 fn main() -> ExitCode {
     match make() {
@@ -17,13 +17,14 @@ fn main() -> ExitCode {
 }
 
 fn make() -> Result<(), String> {
-    let (vectors, arguments) = recorded::from_arguments()?;
-    let folder = arguments.first().ok_or("second argument: the crate")?;
-    let put = match arguments.get(1).map(String::as_str) {
+    let mut arguments = std::env::args().skip(1);
+    let folder = &arguments.next().ok_or("argument: a crate's folder")?;
+    let put = match arguments.next().as_deref() {
         None => write,
         Some("--check") => compare,
-        Some(other) => return Err(format!("third argument: --check, not {other}")),
+        Some(other) => return Err(format!("second argument: --check, not {other}")),
     };
+    let vectors = recorded_in(folder)?;
     let cases: Result<Vec<_>, String> = vectors.iter().map(case_of).collect();
     put(folder, "data/cases", &cases?.concat())?;
     let lines = (0..)

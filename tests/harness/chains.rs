@@ -56,11 +56,11 @@ fn number_around(random: &mut Random, inner: Node) -> Around {
         1 => two(MINUS, number(1), inner),
         2 => two(TIMES, inner, number(-1)),
         3 => field(0, record(vec![inner])),
-        _ => comprehension(random.one_of(&[SUM, MAX], SUM), Vec::new(), inner),
+        _ => comprehension(random.one_of(&[SUM, MAX, MIN], SUM), Vec::new(), inner),
     };
     Around {
         term,
-        heads: &[SUM, MAX, LIST, BAG, SET],
+        heads: &[SUM, MAX, MIN, LIST, BAG, SET],
     }
 }
 
@@ -118,7 +118,8 @@ fn copied_generators(random: &mut Random) -> Node {
         last = last.saturating_add(1);
         qualifiers.push(binding(last, twice));
     }
-    comprehension(random.one_of(&[SUM, MAX, BAG], SUM), qualifiers, name(last))
+    let monoid = random.one_of(&[SUM, MAX, MIN, BAG], SUM);
+    comprehension(monoid, qualifiers, name(last))
 }
 
 /// A generator over a comprehension whose generator is over a comprehension, and so on to the
@@ -128,7 +129,7 @@ fn nested_generators(random: &mut Random) -> Node {
     let source = nested_below(random, depth, &mut Vec::new());
     let range = generator(200, source);
     comprehension(
-        random.one_of(&[LIST, BAG, SET, SUM, MAX], BAG),
+        random.one_of(&[LIST, BAG, SET, SUM, MAX, MIN], BAG),
         vec![range],
         name(200),
     )
@@ -199,7 +200,8 @@ fn counted_and_dropped(random: &mut Random) -> Node {
         }
         _ => number(4),
     };
-    comprehension(random.one_of(&[SUM, MAX, LIST, SET], SUM), qualifiers, head)
+    let monoid = random.one_of(&[SUM, MAX, MIN, LIST, SET], SUM);
+    comprehension(monoid, qualifiers, head)
 }
 
 /// Records with a collection inside, over rows of which most or all are dropped by a condition

@@ -49,7 +49,8 @@ fn numbers(random: &mut Random) -> Node {
     let count = steps(random, false, 10, 10);
     let bindings = chain(first, count, |left, right| two(kind, left, right));
     let end = name(u16::try_from(random.below(usize::from(count) + 1)).unwrap_or(0));
-    comprehension(random.one_of(&[SUM, MAX, LIST, SET], SUM), bindings, end)
+    let monoid = random.one_of(&[SUM, MAX, MIN, LIST, SET], SUM);
+    comprehension(monoid, bindings, end)
 }
 
 /// "and" conditions that become many.
@@ -77,7 +78,8 @@ fn records(random: &mut Random) -> Node {
         qualifiers.push(binding(next, field(index, name(last))));
         last = next;
     }
-    comprehension(random.one_of(&[SUM, MAX, BAG], SUM), qualifiers, name(last))
+    let monoid = random.one_of(&[SUM, MAX, MIN, BAG], SUM);
+    comprehension(monoid, qualifiers, name(last))
 }
 
 /// Generators over the last, twice, that multiply; over a table or over nothing at all.
@@ -106,7 +108,8 @@ fn splices(random: &mut Random, long: bool) -> Node {
         qualifiers.push(binding(step, comprehension(LIST, inner, head)));
     }
     qualifiers.push(generator(150, name(count)));
-    comprehension(random.one_of(&[SUM, LIST, MAX], SUM), qualifiers, name(150))
+    let monoid = random.one_of(&[SUM, LIST, MAX, MIN], SUM);
+    comprehension(monoid, qualifiers, name(150))
 }
 
 /// A large term that stands in a field which is not taken, or is not used at all.
@@ -132,7 +135,7 @@ fn somes(random: &mut Random, long: bool) -> Node {
     let mut qualifiers = chain(first, count, inner);
     qualifiers.push(condition(name(count)));
     comprehension(
-        random.one_of(&[SET, MAX, LIST, BAG], SET),
+        random.one_of(&[SET, MAX, MIN, LIST, BAG], SET),
         qualifiers,
         number(4),
     )

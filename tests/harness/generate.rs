@@ -1,9 +1,9 @@
-//! Inputs for the calls of document 01: the same data and question for the same seed and index.
+//! Inputs for the open calls: the same data and question for the same seed and index.
 
 use super::nodes::{data_bytes, Node, Stored};
 use super::random::Random;
 use super::typed::{random_tables, Size, Writer};
-use super::{breaks, chains, doublings, limits};
+use super::{breaks, chains, doublings, extremes, limits};
 
 /// What an input was made to be. What it is, only an evaluator can tell.
 #[derive(Clone, Copy, Debug, PartialEq, Eq, PartialOrd, Ord)]
@@ -22,6 +22,7 @@ pub enum Family {
     Rows,
     Doubling,
     Chain,
+    Extreme,
 }
 
 /// One input of the calls, with the family it belongs to.
@@ -33,8 +34,8 @@ pub struct Input {
 }
 
 /// Families with their weights, of 1,000.
-const FAMILIES: [(Family, usize); 14] = [
-    (Family::WellTyped, 430),
+const FAMILIES: [(Family, usize); 15] = [
+    (Family::WellTyped, 380),
     (Family::ForbiddenGenerator, 40),
     (Family::BrokenMeaning, 120),
     (Family::BrokenRecord, 60),
@@ -48,6 +49,7 @@ const FAMILIES: [(Family, usize); 14] = [
     (Family::Rows, 5),
     (Family::Doubling, 50),
     (Family::Chain, 40),
+    (Family::Extreme, 50),
 ];
 
 /// The input of an index.
@@ -96,6 +98,7 @@ fn input_of(random: &mut Random, family: Family) -> (Vec<u8>, Vec<u8>) {
         Family::Rows => perhaps_changed(random, limits::of_rows),
         Family::Doubling => perhaps_changed(random, doublings::random_doubling),
         Family::Chain => perhaps_changed(random, chains::random_chain),
+        Family::Extreme => perhaps_changed(random, extremes::random_extreme),
     }
 }
 

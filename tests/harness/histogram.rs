@@ -23,6 +23,8 @@ fn main() -> ExitCode {
         families: BTreeMap::new(),
         lengths: BTreeMap::new(),
         set_shorter: 0,
+        max_below_0: 0,
+        min_above_0: 0,
         offered: 0,
     };
     inputs_of(seed, count, &mut [&mut histogram]);
@@ -42,6 +44,9 @@ struct Histogram {
     /// Accepted questions by the length of their answer: up to 1, 2 to 9, 10 to 99, more.
     lengths: BTreeMap<&'static str, u64>,
     set_shorter: u64,
+    /// Questions that are a max or min whose value would not be so if 0 were among the heads.
+    max_below_0: u64,
+    min_above_0: u64,
     offered: u64,
 }
 
@@ -91,6 +96,12 @@ impl Histogram {
         }
         *self.lengths.entry(class_of(loops.length)).or_default() += 1;
         self.set_shorter += u64::from(loops.length < loops.greatest);
+        // The monoid's byte is the first of the question's content.
+        match (question.get(4), loops.words.first()) {
+            (Some(5), Some(word)) => self.max_below_0 += u64::from(*word < 0),
+            (Some(8), Some(word)) => self.min_above_0 += u64::from(*word > 0),
+            _ => {}
+        }
         self.offered = self.offered.max(plan.offered);
         Ok(())
     }
@@ -110,6 +121,10 @@ impl Histogram {
         }
         println!("answer lengths: {:?}", self.lengths);
         println!("answers shorter than G: {}", self.set_shorter);
+        println!(
+            "max below 0: {}, min above 0: {}",
+            self.max_below_0, self.min_above_0
+        );
         println!("most rows offered: {}", self.offered);
     }
 }

@@ -7,6 +7,7 @@ mod chains;
 pub mod compare;
 pub mod desk_edges;
 mod doublings;
+mod extremes;
 pub mod generate;
 pub mod held;
 pub mod lent;

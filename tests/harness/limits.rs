@@ -57,12 +57,11 @@ impl Tower {
 
     /// A comprehension of the same type over the top.
     fn wrap_scalar(&mut self, random: &mut Random) -> Node {
-        let monoids = if self.of == Type::Truth {
-            [SOME, ALL]
-        } else {
-            [SUM, MAX]
+        let monoids: &[u8] = match self.of {
+            Type::Truth => &[SOME, ALL],
+            _ => &[SUM, MAX, MIN],
         };
-        comprehension(random.one_of(&monoids, SOME), Vec::new(), self.top.clone())
+        comprehension(random.one_of(monoids, SOME), Vec::new(), self.top.clone())
     }
 
     fn wrap(&mut self, random: &mut Random) -> Node {
@@ -130,7 +129,8 @@ pub fn of_nodes(random: &mut Random) -> Node {
         qualifiers.push(binding(next, two(operation, name(last), name(last))));
     }
     let head = sum_of_nodes(usize::saturating_sub(wanted, 1));
-    comprehension(random.one_of(&[SUM, MAX, BAG], SUM), qualifiers, head)
+    let monoid = random.one_of(&[SUM, MAX, MIN, BAG], SUM);
+    comprehension(monoid, qualifiers, head)
 }
 
 /// A sum of the doubled names with so many nodes: name n has 2^(n+1) - 1, and each summand but
@@ -167,16 +167,19 @@ pub fn of_bounds(random: &mut Random) -> (Vec<Stored>, Node) {
         columns: 1,
         rows,
     }];
-    let total = wide_sum(random);
+    let total = wide_number(random);
     (tables, around_number(random, total))
 }
 
-/// A sum over 0 to 3 generators: cell or 1, times a power of two, perhaps plus or minus 1.
-fn wide_sum(random: &mut Random) -> Node {
+/// A sum, max or min over 0 to 3 generators, which count in the bound of a sum alone: cell or 1, times
+/// a power of two, perhaps plus or minus 1.
+fn wide_number(random: &mut Random) -> Node {
+    let monoid = random.one_of(&[SUM, SUM, MAX, MIN], SUM);
     let generators = random.one_of(&[0, 1, 2, 3], 0);
+    let counted = if monoid == SUM { generators } else { 0 };
     let cell = generators > 0 && random.chance(60);
     let wanted = random.one_of(&[61, 62, 62, 62, 63], 62);
-    let reached = usize::from(generators) * 10 + if cell { 31 } else { 0 };
+    let reached = usize::from(counted) * 10 + if cell { 31 } else { 0 };
     let exponent = usize::saturating_sub(wanted, reached);
     let mut head = if cell { field(0, name(0)) } else { number(1) };
     if exponent > 0 || random.chance(30) {
@@ -192,7 +195,7 @@ fn wide_sum(random: &mut Random) -> Node {
     let qualifiers = (0..generators)
         .map(|next| generator(next, table(0)))
         .collect();
-    comprehension(SUM, qualifiers, head)
+    comprehension(monoid, qualifiers, head)
 }
 
 /// A term with bound 2^exponent.
@@ -237,15 +240,16 @@ fn around_number(random: &mut Random, total: Node) -> Node {
 }
 
 /// A question that holds the number in a head, under a factor 0, or in a condition.
-fn question_about(random: &mut Random, qualifiers: Vec<Node>, sum: Node) -> Node {
+fn question_about(random: &mut Random, qualifiers: Vec<Node>, total: Node) -> Node {
     let mut qualifiers = qualifiers;
-    match random.below(5) {
-        0 => comprehension(SUM, qualifiers, sum),
-        1 => comprehension(MAX, qualifiers, sum),
-        2 => comprehension(BAG, qualifiers, record(vec![sum, truth(true)])),
-        3 => comprehension(LIST, qualifiers, two(TIMES, number(0), sum)),
+    match random.below(6) {
+        0 => comprehension(SUM, qualifiers, total),
+        1 => comprehension(MAX, qualifiers, total),
+        2 => comprehension(MIN, qualifiers, total),
+        3 => comprehension(BAG, qualifiers, record(vec![total, truth(true)])),
+        4 => comprehension(LIST, qualifiers, two(TIMES, number(0), total)),
         _ => {
-            qualifiers.push(condition(two(LESS, sum, number(1))));
+            qualifiers.push(condition(two(LESS, total, number(1))));
             comprehension(SOME, qualifiers, truth(true))
         }
     }
@@ -265,7 +269,10 @@ pub fn of_rows(random: &mut Random) -> (Vec<Stored>, Node) {
     let range = generator(3, table(0));
     let question = match random.below(4) {
         0 => comprehension(SET, vec![range], name(3)),
-        1 => comprehension(MAX, vec![range], field(0, name(3))),
+        1 => {
+            let monoid = random.one_of(&[MAX, MIN], MAX);
+            comprehension(monoid, vec![range], field(0, name(3)))
+        }
         2 => {
             let met = condition(two(EQUAL, field(0, name(3)), number(1)));
             comprehension(SOME, vec![range, met], truth(true))

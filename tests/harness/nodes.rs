@@ -7,6 +7,7 @@ pub const SUM: u8 = 4;
 pub const MAX: u8 = 5;
 pub const SOME: u8 = 6;
 pub const ALL: u8 = 7;
+pub const MIN: u8 = 8;
 
 pub const NUMBER: u16 = 1;
 pub const TRUTH: u16 = 2;

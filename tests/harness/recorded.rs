@@ -1,9 +1,11 @@
-//! Recorded vectors: one flat JSON object a line.
+//! Recorded vectors: files of one JSON object a line, and the cases made from them.
 
 use std::collections::HashMap;
+use std::path::Path;
 
 /// A recorded input with what is known of its outcome.
 pub struct Recorded {
+    /// The file's name without its ending, a slash, and the name in the file.
     pub name: String,
     pub data: Vec<u8>,
     pub question: Vec<u8>,
@@ -48,26 +50,40 @@ pub fn cases_in(folder: &str) -> Result<Vec<Case>, String> {
     Ok(cases)
 }
 
-/// The vectors of the file that the first argument names, and the arguments behind it.
-pub fn from_arguments() -> Result<(Vec<Recorded>, Vec<String>), String> {
-    let mut arguments = std::env::args().skip(1);
-    let path = arguments.next().ok_or("argument: a file of vectors")?;
-    let text = std::fs::read_to_string(&path).map_err(|error| format!("{path}: {error}"))?;
-    let lines = text.lines().filter(|line| !line.trim().is_empty());
-    let vectors = lines.map(|line| Recorded::of_line(line).ok_or(format!("no vector: {line}")));
-    let vectors: Vec<Recorded> = vectors.collect::<Result<_, String>>()?;
-    if vectors.is_empty() {
-        return Err(format!("{path}: no vectors"));
+/// The vectors in `recorded/` of that folder: file after file by name, each in its own order.
+pub fn recorded_in(folder: &str) -> Result<Vec<Recorded>, String> {
+    let folder = format!("{folder}/recorded");
+    let at = |error| format!("{folder}: {error}");
+    let mut paths = Vec::new();
+    for entry in std::fs::read_dir(&folder).map_err(at)? {
+        paths.push(entry.map_err(at)?.path());
     }
-    Ok((vectors, arguments.collect()))
+    paths.sort();
+    let mut vectors = Vec::new();
+    for path in paths {
+        vectors.extend(vectors_of(&path)?);
+    }
+    Ok(vectors)
+}
+
+fn vectors_of(path: &Path) -> Result<Vec<Recorded>, String> {
+    let shown = path.display();
+    let text = std::fs::read_to_string(path).map_err(|error| format!("{shown}: {error}"))?;
+    let file = path.file_stem().unwrap_or_default().to_string_lossy();
+    let vector = |line| Recorded::of_line(&file, line).ok_or(format!("{shown}: no vector: {line}"));
+    let vectors: Vec<Recorded> = text.lines().map(vector).collect::<Result<_, String>>()?;
+    if vectors.is_empty() {
+        return Err(format!("{shown}: no vectors"));
+    }
+    Ok(vectors)
 }
 
 impl Recorded {
-    fn of_line(line: &str) -> Option<Recorded> {
+    fn of_line(file: &str, line: &str) -> Option<Recorded> {
         let fields = read_object(line)?;
         let unsigned = |key: &str| fields.get(key).and_then(Json::unsigned);
         Some(Recorded {
-            name: fields.get("name")?.text()?.to_string(),
+            name: format!("{file}/{}", fields.get("name")?.text()?),
             data: bytes_of_hex(fields.get("data")?.text()?)?,
             question: bytes_of_hex(fields.get("question")?.text()?)?,
             check: u32::try_from(unsigned("check")?).ok()?,
@@ -89,11 +105,12 @@ pub fn bytes_of_hex(text: &str) -> Option<Vec<u8>> {
     pairs.chunks(2).map(byte).collect()
 }
 
-/// As much of JSON as the vectors use: flat objects of texts, whole numbers and lists of them.
+/// As much of JSON as the vectors use: objects of texts, whole numbers, lists and nothing.
 enum Json {
+    Null,
     Text(String),
     Number(i128),
-    Numbers(Vec<i128>),
+    List(Vec<Json>),
 }
 
 impl Json {
@@ -105,17 +122,21 @@ impl Json {
     }
 
     fn unsigned(&self) -> Option<u64> {
+        u64::try_from(self.number()?).ok()
+    }
+
+    fn number(&self) -> Option<i128> {
         match self {
-            Json::Number(number) => u64::try_from(*number).ok(),
+            Json::Number(number) => Some(*number),
             _ => None,
         }
     }
 
     fn words(&self) -> Option<Vec<i64>> {
         match self {
-            Json::Numbers(numbers) => numbers
+            Json::List(elements) => elements
                 .iter()
-                .map(|number| i64::try_from(*number).ok())
+                .map(|element| i64::try_from(element.number()?).ok())
                 .collect(),
             _ => None,
         }
@@ -153,7 +174,10 @@ impl JsonReader<'_> {
             return self.text().map(Json::Text);
         }
         if start.starts_with('[') {
-            return self.numbers().map(Json::Numbers);
+            return self.list().map(Json::List);
+        }
+        if self.expect("null").is_some() {
+            return Some(Json::Null);
         }
         self.number().map(Json::Number)
     }
@@ -186,17 +210,17 @@ impl JsonReader<'_> {
         Some(number)
     }
 
-    fn numbers(&mut self) -> Option<Vec<i128>> {
+    fn list(&mut self) -> Option<Vec<Json>> {
         self.expect("[")?;
-        let mut numbers = Vec::new();
+        let mut elements = Vec::new();
         if self.expect("]").is_some() {
-            return Some(numbers);
+            return Some(elements);
         }
         loop {
-            numbers.push(self.number()?);
+            elements.push(self.value()?);
             if self.expect(",").is_none() {
                 self.expect("]")?;
-                return Some(numbers);
+                return Some(elements);
             }
         }
     }

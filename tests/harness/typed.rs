@@ -11,7 +11,8 @@ pub enum Type {
     Collection(u8, Box<Type>),
 }
 
-/// Small tables: empty ones, repeated rows, negative and extreme cells.
+/// Small tables: empty ones, repeated rows, negative and extreme cells, some with all cells of one
+/// sign: else a max below 0 and a min above it are rare.
 pub fn random_tables(random: &mut Random) -> Vec<Stored> {
     let count = random.weighted(&[3, 10, 20, 25, 25, 10, 0, 0, 7]);
     (0..count).map(|_| random_table(random)).collect()
@@ -21,12 +22,13 @@ fn random_table(random: &mut Random) -> Stored {
     let collection = random.one_of(&[LIST, LIST, LIST, BAG, BAG, BAG, SET, SET], BAG);
     let columns = random.one_of(&[1, 1, 2, 2, 2, 3, 4, 8], 2);
     let count = random.one_of(&[0, 1, 1, 2, 2, 2, 3, 3, 3, 4, 5], 2);
+    let sign = random.one_of(&[0, 0, 0, 0, -1, 1], 0);
     let mut rows: Vec<Vec<i32>> = Vec::new();
     for _ in 0..count {
         let repeated = random.pick(&rows).cloned();
         match repeated {
             Some(row) if random.chance(25) => rows.push(row),
-            _ => rows.push((0..columns).map(|_| random_cell(random)).collect()),
+            _ => rows.push((0..columns).map(|_| cell_of_sign(random, sign)).collect()),
         }
     }
     Stored {
@@ -41,6 +43,15 @@ pub fn random_cell(random: &mut Random) -> i32 {
         0 => random.one_of(&[-2, -1, 0, 0, 1, 1, 1, 2, 2, 3], 1),
         1 => random.one_of(&[i32::MIN, i32::MIN + 1, i32::MAX, i32::MAX - 1], i32::MAX),
         _ => any_number(random),
+    }
+}
+
+/// A cell below 0 for -1, above 0 for 1, any for 0.
+pub fn cell_of_sign(random: &mut Random, sign: i32) -> i32 {
+    let cell = random_cell(random);
+    match sign {
+        0 => cell,
+        _ => cell.saturating_abs().max(1).saturating_mul(sign),
     }
 }
 
@@ -139,7 +150,7 @@ impl<'a> Writer<'a> {
     pub fn question(&mut self) -> Node {
         let monoid = self
             .random
-            .one_of(&[LIST, BAG, BAG, SET, SET, SUM, MAX, SOME, ALL], BAG);
+            .one_of(&[LIST, BAG, BAG, SET, SET, SUM, MAX, MIN, SOME, ALL], BAG);
         let room = Room {
             levels: self.left.levels,
             nesting: self.left.nesting,
@@ -150,7 +161,7 @@ impl<'a> Writer<'a> {
 
     fn head_type(&mut self, monoid: u8) -> Type {
         match monoid {
-            SUM | MAX => Type::Number,
+            SUM | MAX | MIN => Type::Number,
             SOME | ALL => Type::Truth,
             _ => self.any_type(2),
         }
@@ -286,7 +297,7 @@ impl<'a> Writer<'a> {
     }
 
     /// "A generator over a bag may not stand in a list; one over a set only in set, max, some
-    /// or all."
+    /// or all", and in min.
     fn kinds_allowed(&mut self, monoid: u8) -> &'static [u8] {
         let lawless = self.lawless && self.random.chance(50);
         match monoid {
@@ -401,7 +412,7 @@ impl<'a> Writer<'a> {
             (3, _) => self.pair(MINUS, &Type::Number, room),
             (4, _) => self.product(room),
             (5, _) if room.nesting > 0 => {
-                let monoid = self.random.one_of(&[SUM, MAX], SUM);
+                let monoid = self.random.one_of(&[SUM, MAX, MIN], SUM);
                 self.comprehension(monoid, &Type::Number, room)
             }
             _ => number(self.constant()),
