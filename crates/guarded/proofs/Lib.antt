@@ -1,0 +1,2 @@
+-- Operators and monoids on any words.
+pub mod Laws

@@ -1,0 +1,17 @@
+use Rattle.guarded.proofs.Laws.{sum-far, sum-near}
+use borrow.Author.Needs.{needs}
+use Rattle.guarded.proofs.sum_fits.Statement.{statement}
+use Rattle.guarded.proofs.sum_fits.Tie as tie
+use Rattle.guarded.proofs.sum_fits.Reads as reads
+use Rattle.guarded.proofs.sum_fits.Lts as lts
+
+-- src/lib.rt:53:9
+returns : tie.Need-returns
+returns c = sum-far _ _ (c .if1 .taken)
+
+-- src/lib.rt:49:1
+returns-2 : tie.Need-returns-2
+returns-2 c = sum-near _ _ (c .if1 .left)
+
+pub sum-fits-spec : {M : Type 1} → statement M
+sum-fits-spec = tie.close (tie.spec returns returns-2)
