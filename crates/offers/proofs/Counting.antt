@@ -79,9 +79,6 @@ module _ {d : Bytes} {s t : List ℕ} {o p : List ℤ} {code at n : ℕ} (I : Co
     buffer = same-buffer K;
   }
 
-  pub count-waiting : Waiting d s o 0 code → Waiting d t p 0 at
-  count-waiting K = record { question = K .question; readable = K .readable; state = run (tablesIn d) n (K .state); waits = I .is (K .question) (K .readable) (K .state) (K .waits) .waits }
-
   pub count-again : (at ≡ 1 → ⊥) → n < longest → {t′ : List ℕ} {p′ : List ℤ} {r : ℕ} → Portion d t p 0 at 1 t′ p′ r → length t′ ≡ length t → length p′ ≡ length p → Counting d s o code t′ p′ r (n + 1)
   count-again h l {t′} {p′} {r} F lt lp = record {
     long = lt ∙ I .long;

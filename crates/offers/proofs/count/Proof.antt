@@ -1,7 +1,8 @@
+use borrow.Author.Needs.{needs}
 use native.Mathlib.Omega.{arith}
 use Prim.Native.Nat.{_-_}
 use Rattle.offers.specs.Offered.{longest}
-use Rattle.offers.proofs.Counting.{Counting, count-begins, count-over, count-spent, count-waiting, count-again}
+use Rattle.offers.proofs.Counting.{Counting, count-begins, count-over, count-spent, count-again}
 use Rattle.offers.proofs.count.Statement.{statement}
 use Rattle.offers.proofs.count.Tie as tie
 
@@ -24,7 +25,7 @@ returns : tie.Need-returns Inv-loop μ-loop
 returns c = count-over (c .before .before .loop .inv) (c .before .before .before .before .before .pre) (c .if1 .taken)
 
 portion-requires : tie.Need-portion-requires Inv-loop μ-loop
-portion-requires c κs = count-waiting (c .before .before .before .before .loop .inv) (c .before .before .before .before .before .before .before .pre)
+portion-requires c κs = search needs
 
 add-n : tie.Need-add-n Inv-loop μ-loop
 add-n c = omega (arith, c .before .before .before .before .before .before .before .loop-test .taken)

@@ -1,12 +1,11 @@
 use native.Mathlib.Omega.{arith}
 use borrow.Author.Needs.{needs}
-use Rattle.streams.proofs.Answered.{passing-first}
 use Rattle.offers.proofs.Told.{waiting-now, tells}
 use Rattle.offers.proofs.rows_of.Statement.{statement}
 use Rattle.offers.proofs.rows_of.Tie as tie
 
 start-requires : tie.Need-start-requires
-start-requires c κs = passing-first (c .before .before .before .before .before .before .before .before .before .before .before .before .pre) (c .before .before .before .before .before .before .before .before .make-plan .ensures) (c .before .before .before .before .link .ensures) (omega arith)
+start-requires c κs = search needs
 
 count-requires : tie.Need-count-requires
 count-requires c κs = waiting-now (c .before .before .before .before .before .before .before .before .before .before .before .before .before .before .before .before .before .before .pre) (c .before .before .before .before .before .before .before .before .before .before .before .before .before .before .make-plan .ensures) (c .before .before .before .before .before .before .before .before .before .before .link .ensures) _ (omega arith) (c .before .before .before .before .before .start .ensures)
