@@ -34,10 +34,10 @@ spares-then A B = record { long = B .long ∙ A .long; above = λ j h. B .above 
 pub spares-all : (s : List ℕ) → Spares s s
 spares-all s = record { long = refl; above = λ j h. refl }
 
-apart-spares : {s t : List ℕ} → Apart s t → Spares s t
+pub apart-spares : {s t : List ℕ} → Apart s t → Spares s t
 apart-spares A = record { long = A .long; above = λ j h. A .above j (omega arith) }
 
-cleared-same : {s t : List ℕ} → Spares s t → cleared t ≡ cleared s
+pub cleared-same : {s t : List ℕ} → Spares s t → cleared t ≡ cleared s
 cleared-same {s} {t} S = ap (λ (l : List ℕ). replicate scratchWords 0 ++ l) (ext-getD 0 (drop scratchWords t) (drop scratchWords s) long word)
   where
     long : length (drop scratchWords t) ≡ length (drop scratchWords s)
@@ -53,7 +53,7 @@ module _ {A : Type 0} (s : List ℕ) (b : List A) (x : Result (Answer A)) where
 
 -- ---- behind 31
 module _ {A : Type 0} {s t u : List ℕ} {b b′ : List A} {x : Result (Answer A)} {k n : ℕ} {r : Reply} (room : scratchWords ≤ length s) (S : Spares s t) (R : Replies t u k n r) where
-  replied : Settles x b k n b′ → Gives (withScratch s b x) (r .number) (r .length) b′ u
+  pub replied : Settles x b k n b′ → Gives (withScratch s b x) (r .number) (r .length) b′ u
   replied P =
       let g = P .gives s in
       subst (λ (o : Outcome A). Gives o (r .number) (r .length) b′ u) (sym (scratch-long s b x room))
@@ -68,10 +68,10 @@ module _ {d l : Bytes} {s t : List ℕ} {x : Begun} (B : Begins d l s t x) where
   scant : x ≡ Begun.Scant → (length s < scratchWords) × (t ≡ s)
   scant e = subst (BegunBy d l s t) e (B .is)
 
-  refuses : {k : ℕ} → x ≡ Begun.Refused k → (scratchWords ≤ length s) × Prepares d l s t (Checked.Refused k)
+  pub refuses : {k : ℕ} → x ≡ Begun.Refused k → (scratchWords ≤ length s) × Prepares d l s t (Checked.Refused k)
   refuses e = subst (BegunBy d l s t) e (B .is)
 
-  accepts : x ≡ Begun.Accepted → (scratchWords ≤ length s) × Prepares d l s t Checked.Accepted
+  pub accepts : x ≡ Begun.Accepted → (scratchWords ≤ length s) × Prepares d l s t Checked.Accepted
   accepts e = subst (BegunBy d l s t) e (B .is)
 
   pub room-refused : {k : ℕ} → x ≡ Begun.Refused k → scratchWords ≤ length t

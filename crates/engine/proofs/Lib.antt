@@ -1,5 +1,7 @@
 -- From the parts of a call to its outcome.
 pub mod Calls
+pub mod PortionCalls
 pub mod Outcomes
 pub mod Demand3
 pub mod RowOrder
+pub mod Portions

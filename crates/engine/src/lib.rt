@@ -5,8 +5,10 @@ ghost use lib.ListN.{length};
 ghost use Rattle.outcome.specs.Outcome.{byLoops, byPlan, checked, planLines};
 ghost use Rattle.prepared.specs.Gives.{Gives};
 ghost use Rattle.engine.specs.Replies.{Begins, Replies};
+ghost use Rattle.engine.specs.Portions.{BeginGives, PortionGives, Says, EndsWith};
 use front::Checked;
 use lines::Printed;
+use portions::Progress;
 use prepared::Answer;
 
 // "An answer is 0 and its length ..; a refusal its number and length 0."
@@ -129,5 +131,94 @@ pub extern "C" fn dislogha_plan_lines(
             Printed::Short => finish(scratch, 33, 0),
             Printed::Length(n) => finish(scratch, 0, n as u64),
         },
+    }
+}
+
+// What a portion says: whether its question is finished, how many rows it offered, and number and length as in a reply.
+#[repr(C)]
+pub struct Portioned {
+    pub finished: u64,
+    pub rows: u64,
+    pub number: u64,
+    pub length: u64,
+}
+
+// "One call begins, with all refusals to 28." Then scratch holds the unfinished question.
+#[no_mangle]
+pub extern "C" fn dislogha_begin(tables: &[u8], question: &[u8], scratch: &mut [u64]) -> Reply
+    ensures { λ r. ⌜ BeginGives (now (tables .entry)) (now (question .entry)) (now (scratch .entry)) (now (scratch .exit)) r ⌝ }
+{
+    match begin(tables, question, scratch) {
+        Begun::Scant => Reply {
+            number: 31,
+            length: 0,
+        },
+        Begun::Refused(k) => finish(scratch, k, 0),
+        Begun::Accepted => {
+            portions::begin(scratch);
+            Reply {
+                number: 0,
+                length: 0,
+            }
+        }
+    }
+}
+
+// A portion that offers no row.
+fn declined(k: u64) -> Portioned
+    ensures { λ r. ⌜ Says r 0 0 k 0 ⌝ }
+{
+    Portioned {
+        finished: 0,
+        rows: 0,
+        number: k,
+        length: 0,
+    }
+}
+
+// The last portion of a question.
+fn ended(s: &mut [u64], rows: u64, k: u64, n: u64) -> Portioned
+    requires { ⌜ 8192 ≤ length (now s) ⌝ }
+    ensures { λ r. ⌜ EndsWith (now (s .entry)) (now (s .exit)) rows k n r ⌝ }
+{
+    let x = finish(s, k, n);
+    Portioned {
+        finished: 1,
+        rows,
+        number: x.number,
+        length: x.length,
+    }
+}
+
+// "Each later one offers exactly a given number of rows .. and says unfinished, or all that remain, if no more, and says finished
+// and how many."
+#[no_mangle]
+pub extern "C" fn dislogha_portion(
+    tables: &[u8],
+    scratch: &mut [u64],
+    answer: &mut [i64],
+    rows: u64,
+) -> Portioned
+    ensures { λ r. ⌜ PortionGives (now (tables .entry)) rows (now (scratch .entry)) (now (answer .entry)) (now (scratch .exit)) (now (answer .exit)) r ⌝ }
+{
+    if rows == 0 {
+        return declined(47);
+    }
+    if 65535 < rows {
+        return declined(47);
+    }
+    if scratch.len() < 8192 {
+        return declined(31);
+    }
+    match portions::advance(scratch, tables, answer, rows as usize) {
+        Progress::Nothing => declined(48),
+        Progress::Unfinished => Portioned {
+            finished: 0,
+            rows,
+            number: 0,
+            length: 0,
+        },
+        Progress::Short(k) => ended(scratch, k as u64, 32, 0),
+        Progress::Length(k, n) => ended(scratch, k as u64, 0, n as u64),
     }
 }

@@ -1,0 +1,160 @@
+-- From the parts of the calls that answer in portions to their outcomes.
+use native.Mathlib.Omega.{arith}
+use mathlib.Core.Path.{_≡_, refl, sym, ap, subst, _∙_}
+use mathlib.Core.Bool.{Bool}
+use mathlib.Core.List.{List, []}
+use Prim.Native.Nat.{ℕ, _≤_, _<_}
+use borrow.Author.Tests.{eq-eqb, ne-eqb, lt-ltb, le-ltb}
+use lib.Dec.{eqb, ltb}
+use lib.ListN.{length, getD}
+use lib.IntN.{ℤ}
+use Rattle.calculus.specs.Lists.{pick}
+use Rattle.encoding.specs.Record.{Bytes, Result, refused, got, andThen}
+use Rattle.encoding.specs.Data.{readData}
+use Rattle.encoding.specs.Reader.{readQuestion}
+use Rattle.encoding.proofs.Refusals.{Only}
+use Rattle.calculus.specs.Syntax.{Question}
+use Rattle.calculus.specs.Value.{Tables}
+use Rattle.outcome.specs.Accepted.{Accepted, judge, examine}
+use Rattle.outcome.specs.Outcome.{Answer, scratchWords, cleared, checked, written, answered, planned, byPlan}
+use Rattle.outcome.proofs.Checks.{got-is}
+use Rattle.prepared.specs.Gives.{Gives, Settles, Spares}
+use Rattle.front.specs.Prepares.{Accepts}
+use Rattle.cursors.specs.Cursors.{most}
+use Rattle.portions.specs.Run.{Run, begun, rowsDue}
+use Rattle.portions.specs.Standing.{Pending, task, Asks, Ends}
+use Rattle.portions.specs.Unfinished.{stageAt, Unfinished, Continues, Finishes, AdvancedBy, Advances}
+use Rattle.portions.specs.Unfinished as Un
+use Rattle.portions.specs.declared.Progress.{Progress}
+use Rattle.portions.specs.declared.Progress.the-variants as Progress
+use Rattle.engine.specs.Replies.{Begins, Replies}
+use Rattle.engine.specs.Portions.{BeginGives, refusal, Says, PortionGives, EndsWith}
+use Rattle.engine.specs.declared.Begun.{Begun}
+use Rattle.engine.specs.declared.Begun.the-variants as Begun
+use Rattle.engine.specs.declared.Reply.{Reply}
+use Rattle.engine.specs.declared.Portioned.{Portioned}
+use Rattle.engine.proofs.Calls.{spares-then, apart-spares, replied, accepts, refuses, check-scant, check-refused, check-accepted}
+use Rattle.engine.proofs.Outcomes.{checks-only}
+
+-- ---- beginning
+module _ {d l : Bytes} {s t : List ℕ} {x : Begun} (B : Begins d l s t x) where
+  begin-refusal : {u : List ℕ} (r : Reply) → Gives (checked d l s) (r .number) (r .length) [] u → (r .number ≡ 0 → ⊥) → BeginGives d l s u r
+  begin-refusal r C h = record { number = C .number; size = C .size; refused = λ n. C .scratch; begins = λ e. absurd (h e); spares = λ e. absurd (h e) }
+
+  pub begin-scant : x ≡ Begun.Scant → (r : Reply) → r .number ≡ 31 → r .length ≡ 0 → BeginGives d l s t r
+  begin-scant e r en ez =
+      let C = check-scant B e in
+      begin-refusal r (record { number = en ∙ C .number; size = ez ∙ C .size; buffer = C .buffer; scratch = C .scratch }) (λ z. omega (arith, z, en))
+
+  -- no check refuses by 0
+  refuses-above : {k : ℕ} → x ≡ Begun.Refused k → k ≡ 0 → ⊥
+  refuses-above e = subst (Only (λ n. n ≡ 0 → ⊥)) (refuses B e .1 .is) (checks-only d l)
+
+  pub begin-refused : {k : ℕ} → x ≡ Begun.Refused k → {u : List ℕ} {r : Reply} → Replies t u k 0 r → BeginGives d l s u r
+  begin-refused e {r = r} R = begin-refusal r (check-refused B e R) (λ z. refuses-above e (sym (R .number) ∙ z))
+
+  pub begin-accepted : x ≡ Begun.Accepted → {u : List ℕ} → Un.Begins t u → (r : Reply) → r .number ≡ 0 → r .length ≡ 0 → BeginGives d l s u r
+  begin-accepted e {u} P r en ez = record {
+    number = en ∙ C .number;
+    size = ez ∙ C .size;
+    refused = λ h. absurd (h en);
+    begins = λ z a g lent b.
+        subst (λ (a : Accepted). let q : Pending = record { bytes = l; accepted = a; lent = lent } in Unfinished d q u lent (begun (task d q))) (got-is (Y .accepted) a (sym (Y .is) ∙ g))
+        (P .is d (record { bytes = l; accepted = Y .accepted; lent = lent }) (Y .read) (Y .prepared) b);
+    spares = λ z. spares-then (apart-spares (accepts B e .1 .away)) (P .spares d (Y .accepted) (Y .prepared));
+  }
+    where
+      Y : Accepts d l t
+      Y = accepts B e .1 .is
+
+      C : Gives (checked d l s) 0 0 [] (cleared t)
+      C = check-accepted B e {r = record { number = 0; length = 0 }} (record { number = refl; length = refl; scratch = refl })
+
+-- ---- which refusal a portion has
+module _ (n : ℕ) (s : List ℕ) where
+  refusal-by : {a b c e : Bool} → eqb n 0 ≡ a → ltb 65535 n ≡ b → ltb (length s) scratchWords ≡ c → eqb (getD s stageAt 0) 0 ≡ e → refusal n s ≡ pick a 47 (pick b 47 (pick c 31 (pick e 48 0)))
+  unfolding refusal
+  refusal-by {a} {b} {c} {e} p q r t =
+      ap (λ (x : Bool). pick x 47 (pick (ltb 65535 n) 47 (pick (ltb (length s) scratchWords) 31 (pick (eqb (getD s stageAt 0) 0) 48 0)))) p
+      ∙ ap (λ (x : Bool). pick a 47 (pick x 47 (pick (ltb (length s) scratchWords) 31 (pick (eqb (getD s stageAt 0) 0) 48 0)))) q
+      ∙ ap (λ (x : Bool). pick a 47 (pick b 47 (pick x 31 (pick (eqb (getD s stageAt 0) 0) 48 0)))) r
+      ∙ ap (λ (x : Bool). pick a 47 (pick b 47 (pick c 31 (pick x 48 0)))) t
+
+  pub no-rows : n ≡ 0 → refusal n s ≡ 47
+  unfolding pick
+  no-rows h = refusal-by (eq-eqb n 0 h) refl refl refl
+
+  module _ (some : n ≡ 0 → ⊥) where
+    pub many-rows : 65535 < n → refusal n s ≡ 47
+    unfolding pick
+    many-rows h = refusal-by (ne-eqb n 0 some) (lt-ltb 65535 n h) refl refl
+
+    module _ (few : n ≤ 65535) where
+      pub scant-scratch : length s < scratchWords → refusal n s ≡ 31
+      unfolding pick
+      scant-scratch h = refusal-by (ne-eqb n 0 some) (le-ltb 65535 n few) (lt-ltb (length s) scratchWords h) refl
+
+      module _ (room : scratchWords ≤ length s) where
+        pub no-question : getD s stageAt 0 ≡ 0 → refusal n s ≡ 48
+        unfolding pick
+        no-question h = refusal-by (ne-eqb n 0 some) (le-ltb 65535 n few) (le-ltb (length s) scratchWords room) (eq-eqb (getD s stageAt 0) 0 h)
+
+        pub no-refusal : (getD s stageAt 0 ≡ 0 → ⊥) → refusal n s ≡ 0
+        unfolding pick
+        no-refusal h = refusal-by (ne-eqb n 0 some) (le-ltb 65535 n few) (le-ltb (length s) scratchWords room) (ne-eqb (getD s stageAt 0) 0 h)
+
+-- ---- a portion that is refused
+pub portion-refused : {d : Bytes} {n k : ℕ} {s : List ℕ} {o : List ℤ} {r : Portioned} → refusal n s ≡ k → (k ≡ 0 → ⊥) → Says r 0 0 k 0 → PortionGives d n s o s o r
+portion-refused {r = r} e h S = record {
+  refused = λ g. (subst (λ (k : ℕ). Says r 0 0 k 0) (sym e) S, (refl, refl));
+  unended = λ z. absurd (h (sym e ∙ z));
+  ended = λ z. absurd (h (sym e ∙ z));
+}
+
+-- ---- a portion
+-- the checks accepted the question
+asks-examined : {d : Bytes} {q : Pending} {first : ℕ} → Asks d q first → examine d (q .bytes) ≡ got (q .accepted)
+unfolding examine andThen
+asks-examined {d} {q} X =
+    ap (λ (x : Result Tables). andThen x (λ (T : Tables). andThen (readQuestion (q .bytes)) (λ (y : Question). judge T y))) (X .ready .tables)
+    ∙ ap (λ (x : Result Question). andThen x (λ (y : Question). judge (q .accepted .tables) y)) (X .read)
+    ∙ X .ready .judged
+
+module _ {d : Bytes} (n : ℕ) (s : List ℕ) {s′ : List ℕ} {o o′ : List ℤ} {x : Progress} (A : Advances d n s o s′ o′ x) (some : n ≡ 0 → ⊥) (few : n ≤ 65535) (room : scratchWords ≤ length s) where
+  by : {y : Progress} → x ≡ y → AdvancedBy d n s o s′ o′ y
+  by e = subst (AdvancedBy d n s o s′ o′) e (A .is)
+
+  pub portion-nothing : x ≡ Progress.Nothing → {r : Portioned} → Says r 0 0 48 0 → PortionGives d n s o s′ o′ r
+  portion-nothing e {r} S =
+      let p = by e in
+      let P : PortionGives d n s o s o r = portion-refused (no-question n s some few room (p .0)) (λ z. omega (arith, z)) S in
+      subst (λ (y : List ℤ). PortionGives d n s o s′ y r) (sym (p .1 .1)) (subst (λ (y : List ℕ). PortionGives d n s o y o r) (sym (p .1 .0)) P)
+
+  pub portion-on : x ≡ Progress.Unfinished → {r : Portioned} → Says r 0 n 0 0 → PortionGives d n s o s′ o′ r
+  portion-on e {r} S =
+      let p = by e in
+      let C : Continues d n s o s′ o′ = p .1 in
+      record {
+        refused = λ h. absurd (h (no-refusal n s some few room (p .0)));
+        unended = λ z q R U l. record { says = S; unfinished = C .is q R U; spares = C .spares q R U };
+        ended = λ z q R U l. absurd (omega (arith, l, C .fewer q R U));
+      }
+
+  portion-ends : (getD s stageAt 0 ≡ 0 → ⊥) → {k a b : ℕ} → Finishes d n s o s′ o′ k a b → {u : List ℕ} {r : Portioned} → EndsWith s′ u k a b r → PortionGives d n s o u o′ r
+  unfolding byPlan answered andThen
+  portion-ends h {k} {a} {b} F {u} {r} E = record {
+    refused = λ g. absurd (g (no-refusal n s some few room h));
+    unended = λ z q R U l. absurd (omega (arith, l, F .enough q R U));
+    ended = λ z q R U l. record {
+      end = E .end;
+      offered = E .offered ∙ F .rows q R U;
+      gives = replied room (F .spares q R U) (E .replies)
+          (subst (λ (y : Result Accepted). Settles (andThen y (written planned (q .lent))) (q .lent) a b o′) (sym (asks-examined (U .asks))) (F .is q R U));
+    };
+  }
+
+  pub portion-short : {k : ℕ} → x ≡ Progress.Short k → {u : List ℕ} {r : Portioned} → EndsWith s′ u k 32 0 r → PortionGives d n s o u o′ r
+  portion-short e E = let p = by e in portion-ends (p .0) (p .1) E
+
+  pub portion-full : {k m : ℕ} → x ≡ Progress.Length k m → {u : List ℕ} {r : Portioned} → EndsWith s′ u k 0 m r → PortionGives d n s o u o′ r
+  portion-full e E = let p = by e in portion-ends (p .0) (p .1) E
