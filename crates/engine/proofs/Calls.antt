@@ -22,9 +22,9 @@ use Rattle.lines.specs.declared.Printed.{Printed}
 use Rattle.front.specs.Loaded.{Apart}
 use Rattle.front.specs.Prepares.{Accepts, Prepares}
 use Rattle.front.specs.declared.Checked.the-variants as Checked
-use Rattle.engine.specs.Replies.{BegunBy, Begins, Replies}
-use Rattle.engine.specs.declared.Begun.{Begun}
-use Rattle.engine.specs.declared.Begun.the-variants as Begun
+use Rattle.engine.specs.Replies.{AdmittedBy, Admits, Replies}
+use Rattle.engine.specs.declared.Admitted.{Admitted}
+use Rattle.engine.specs.declared.Admitted.the-variants as Admitted
 use Rattle.engine.specs.declared.Reply.{Reply}
 
 -- ---- scratch
@@ -64,39 +64,39 @@ abbrev nothing : Accepted → Result (Answer ℕ)
 nothing a = got (record { size = 0; front = [] })
 
 -- ---- how a call begins
-module _ {d l : Bytes} {s t : List ℕ} {x : Begun} (B : Begins d l s t x) where
-  scant : x ≡ Begun.Scant → (length s < scratchWords) × (t ≡ s)
-  scant e = subst (BegunBy d l s t) e (B .is)
+module _ {d l : Bytes} {s t : List ℕ} {x : Admitted} (B : Admits d l s t x) where
+  scant : x ≡ Admitted.Scant → (length s < scratchWords) × (t ≡ s)
+  scant e = subst (AdmittedBy d l s t) e (B .is)
 
-  pub refuses : {k : ℕ} → x ≡ Begun.Refused k → (scratchWords ≤ length s) × Prepares d l s t (Checked.Refused k)
-  refuses e = subst (BegunBy d l s t) e (B .is)
+  pub refuses : {k : ℕ} → x ≡ Admitted.Refused k → (scratchWords ≤ length s) × Prepares d l s t (Checked.Refused k)
+  refuses e = subst (AdmittedBy d l s t) e (B .is)
 
-  pub accepts : x ≡ Begun.Accepted → (scratchWords ≤ length s) × Prepares d l s t Checked.Accepted
-  accepts e = subst (BegunBy d l s t) e (B .is)
+  pub accepts : x ≡ Admitted.Accepted → (scratchWords ≤ length s) × Prepares d l s t Checked.Accepted
+  accepts e = subst (AdmittedBy d l s t) e (B .is)
 
-  pub room-refused : {k : ℕ} → x ≡ Begun.Refused k → scratchWords ≤ length t
+  pub room-refused : {k : ℕ} → x ≡ Admitted.Refused k → scratchWords ≤ length t
   room-refused e = let p = refuses e in omega (arith, p .0, p .1 .away .long)
 
-  pub room-accepted : x ≡ Begun.Accepted → scratchWords ≤ length t
+  pub room-accepted : x ≡ Admitted.Accepted → scratchWords ≤ length t
   room-accepted e = let p = accepts e in omega (arith, p .0, p .1 .away .long)
 
   -- the question stands in scratch for the part that answers
-  pub asked : x ≡ Begun.Accepted → Asked d t
+  pub asked : x ≡ Admitted.Accepted → Asked d t
   asked e = let Y : Accepts d l t = accepts e .1 .is in record { question = l; accepted = Y .accepted; read = Y .read; prepared = Y .prepared }
 
   -- The checks, then a part over what they hand on.
   module _ {A : Type 0} (part : Accepted → Result (Answer A)) (b : List A) where
-    pub scant-by : x ≡ Begun.Scant → Gives (withScratch s b (andThen (examine d l) part)) 31 0 b t
+    pub scant-by : x ≡ Admitted.Scant → Gives (withScratch s b (andThen (examine d l) part)) 31 0 b t
     scant-by e = let p = scant e in subst (Gives (withScratch s b (andThen (examine d l) part)) 31 0 b) (sym (p .1)) (too-short s b (andThen (examine d l) part) (p .0))
 
-    pub refused-by : {k : ℕ} → x ≡ Begun.Refused k → {u : List ℕ} {r : Reply} → Replies t u k 0 r → Gives (withScratch s b (andThen (examine d l) part)) (r .number) (r .length) b u
+    pub refused-by : {k : ℕ} → x ≡ Admitted.Refused k → {u : List ℕ} {r : Reply} → Replies t u k 0 r → Gives (withScratch s b (andThen (examine d l) part)) (r .number) (r .length) b u
     unfolding andThen
     refused-by {k} e R =
         let p = refuses e in
         replied (p .0) (apart-spares (p .1 .away)) R
         (subst (λ y. Settles (andThen y part) b k 0 b) (sym (p .1 .is)) (settles-refused k refl))
 
-    pub settled-by : x ≡ Begun.Accepted → {b′ : List A} {u v : List ℕ} {k n : ℕ} {r : Reply} → Spares t u → ((y : Accepts d l t) → Settles (part (y .accepted)) b k n b′) → Replies u v k n r
+    pub settled-by : x ≡ Admitted.Accepted → {b′ : List A} {u v : List ℕ} {k n : ℕ} {r : Reply} → Spares t u → ((y : Accepts d l t) → Settles (part (y .accepted)) b k n b′) → Replies u v k n r
         → Gives (withScratch s b (andThen (examine d l) part)) (r .number) (r .length) b′ v
     unfolding andThen
     settled-by e {b′} {k = k} {n} S f R =
@@ -106,32 +106,32 @@ module _ {d l : Bytes} {s t : List ℕ} {x : Begun} (B : Begins d l s t x) where
         (subst (λ y. Settles (andThen y part) b k n b′) (sym (Y .is)) (f Y))
 
   -- ---- the checker
-  pub check-scant : x ≡ Begun.Scant → Gives (checked d l s) 31 0 [] t
+  pub check-scant : x ≡ Admitted.Scant → Gives (checked d l s) 31 0 [] t
   unfolding checked
   check-scant e = scant-by nothing [] e
 
-  pub check-refused : {k : ℕ} → x ≡ Begun.Refused k → {u : List ℕ} {r : Reply} → Replies t u k 0 r → Gives (checked d l s) (r .number) (r .length) [] u
+  pub check-refused : {k : ℕ} → x ≡ Admitted.Refused k → {u : List ℕ} {r : Reply} → Replies t u k 0 r → Gives (checked d l s) (r .number) (r .length) [] u
   unfolding checked
   check-refused e R = refused-by nothing [] e R
 
-  pub check-accepted : x ≡ Begun.Accepted → {u : List ℕ} {r : Reply} → Replies t u 0 0 r → Gives (checked d l s) (r .number) (r .length) [] u
+  pub check-accepted : x ≡ Admitted.Accepted → {u : List ℕ} {r : Reply} → Replies t u 0 0 r → Gives (checked d l s) (r .number) (r .length) [] u
   unfolding checked
   check-accepted e R = settled-by nothing [] e (spares-all t) (λ y. settles-got (record { size = 0; front = [] }) refl refl) R
 
   -- ---- answering, by the value that is to be answered
   module _ (value : Accepted → Value) {b : List ℤ} where
-    pub answer-scant : x ≡ Begun.Scant → Gives (answered value d l s b) 31 0 b t
+    pub answer-scant : x ≡ Admitted.Scant → Gives (answered value d l s b) 31 0 b t
     unfolding answered
     answer-scant e = scant-by (written value b) b e
 
-    pub answer-refused : {k : ℕ} → x ≡ Begun.Refused k → {u : List ℕ} {r : Reply} → Replies t u k 0 r → Gives (answered value d l s b) (r .number) (r .length) b u
+    pub answer-refused : {k : ℕ} → x ≡ Admitted.Refused k → {u : List ℕ} {r : Reply} → Replies t u k 0 r → Gives (answered value d l s b) (r .number) (r .length) b u
     unfolding answered
     answer-refused e R = refused-by (written value b) b e R
 
-    pub room-answered : x ≡ Begun.Accepted → {b′ : List ℤ} {u : List ℕ} {y : Ended} → An.Answers value d t b u b′ y → scratchWords ≤ length u
+    pub room-answered : x ≡ Admitted.Accepted → {b′ : List ℤ} {u : List ℕ} {y : Ended} → An.Answers value d t b u b′ y → scratchWords ≤ length u
     room-answered e A = omega (arith, room-accepted e, A .long)
 
-    pub answer-given : x ≡ Begun.Accepted → {b′ : List ℤ} {u v : List ℕ} {y z : Ended} {r : Reply} → An.Answers value d t b u b′ y → y ≡ z → Replies u v (numberOf z) (lengthOf z) r → Gives (answered value d l s b) (r .number) (r .length) b′ v
+    pub answer-given : x ≡ Admitted.Accepted → {b′ : List ℤ} {u v : List ℕ} {y z : Ended} {r : Reply} → An.Answers value d t b u b′ y → y ≡ z → Replies u v (numberOf z) (lengthOf z) r → Gives (answered value d l s b) (r .number) (r .length) b′ v
     unfolding answered
     answer-given e {b′} {u} A₀ q R =
         let A = subst (An.Answers value d t b u b′) q A₀ in
@@ -140,15 +140,15 @@ module _ {d l : Bytes} {s t : List ℕ} {x : Begun} (B : Begins d l s t x) where
 
   -- ---- the plan's lines
   module _ {b : List ℕ} where
-    pub lines-scant : x ≡ Begun.Scant → Gives (planLines d l s b) 31 0 b t
+    pub lines-scant : x ≡ Admitted.Scant → Gives (planLines d l s b) 31 0 b t
     unfolding planLines
     lines-scant e = scant-by (printed b) b e
 
-    pub lines-refused : {k : ℕ} → x ≡ Begun.Refused k → {u : List ℕ} {r : Reply} → Replies t u k 0 r → Gives (planLines d l s b) (r .number) (r .length) b u
+    pub lines-refused : {k : ℕ} → x ≡ Admitted.Refused k → {u : List ℕ} {r : Reply} → Replies t u k 0 r → Gives (planLines d l s b) (r .number) (r .length) b u
     unfolding planLines
     lines-refused e R = refused-by (printed b) b e R
 
-    pub lines-given : x ≡ Begun.Accepted → {b′ : List ℕ} {u v : List ℕ} {y z : Printed} {r : Reply} → length u ≡ length t → Prints t b u b′ y → y ≡ z → Replies u v (Pr.numberOf z) (Pr.lengthOf z) r → Gives (planLines d l s b) (r .number) (r .length) b′ v
+    pub lines-given : x ≡ Admitted.Accepted → {b′ : List ℕ} {u v : List ℕ} {y z : Printed} {r : Reply} → length u ≡ length t → Prints t b u b′ y → y ≡ z → Replies u v (Pr.numberOf z) (Pr.lengthOf z) r → Gives (planLines d l s b) (r .number) (r .length) b′ v
     unfolding planLines
     lines-given e {b′} {u} m A₀ q R =
         let A = subst (Prints t b u b′) q A₀ in

@@ -1,59 +1,57 @@
 -- From the parts of the calls that answer in portions to their outcomes.
 use native.Mathlib.Omega.{arith}
 use mathlib.Core.Path.{_≡_, refl, sym, ap, subst, _∙_}
-use mathlib.Core.Bool.{Bool}
+use mathlib.Core.Bool.{Bool, true, false}
 use mathlib.Core.List.{List, []}
 use Prim.Native.Nat.{ℕ, _≤_, _<_}
 use borrow.Author.Tests.{eq-eqb, ne-eqb, lt-ltb, le-ltb}
-use lib.Dec.{eqb, ltb}
+use lib.Dec.{ltb}
 use lib.ListN.{length, getD}
 use lib.IntN.{ℤ}
 use Rattle.calculus.specs.Lists.{pick}
 use Rattle.encoding.specs.Record.{Bytes, Result, refused, got, andThen}
-use Rattle.encoding.specs.Data.{readData}
 use Rattle.encoding.specs.Reader.{readQuestion}
 use Rattle.encoding.proofs.Refusals.{Only}
 use Rattle.calculus.specs.Syntax.{Question}
 use Rattle.calculus.specs.Value.{Tables}
 use Rattle.outcome.specs.Accepted.{Accepted, judge, examine}
-use Rattle.outcome.specs.Outcome.{Answer, scratchWords, cleared, checked, written, answered, planned, byPlan}
+use Rattle.outcome.specs.Outcome.{scratchWords, cleared, checked, written, answered, planned, byPlan}
 use Rattle.outcome.proofs.Checks.{got-is}
-use Rattle.prepared.specs.Gives.{Gives, Settles, Spares}
+use Rattle.prepared.specs.Gives.{Gives, Settles}
 use Rattle.front.specs.Prepares.{Accepts}
-use Rattle.cursors.specs.Cursors.{most}
-use Rattle.portions.specs.Run.{Run, begun, rowsDue}
-use Rattle.portions.specs.Standing.{Pending, task, Asks, Ends}
-use Rattle.portions.specs.Unfinished.{stageAt, Unfinished, Continues, Finishes, AdvancedBy, Advances}
+use Rattle.portions.specs.Run.{begun}
+use Rattle.portions.specs.Standing.{Pending, task, Asks}
+use Rattle.portions.specs.Unfinished.{stageAt, idle, Unfinished, Continues, Finishes, AdvancedBy, Advances}
 use Rattle.portions.specs.Unfinished as Un
 use Rattle.portions.specs.declared.Progress.{Progress}
 use Rattle.portions.specs.declared.Progress.the-variants as Progress
-use Rattle.engine.specs.Replies.{Begins, Replies}
-use Rattle.engine.specs.Portions.{BeginGives, refusal, Says, PortionGives, EndsWith}
-use Rattle.engine.specs.declared.Begun.{Begun}
-use Rattle.engine.specs.declared.Begun.the-variants as Begun
+use Rattle.engine.specs.Replies.{Admits, Replies}
+use Rattle.engine.specs.Portions.{BeginGives, outside, refusal, Says, PortionGives, EndsWith}
+use Rattle.engine.specs.declared.Admitted.{Admitted}
+use Rattle.engine.specs.declared.Admitted.the-variants as Admitted
 use Rattle.engine.specs.declared.Reply.{Reply}
 use Rattle.engine.specs.declared.Portioned.{Portioned}
 use Rattle.engine.proofs.Calls.{spares-then, apart-spares, replied, accepts, refuses, check-scant, check-refused, check-accepted}
 use Rattle.engine.proofs.Outcomes.{checks-only}
 
 -- ---- beginning
-module _ {d l : Bytes} {s t : List ℕ} {x : Begun} (B : Begins d l s t x) where
+module _ {d l : Bytes} {s t : List ℕ} {x : Admitted} (B : Admits d l s t x) where
   begin-refusal : {u : List ℕ} (r : Reply) → Gives (checked d l s) (r .number) (r .length) [] u → (r .number ≡ 0 → ⊥) → BeginGives d l s u r
   begin-refusal r C h = record { number = C .number; size = C .size; refused = λ n. C .scratch; begins = λ e. absurd (h e); spares = λ e. absurd (h e) }
 
-  pub begin-scant : x ≡ Begun.Scant → (r : Reply) → r .number ≡ 31 → r .length ≡ 0 → BeginGives d l s t r
+  pub begin-scant : x ≡ Admitted.Scant → (r : Reply) → r .number ≡ 31 → r .length ≡ 0 → BeginGives d l s t r
   begin-scant e r en ez =
       let C = check-scant B e in
       begin-refusal r (record { number = en ∙ C .number; size = ez ∙ C .size; buffer = C .buffer; scratch = C .scratch }) (λ z. omega (arith, z, en))
 
   -- no check refuses by 0
-  refuses-above : {k : ℕ} → x ≡ Begun.Refused k → k ≡ 0 → ⊥
+  refuses-above : {k : ℕ} → x ≡ Admitted.Refused k → k ≡ 0 → ⊥
   refuses-above e = subst (Only (λ n. n ≡ 0 → ⊥)) (refuses B e .1 .is) (checks-only d l)
 
-  pub begin-refused : {k : ℕ} → x ≡ Begun.Refused k → {u : List ℕ} {r : Reply} → Replies t u k 0 r → BeginGives d l s u r
+  pub begin-refused : {k : ℕ} → x ≡ Admitted.Refused k → {u : List ℕ} {r : Reply} → Replies t u k 0 r → BeginGives d l s u r
   begin-refused e {r = r} R = begin-refusal r (check-refused B e R) (λ z. refuses-above e (sym (R .number) ∙ z))
 
-  pub begin-accepted : x ≡ Begun.Accepted → {u : List ℕ} → Un.Begins t u → (r : Reply) → r .number ≡ 0 → r .length ≡ 0 → BeginGives d l s u r
+  pub begin-accepted : x ≡ Admitted.Accepted → {u : List ℕ} → Un.Begins t u → (r : Reply) → r .number ≡ 0 → r .length ≡ 0 → BeginGives d l s u r
   begin-accepted e {u} P r en ez = record {
     number = en ∙ C .number;
     size = ez ∙ C .size;
@@ -71,41 +69,57 @@ module _ {d l : Bytes} {s t : List ℕ} {x : Begun} (B : Begins d l s t x) where
       C = check-accepted B e {r = record { number = 0; length = 0 }} (record { number = refl; length = refl; scratch = refl })
 
 -- ---- which refusal a portion has
+module _ (n : ℕ) where
+  outside-none : n ≡ 0 → outside n ≡ true
+  unfolding outside pick
+  outside-none h = rw (eq-eqb n 0 h)
+
+  module _ (some : n ≡ 0 → ⊥) where
+    outside-above : 65535 < n → outside n ≡ true
+    unfolding outside pick
+    outside-above h = rw (ne-eqb n 0 some) (lt-ltb 65535 n h)
+
+    inside : n ≤ 65535 → outside n ≡ false
+    unfolding outside pick
+    inside h = rw (ne-eqb n 0 some) (le-ltb 65535 n h)
+
 module _ (n : ℕ) (s : List ℕ) where
-  refusal-by : {a b c e : Bool} → eqb n 0 ≡ a → ltb 65535 n ≡ b → ltb (length s) scratchWords ≡ c → eqb (getD s stageAt 0) 0 ≡ e → refusal n s ≡ pick a 47 (pick b 47 (pick c 31 (pick e 48 0)))
+  refusal-by : {a c e : Bool} → outside n ≡ a → ltb (length s) scratchWords ≡ c → idle (getD s stageAt 0) ≡ e → refusal n s ≡ pick a 47 (pick c 31 (pick e 48 0))
   unfolding refusal
-  refusal-by {a} {b} {c} {e} p q r t =
-      ap (λ (x : Bool). pick x 47 (pick (ltb 65535 n) 47 (pick (ltb (length s) scratchWords) 31 (pick (eqb (getD s stageAt 0) 0) 48 0)))) p
-      ∙ ap (λ (x : Bool). pick a 47 (pick x 47 (pick (ltb (length s) scratchWords) 31 (pick (eqb (getD s stageAt 0) 0) 48 0)))) q
-      ∙ ap (λ (x : Bool). pick a 47 (pick b 47 (pick x 31 (pick (eqb (getD s stageAt 0) 0) 48 0)))) r
-      ∙ ap (λ (x : Bool). pick a 47 (pick b 47 (pick c 31 (pick x 48 0)))) t
+  refusal-by {a} {c} {e} p q r =
+      ap (λ (x : Bool). pick x 47 (pick (ltb (length s) scratchWords) 31 (pick (idle (getD s stageAt 0)) 48 0))) p
+      ∙ ap (λ (x : Bool). pick a 47 (pick x 31 (pick (idle (getD s stageAt 0)) 48 0))) q
+      ∙ ap (λ (x : Bool). pick a 47 (pick c 31 (pick x 48 0))) r
+
+  pub outside-refused : outside n ≡ true → refusal n s ≡ 47
+  unfolding pick
+  outside-refused h = refusal-by h refl refl
 
   pub no-rows : n ≡ 0 → refusal n s ≡ 47
-  unfolding pick
-  no-rows h = refusal-by (eq-eqb n 0 h) refl refl refl
+  no-rows h = outside-refused (outside-none n h)
+
+  module _ (room : scratchWords ≤ length s) where
+    pub no-question : idle (getD s stageAt 0) ≡ true → refusal n s ≡ pick (outside n) 47 48
+    unfolding pick
+    no-question h = refusal-by refl (le-ltb (length s) scratchWords room) h
+
+    pub no-refusal : idle (getD s stageAt 0) ≡ false → refusal n s ≡ pick (outside n) 47 0
+    unfolding pick
+    no-refusal h = refusal-by refl (le-ltb (length s) scratchWords room) h
 
   module _ (some : n ≡ 0 → ⊥) where
     pub many-rows : 65535 < n → refusal n s ≡ 47
-    unfolding pick
-    many-rows h = refusal-by (ne-eqb n 0 some) (lt-ltb 65535 n h) refl refl
+    many-rows h = outside-refused (outside-above n some h)
 
     module _ (few : n ≤ 65535) where
       pub scant-scratch : length s < scratchWords → refusal n s ≡ 31
       unfolding pick
-      scant-scratch h = refusal-by (ne-eqb n 0 some) (le-ltb 65535 n few) (lt-ltb (length s) scratchWords h) refl
-
-      module _ (room : scratchWords ≤ length s) where
-        pub no-question : getD s stageAt 0 ≡ 0 → refusal n s ≡ 48
-        unfolding pick
-        no-question h = refusal-by (ne-eqb n 0 some) (le-ltb 65535 n few) (le-ltb (length s) scratchWords room) (eq-eqb (getD s stageAt 0) 0 h)
-
-        pub no-refusal : (getD s stageAt 0 ≡ 0 → ⊥) → refusal n s ≡ 0
-        unfolding pick
-        no-refusal h = refusal-by (ne-eqb n 0 some) (le-ltb 65535 n few) (le-ltb (length s) scratchWords room) (ne-eqb (getD s stageAt 0) 0 h)
+      scant-scratch h = refusal-by (inside n some few) (lt-ltb (length s) scratchWords h) refl
 
 -- ---- a portion that is refused
 pub portion-refused : {d : Bytes} {n k : ℕ} {s : List ℕ} {o : List ℤ} {r : Portioned} → refusal n s ≡ k → (k ≡ 0 → ⊥) → Says r 0 0 k 0 → PortionGives d n s o s o r
 portion-refused {r = r} e h S = record {
+  within = (omega (arith, S .offered), omega (arith, S .size));
   refused = λ g. (subst (λ (k : ℕ). Says r 0 0 k 0) (sym e) S, (refl, refl));
   unended = λ z. absurd (h (sym e ∙ z));
   ended = λ z. absurd (h (sym e ∙ z));
@@ -124,10 +138,14 @@ module _ {d : Bytes} (n : ℕ) (s : List ℕ) {s′ : List ℕ} {o o′ : List �
   by : {y : Progress} → x ≡ y → AdvancedBy d n s o s′ o′ y
   by e = subst (AdvancedBy d n s o s′ o′) e (A .is)
 
+  sized : (k : ℕ) → pick (outside n) 47 k ≡ k
+  unfolding pick
+  sized k = ap (λ (b : Bool). pick b 47 k) (inside n some few)
+
   pub portion-nothing : x ≡ Progress.Nothing → {r : Portioned} → Says r 0 0 48 0 → PortionGives d n s o s′ o′ r
   portion-nothing e {r} S =
       let p = by e in
-      let P : PortionGives d n s o s o r = portion-refused (no-question n s some few room (p .0)) (λ z. omega (arith, z)) S in
+      let P : PortionGives d n s o s o r = portion-refused (no-question n s room (p .0) ∙ sized 48) (λ z. omega (arith, z)) S in
       subst (λ (y : List ℤ). PortionGives d n s o s′ y r) (sym (p .1 .1)) (subst (λ (y : List ℕ). PortionGives d n s o y o r) (sym (p .1 .0)) P)
 
   pub portion-on : x ≡ Progress.Unfinished → {r : Portioned} → Says r 0 n 0 0 → PortionGives d n s o s′ o′ r
@@ -135,15 +153,17 @@ module _ {d : Bytes} (n : ℕ) (s : List ℕ) {s′ : List ℕ} {o o′ : List �
       let p = by e in
       let C : Continues d n s o s′ o′ = p .1 in
       record {
-        refused = λ h. absurd (h (no-refusal n s some few room (p .0)));
+        within = (omega (arith, S .offered), omega (arith, S .size));
+        refused = λ h. absurd (h (no-refusal n s room (p .0) ∙ sized 0));
         unended = λ z q R U l. record { says = S; unfinished = C .is q R U; spares = C .spares q R U };
         ended = λ z q R U l. absurd (omega (arith, l, C .fewer q R U));
       }
 
-  portion-ends : (getD s stageAt 0 ≡ 0 → ⊥) → {k a b : ℕ} → Finishes d n s o s′ o′ k a b → {u : List ℕ} {r : Portioned} → EndsWith s′ u k a b r → PortionGives d n s o u o′ r
+  portion-ends : idle (getD s stageAt 0) ≡ false → {k a b : ℕ} → k ≤ n → b ≤ length o′ → Finishes d n s o s′ o′ k a b → {u : List ℕ} {r : Portioned} → EndsWith s′ u k a b r → PortionGives d n s o u o′ r
   unfolding byPlan answered andThen
-  portion-ends h {k} {a} {b} F {u} {r} E = record {
-    refused = λ g. absurd (g (no-refusal n s some few room h));
+  portion-ends h {k} {a} {b} few-rows fits F {u} {r} E = record {
+    within = (omega (arith, E .offered, few-rows), omega (arith, E .replies .length, fits));
+    refused = λ g. absurd (g (no-refusal n s room h ∙ sized 0));
     unended = λ z q R U l. absurd (omega (arith, l, F .enough q R U));
     ended = λ z q R U l. record {
       end = E .end;
@@ -154,7 +174,7 @@ module _ {d : Bytes} (n : ℕ) (s : List ℕ) {s′ : List ℕ} {o o′ : List �
   }
 
   pub portion-short : {k : ℕ} → x ≡ Progress.Short k → {u : List ℕ} {r : Portioned} → EndsWith s′ u k 32 0 r → PortionGives d n s o u o′ r
-  portion-short e E = let p = by e in portion-ends (p .0) (p .1) E
+  portion-short e E = let p = by e in portion-ends (p .0) (p .1 .0) (omega arith) (p .1 .1) E
 
   pub portion-full : {k m : ℕ} → x ≡ Progress.Length k m → {u : List ℕ} {r : Portioned} → EndsWith s′ u k 0 m r → PortionGives d n s o u o′ r
-  portion-full e E = let p = by e in portion-ends (p .0) (p .1) E
+  portion-full e E = let p = by e in portion-ends (p .0) (p .1 .0) (p .1 .1 .0) (p .1 .1 .1) E

@@ -4,7 +4,7 @@ use native.Mathlib.Omega.{arith}
 use mathlib.Core.Path.{_≡_, refl, sym, ap, subst, _∙_}
 use mathlib.Core.Bool.{Bool, true, false}
 use mathlib.Core.List.{List, [], _∷_, _++_}
-use Prim.Native.Nat.{ℕ, zero, suc, _+_, _-_, _≤_, _<_}
+use Prim.Native.Nat.{ℕ, _+_, _-_, _≤_, _<_}
 use borrow.Author.Tests.{leb-true, leb-false, ltb-true, ltb-false, eqb-true, eqb-false}
 use lib.Dec.{eqb, leb, ltb}
 use lib.ListN.{length, getD, drop, replicate, length-append, length-replicate, getD-replicate, List·getD-append}
@@ -16,81 +16,86 @@ use Rattle.calculus.proofs.Lists.{All}
 use Rattle.encoding.specs.Record.{Bytes, Result, refused, got, andThen}
 use Rattle.encoding.specs.Data.{readData}
 use Rattle.plan.specs.Planner.{planOf}
+use Rattle.machine.specs.Machine.{State}
 use Rattle.machine.specs.Offers.{planOffers}
 use Rattle.outcome.specs.Accepted.{Accepted, examine}
-use Rattle.outcome.specs.Outcome.{Outcome, Answer, scratchWords, cleared, settled, withScratch, G, checked, written, answered, planned, byPlan}
+use Rattle.outcome.specs.Outcome.{Outcome, Answer, scratchWords, cleared, settled, G, checked, written, answered, planned, byPlan}
 use Rattle.outcome.proofs.Agreement.{scratch-short, scratch-long}
 use Rattle.outcome.proofs.Checks.{handed}
 use Rattle.encoding.proofs.Refusals.{only-then}
-use Rattle.prepared.specs.Gives.{Gives, Spares}
+use Rattle.prepared.specs.Gives.{Spares}
 use Rattle.signed.proofs.Word.{by-test}
 use Rattle.cursors.specs.Cursors.{most}
-use Rattle.portions.specs.Run.{Run, begun, portion, rowsDue}
+use Rattle.portions.specs.Run.{Run, counting, begun, portion, rowsDue}
 use Rattle.portions.specs.Standing.{Pending, task}
-use Rattle.portions.specs.Unfinished.{stageAt, Unfinished}
+use Rattle.portions.specs.Unfinished.{stageAt, idle, Unfinished}
 use Rattle.portions.proofs.Whole.{portion-due, rows-in-all}
-use Rattle.portions.proofs.Advanced.{long-unfinished, unfinished-stage, unfinished-live}
+use Rattle.portions.proofs.Advanced.{long-unfinished, unfinished-stage, unfinished-live, unwritten}
 use Rattle.environment.specs.Env.{tablesIn}
 use Rattle.environment.proofs.Laws.{tables-in}
-use Rattle.engine.specs.Portions.{rowsInAll, BeginGives, refusal, Says, Unended, Ended, PortionGives}
+use Rattle.engine.specs.Portions.{rowsInAll, BeginGives, outside, refusal, Says, Unended, Ended, PortionGives}
 use Rattle.engine.specs.declared.Reply.{Reply}
 use Rattle.engine.specs.declared.Portioned.{Portioned}
-use Rattle.engine.proofs.Calls.{spares-then, cleared-same}
+use Rattle.engine.proofs.Calls.{cleared-same}
 use Rattle.engine.proofs.Outcomes.{answers, checks-only}
-use Rattle.engine.proofs.PortionCalls.{no-question, no-refusal}
+use Rattle.engine.proofs.PortionCalls.{outside-refused, no-question, no-refusal}
 
 -- ---- portions of one question, one behind another over one scratch and one buffer
--- a portion of 1 to 65,535 rows, and what it said
+-- a portion, and what it said
 pub record Call : Type 0 where
   pub rows : ℕ
   pub said : Portioned
-  pub some : rows ≡ 0 → ⊥
-  pub few : rows ≤ 65535
 
 abbrev pub Portions : Bytes → List Call → List ℕ → List ℤ → List ℕ → List ℤ → Type 0
 Portions d [] s o s′ o′ = (s′ ≡ s) × (o′ ≡ o)
 Portions d (c ∷ cs) s o s′ o′ = (t : List ℕ) × ((p : List ℤ) × (PortionGives d (c .rows) s o t p (c .said) × Portions d cs t p s′ o′))
 
+-- the rows that they are given, but for those that are refused
+abbrev pub counted : ℕ → ℕ
+counted n = pick (outside n) 0 n
+
 unfoldable pub given : List Call → ℕ
 given [] = 0
-given (c ∷ cs) = c .rows + given cs
-
--- fewer rows than are due, where any portion was made
-abbrev pub Fewer : ℕ → List Call → Type 0
-Fewer due [] = Unit {0}
-Fewer due (c ∷ cs) = given (c ∷ cs) < due
+given (c ∷ cs) = counted (c .rows) + given cs
 
 -- Those before the last offer fewer rows than are due, and each says that it is unfinished and offered what it was given; the last
--- offers the rest, and says so, with number and length of the outcome; for those behind it no question is unfinished. Buffer and
--- scratch are the outcome's in the end.
+-- offers the rest, and says so, with number and length of the outcome; for those behind it no question is unfinished. A portion of 0 or
+-- above 65,535 is refused, wherever it stands. Buffer and scratch are the outcome's in the end.
 pub record Whole (due : ℕ) (cs : List Call) (x : Outcome ℤ) (s′ : List ℕ) (o′ : List ℤ) : Type 0 where
   pub before : List Call
   pub last : Call
   pub after : List Call
   pub is : cs ≡ before ++ (last ∷ after)
-  pub fewer : Fewer due before
+  pub fewer : 0 < given before → given before < due
+  pub sized : outside (last .rows) ≡ false
   pub enough : due ≤ given before + last .rows
-  pub unfinished : All (λ c. Says (c .said) 0 (c .rows) 0 0) before
+  pub unfinished : All (λ c. Says (c .said) 0 (counted (c .rows)) (pick (outside (c .rows)) 47 0) 0) before
   pub finished : Says (last .said) 1 (due - given before) (x .number) (x .size)
-  pub later : All (λ c. Says (c .said) 0 0 48 0) after
+  pub later : All (λ c. Says (c .said) 0 0 (pick (outside (c .rows)) 47 48) 0) after
   pub buffer : o′ ≡ x .buffer
   pub scratch : s′ ≡ x .scratch
 
 -- ---- a scratch of 0
 module _ (s : List ℕ) where
-  cleared-stage : getD (cleared s) stageAt 0 ≡ 0
-  cleared-stage = List·getD-append (replicate scratchWords 0) (drop scratchWords s) 0 stageAt (omega (arith, length-replicate {A = ℕ} scratchWords 0)) ∙ getD-replicate scratchWords stageAt 0 0 (omega arith)
+  cleared-stage : idle (getD (cleared s) stageAt 0) ≡ true
+  unfolding idle pick
+  cleared-stage = ap idle (List·getD-append (replicate scratchWords 0) (drop scratchWords s) 0 stageAt (omega (arith, length-replicate {A = ℕ} scratchWords 0)) ∙ getD-replicate scratchWords stageAt 0 0 (omega arith))
 
   cleared-long : scratchWords ≤ length (cleared s)
   cleared-long = omega (arith, length-append (replicate scratchWords 0) (drop scratchWords s), length-replicate {A = ℕ} scratchWords 0)
 
--- there a portion is 48, and changes nothing
-none-left : (d : Bytes) (cs : List Call) (s : List ℕ) (o : List ℤ) (s′ : List ℕ) (o′ : List ℤ) → scratchWords ≤ length s → getD s stageAt 0 ≡ 0 → Portions d cs s o s′ o′
-    → All (λ c. Says (c .said) 0 0 48 0) cs × ((s′ ≡ s) × (o′ ≡ o))
+-- there a portion is 48, if it is not 47, and changes nothing
+never : (b : Bool) {k : ℕ} → k ≡ pick b 47 48 → k ≡ 0 → ⊥
+unfolding pick
+never true e z = omega (arith, e, z)
+never false e z = omega (arith, e, z)
+
+none-left : (d : Bytes) (cs : List Call) (s : List ℕ) (o : List ℤ) (s′ : List ℕ) (o′ : List ℤ) → scratchWords ≤ length s → idle (getD s stageAt 0) ≡ true → Portions d cs s o s′ o′
+    → All (λ c. Says (c .said) 0 0 (pick (outside (c .rows)) 47 48) 0) cs × ((s′ ≡ s) × (o′ ≡ o))
 none-left d [] s o s′ o′ b z P = (tt, P)
 none-left d (c ∷ cs) s o s′ o′ b z (t, (p, (F, P))) =
-    let e : refusal (c .rows) s ≡ 48 = no-question (c .rows) s (c .some) (c .few) b z in
-    let N = F .refused (λ y. omega (arith, e, y)) in
+    let e = no-question (c .rows) s b z in
+    let N = F .refused (λ y. never (outside (c .rows)) e y) in
     let rest = none-left d cs s o s′ o′ b z (subst (λ (y : List ℤ). Portions d cs s y s′ o′) (N .1 .1) (subst (λ (y : List ℕ). Portions d cs y p s′ o′) (N .1 .0) P)) in
     ((subst (λ (k : ℕ). Says (c .said) 0 0 k 0) e (N .0), rest .0), rest .1)
 
@@ -114,11 +119,49 @@ outcome-scratch d l s b r = ap (λ (y : Outcome ℤ). y .scratch) (scratch-long 
     go (refused n) = refl
     go (got a) = refl
 
--- ---- any portions of an unfinished question
-fewer-given : (due n : ℕ) (cs : List Call) → n < due → Fewer (due - n) cs → n + given cs < due
-unfolding given
-fewer-given due n [] l h = omega (arith, l)
-fewer-given due n (c ∷ cs) l h = omega (arith, l, h)
+-- ---- an unfinished question
+-- its portions are refused by 47 alone: by 48 never
+pub unrefused : {d : Bytes} {q : Pending} {s : List ℕ} {o : List ℤ} {R : Run} → Unfinished d q s o R → (n : ℕ) → outside n ≡ false → refusal n s ≡ 0
+unfolding pick
+unrefused {s = s} U n h = no-refusal n s (long-unfinished U) (unfinished-stage U) ∙ ap (λ (b : Bool). pick b 47 0) h
+
+-- "32 is found before the first word is written"
+pub unwritten-yet : {d : Bytes} {q : Pending} {s : List ℕ} {o : List ℤ} {S : State} → Unfinished d q s o (counting S) → o ≡ q .lent
+unwritten-yet {S = S} U = unwritten U S refl
+
+-- ---- any portions of it
+module _ (c : Call) (cs : List Call) where
+  given-none : outside (c .rows) ≡ true → given (c ∷ cs) ≡ given cs
+  unfolding given pick
+  given-none h = ap (λ (b : Bool). pick b 0 (c .rows) + given cs) h ∙ omega arith
+
+  given-some : outside (c .rows) ≡ false → given (c ∷ cs) ≡ c .rows + given cs
+  unfolding given pick
+  given-some h = ap (λ (b : Bool). pick b 0 (c .rows) + given cs) h
+
+fewer-given : (due n m : ℕ) → n < due → (0 < m → m < due - n) → n + m < due
+fewer-given due n m l h = by-test (ltb 0 m) (λ e. omega (arith, l, h (ltb-true 0 m e))) (λ e. omega (arith, l, ltb-false 0 m e))
+
+-- one that is refused
+ends-past : (c : Call) (cs : List Call) {due : ℕ} {x : Outcome ℤ} {s′ : List ℕ} {o′ : List ℤ} → outside (c .rows) ≡ true → Says (c .said) 0 0 47 0 → Whole due cs x s′ o′ → Whole due (c ∷ cs) x s′ o′
+unfolding pick
+ends-past c cs h Y W =
+    let g : given (c ∷ W .before) ≡ given (W .before) = given-none c (W .before) h in
+    let says : Says (c .said) 0 (counted (c .rows)) (pick (outside (c .rows)) 47 0) 0 = subst (λ (b : Bool). Says (c .said) 0 (pick b 0 (c .rows)) (pick b 47 0) 0) (sym h) Y in
+    record {
+      before = c ∷ W .before;
+      last = W .last;
+      after = W .after;
+      is = ap (λ (y : List Call). c ∷ y) (W .is);
+      fewer = λ l. omega (arith, g, W .fewer (omega (arith, g, l)));
+      sized = W .sized;
+      enough = omega (arith, g, W .enough);
+      unfinished = (says, W .unfinished);
+      finished = record { end = W .finished .end; offered = W .finished .offered ∙ omega (arith, g); number = W .finished .number; size = W .finished .size };
+      later = W .later;
+      buffer = W .buffer;
+      scratch = W .scratch;
+    }
 
 module _ (d : Bytes) (q : Pending) where
   abbrev Due : Run → ℕ
@@ -132,17 +175,18 @@ module _ (d : Bytes) (q : Pending) where
 
   module _ (c : Call) (cs : List Call) {s t s′ : List ℕ} {o p o′ : List ℤ} {R : Run} (U : Unfinished d q s o R) where
     -- the last
-    ends-here : Due R ≤ c .rows → Ended d q R s t p (c .said) → Portions d cs t p s′ o′ → Whole (Due R) (c ∷ cs) (Result′ s) s′ o′
+    ends-here : outside (c .rows) ≡ false → Due R ≤ c .rows → Ended d q R s t p (c .said) → Portions d cs t p s′ o′ → Whole (Due R) (c ∷ cs) (Result′ s) s′ o′
     unfolding given
-    ends-here h E P =
+    ends-here sized h E P =
         let z : t ≡ cleared s = E .gives .scratch ∙ outcome-scratch d (q .bytes) s (q .lent) (long-unfinished U) in
-        let N = none-left d cs t p s′ o′ (subst (λ (y : List ℕ). scratchWords ≤ length y) (sym z) (cleared-long s)) (ap (λ (y : List ℕ). getD y stageAt 0) z ∙ cleared-stage s) P in
+        let N = none-left d cs t p s′ o′ (subst (λ (y : List ℕ). scratchWords ≤ length y) (sym z) (cleared-long s)) (ap (λ (y : List ℕ). idle (getD y stageAt 0)) z ∙ cleared-stage s) P in
         record {
           before = [];
           last = c;
           after = cs;
           is = refl;
-          fewer = tt;
+          fewer = λ l. absurd (omega (arith, l));
+          sized = sized;
           enough = omega (arith, h);
           unfinished = tt;
           finished = record { end = E .end; offered = E .offered ∙ omega arith; number = E .gives .number; size = E .gives .size };
@@ -152,21 +196,24 @@ module _ (d : Bytes) (q : Pending) where
         }
 
     -- one before the last
-    ends-later : c .rows < Due R → Unended d (c .rows) q R s t p (c .said) → Whole (Due R - c .rows) cs (Result′ t) s′ o′ → Whole (Due R) (c ∷ cs) (Result′ s) s′ o′
-    unfolding given
-    ends-later h Y W =
+    ends-later : outside (c .rows) ≡ false → c .rows < Due R → Unended d (c .rows) q R s t p (c .said) → Whole (Due R - c .rows) cs (Result′ t) s′ o′ → Whole (Due R) (c ∷ cs) (Result′ s) s′ o′
+    unfolding pick
+    ends-later sized h Y W =
         let e : Result′ t ≡ Result′ s = same-outcome d (q .bytes) (q .lent) (long-unfinished U) (Y .spares) in
+        let g : given (c ∷ W .before) ≡ c .rows + given (W .before) = given-some c (W .before) sized in
+        let says : Says (c .said) 0 (counted (c .rows)) (pick (outside (c .rows)) 47 0) 0 = subst (λ (b : Bool). Says (c .said) 0 (pick b 0 (c .rows)) (pick b 47 0) 0) (sym sized) (Y .says) in
         record {
           before = c ∷ W .before;
           last = W .last;
           after = W .after;
           is = ap (λ (y : List Call). c ∷ y) (W .is);
-          fewer = fewer-given (Due R) (c .rows) (W .before) h (W .fewer);
-          enough = omega (arith, W .enough);
-          unfinished = (Y .says, W .unfinished);
+          fewer = λ l. omega (arith, g, fewer-given (Due R) (c .rows) (given (W .before)) h (W .fewer));
+          sized = W .sized;
+          enough = omega (arith, g, W .enough);
+          unfinished = (says, W .unfinished);
           finished = record {
             end = W .finished .end;
-            offered = W .finished .offered ∙ omega arith;
+            offered = W .finished .offered ∙ omega (arith, g);
             number = W .finished .number ∙ ap (λ (y : Outcome ℤ). y .number) e;
             size = W .finished .size ∙ ap (λ (y : Outcome ℤ). y .size) e;
           };
@@ -176,20 +223,26 @@ module _ (d : Bytes) (q : Pending) where
         }
 
   ends : (cs : List Call) {s s′ : List ℕ} {o o′ : List ℤ} {R : Run} → Unfinished d q s o R → Due R ≤ given cs → 0 < given cs → Portions d cs s o s′ o′ → Whole (Due R) cs (Result′ s) s′ o′
-  unfolding given
-  ends [] U e l P = absurd (omega (arith, l))
-  ends (c ∷ cs) {s} {s′} {o} {o′} {R} U e l (t, (p, (F, P))) = go (leb (Due R) (c .rows)) refl (λ Y m n. ends cs Y m n P)
+  ends [] U e l P = unfold given in absurd (omega (arith, l))
+  ends (c ∷ cs) {s} {s′} {o} {o′} {R} U e l (t, (p, (F, P))) = sorted (outside (c .rows)) refl (λ m n N. ends cs U m n N) (λ Y m n. ends cs Y m n P)
     where
-      free : refusal (c .rows) s ≡ 0
-      free = no-refusal (c .rows) s (c .some) (c .few) (long-unfinished U) (unfinished-stage U)
-
-      go : (b : Bool) → leb (Due R) (c .rows) ≡ b → (Unfinished d q t p (Next (c .rows) R) → Due (Next (c .rows) R) ≤ given cs → 0 < given cs → Whole (Due (Next (c .rows) R)) cs (Result′ t) s′ o′) → Whole (Due R) (c ∷ cs) (Result′ s) s′ o′
-      go true h f = let k = leb-true (Due R) (c .rows) h in ends-here c cs U k (F .ended free q R U k) P
-      go false h f =
-          let k = leb-false (Due R) (c .rows) h in
-          let Y = F .unended free q R U k in
+      go : outside (c .rows) ≡ false → (b : Bool) → leb (Due R) (c .rows) ≡ b → (Unfinished d q t p (Next (c .rows) R) → Due (Next (c .rows) R) ≤ given cs → 0 < given cs → Whole (Due (Next (c .rows) R)) cs (Result′ t) s′ o′) → Whole (Due R) (c ∷ cs) (Result′ s) s′ o′
+      go h true k f = let m = leb-true (Due R) (c .rows) k in ends-here c cs U h m (F .ended (unrefused U (c .rows) h) q R U m) P
+      go h false k f =
+          let m = leb-false (Due R) (c .rows) k in
+          let Y = F .unended (unrefused U (c .rows) h) q R U m in
           let z : Due (Next (c .rows) R) ≡ Due R - c .rows = portion-due (task d q) (c .rows) R (unfinished-live U) in
-          ends-later c cs U k Y (subst (λ (n : ℕ). Whole n cs (Result′ t) s′ o′) z (f (Y .unfinished) (omega (arith, z, e)) (omega (arith, z, e, k))))
+          let g : given (c ∷ cs) ≡ c .rows + given cs = given-some c cs h in
+          ends-later c cs U h m Y (subst (λ (n : ℕ). Whole n cs (Result′ t) s′ o′) z (f (Y .unfinished) (omega (arith, z, e, g)) (omega (arith, z, e, m, g))))
+
+      sorted : (b : Bool) → outside (c .rows) ≡ b → (Due R ≤ given cs → 0 < given cs → Portions d cs s o s′ o′ → Whole (Due R) cs (Result′ s) s′ o′) → (Unfinished d q t p (Next (c .rows) R) → Due (Next (c .rows) R) ≤ given cs → 0 < given cs → Whole (Due (Next (c .rows) R)) cs (Result′ t) s′ o′) → Whole (Due R) (c ∷ cs) (Result′ s) s′ o′
+      sorted true h f k =
+          let r : refusal (c .rows) s ≡ 47 = outside-refused (c .rows) s h in
+          let N = F .refused (λ y. omega (arith, r, y)) in
+          let g : given (c ∷ cs) ≡ given cs = given-none c cs h in
+          ends-past c cs h (subst (λ (k : ℕ). Says (c .said) 0 0 k 0) r (N .0))
+          (f (omega (arith, e, g)) (omega (arith, l, g)) (subst (λ (y : List ℤ). Portions d cs s y s′ o′) (N .1 .1) (subst (λ (y : List ℕ). Portions d cs y p s′ o′) (N .1 .0) P)))
+      sorted false h f k = go h (leb (Due R) (c .rows)) refl k
 
 -- ---- from its beginning on
 -- all rows that it is offered
@@ -263,7 +316,7 @@ Interleaved d (c ∷ cs) s o s′ o′ =
     × (((i : ℕ) → (i ≡ seatOf c → ⊥) → (t i ≡ s i) × (p i ≡ o i))
     × Interleaved d cs t p s′ o′)))
 
--- the portions of a seat, where it is lent to nothing else
+-- the portions of a seat
 abbrev pub own : ℕ → Turn → List Call → List Call
 own i (portion-at j c) cs = pick (eqb i j) (c ∷ cs) cs
 own i (another-at j) cs = cs
@@ -272,6 +325,7 @@ unfoldable pub portionsOf : ℕ → List Turn → List Call
 portionsOf i [] = []
 portionsOf i (c ∷ cs) = own i c (portionsOf i cs)
 
+-- and it is lent to nothing else: take the turns from behind its begin
 abbrev pub Undisturbed : ℕ → List Turn → Type 0
 Undisturbed i [] = Unit {0}
 Undisturbed i (portion-at j c ∷ cs) = Undisturbed i cs
@@ -291,3 +345,8 @@ alone d (portion-at j c ∷ cs) s o s′ o′ (t, (p, (F, (N, I)))) i u = go (eq
 alone d (another-at j ∷ cs) s o s′ o′ (t, (p, (F, (N, I)))) i (h, u) =
     let n = N i h in
     subst (λ (y : List ℤ). Portions d (portionsOf i cs) (s i) y (s′ i) (o′ i)) (n .1) (subst (λ (y : List ℕ). Portions d (portionsOf i cs) y (p i) (s′ i) (o′ i)) (n .0) (alone d cs t p s′ o′ I i u))
+
+-- "However their portions interleave, each ends with the words and refusal of a single call alone."
+pub interleaved : (d l : Bytes) (i : ℕ) (cs : List Turn) {s₀ : List ℕ} {b : Reply} (s : ℕ → List ℕ) (o : ℕ → List ℤ) (s′ : ℕ → List ℕ) (o′ : ℕ → List ℤ) → BeginGives d l s₀ (s i) b → b .number ≡ 0 → length (o i) < most
+    → Interleaved d cs s o s′ o′ → Undisturbed i cs → 0 < given (portionsOf i cs) → InPortions d l s₀ (o i) (portionsOf i cs) (s′ i) (o′ i)
+interleaved d l i cs s o s′ o′ B z short I u some = in-portions d l B z (o i) short (portionsOf i cs) some (alone d cs s o s′ o′ I i u)

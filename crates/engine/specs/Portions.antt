@@ -1,5 +1,6 @@
 -- The outcomes of the calls that answer by plan in portions (document 02, E7), from what was lent to them.
 use mathlib.Core.Path.{_≡_}
+use mathlib.Core.Bool.{Bool, true}
 use mathlib.Core.List.{List}
 use Prim.Native.Nat.{ℕ, _+_, _≤_, _<_}
 use lib.Dec.{eqb, leb, ltb}
@@ -16,12 +17,12 @@ use Rattle.prepared.specs.Gives.{Gives, Spares}
 use Rattle.cursors.specs.Cursors.{most}
 use Rattle.portions.specs.Run.{Run, begun, portion, rowsDue}
 use Rattle.portions.specs.Standing.{Pending, task}
-use Rattle.portions.specs.Unfinished.{stageAt, Unfinished}
+use Rattle.portions.specs.Unfinished.{stageAt, idle, Unfinished}
 use Rattle.engine.specs.Replies.{Replies}
 use Rattle.engine.specs.declared.Reply.{Reply}
 use Rattle.engine.specs.declared.Portioned.{Portioned}
 
--- How many rows a question is offered: "each once while G is found and, unless 32 follows, once more while the answer is written"
+-- How many rows a question is offered: "each once while G is found and, unless 32 follows, once more while the answer is written"; raw: no condition looks into a collection, so repeats and order change no count
 unfoldable pub rowsInAll : Accepted → List ℤ → ℕ
 rowsInAll a lent =
     let n = planOffers raw (a .tables) (planOf (a .form)) in
@@ -29,7 +30,8 @@ rowsInAll a lent =
 
 -- ---- beginning
 -- "One call begins, with all refusals to 28": number, length and, after a refusal, scratch are the checker's. After 0 "scratch holds
--- the unfinished question", whichever answer buffer is lent to its portions; no buffer has 2^62 words. Later words stay.
+-- the unfinished question", whichever answer buffer is lent to its portions; no buffer has 2^62 words. Scratch words
+-- from 8,192 on stay.
 pub record BeginGives (d l : Bytes) (s s′ : List ℕ) (r : Reply) : Type 0 where
   pub number : r .number ≡ checked d l s .number
   pub size : r .length ≡ checked d l s .size
@@ -38,15 +40,20 @@ pub record BeginGives (d l : Bytes) (s s′ : List ℕ) (r : Reply) : Type 0 whe
   pub spares : r .number ≡ 0 → Spares s s′
 
 -- ---- a portion
+-- "a portion of 0 or above 65,535"
+unfoldable pub outside : ℕ → Bool
+outside n = pick (eqb n 0) true (ltb 65535 n)
+
 -- "47, a portion of 0 or above 65,535, before any other, changing nothing; 48, a portion where no question is unfinished (scratch 0),
--- after 47 and 31"; 0 where none of them is due
+-- after 47 and 31"; 0 where none of them is due. Of scratch only the stage's word is looked at: where it is 0 and another of the first
+-- 8,192 is not, no call left that scratch.
 unfoldable pub refusal : ℕ → List ℕ → ℕ
-refusal n s = pick (eqb n 0) 47 (pick (ltb 65535 n) 47 (pick (ltb (length s) scratchWords) 31 (pick (eqb (getD s stageAt 0) 0) 48 0)))
+refusal n s = pick (outside n) 47 (pick (ltb (length s) scratchWords) 31 (pick (idle (getD s stageAt 0)) 48 0))
 
 -- whether it is finished, how many rows were offered, number and length
 pub record Says (r : Portioned) (f k x n : ℕ) : Type 0 where
   pub end : r .finished ≡ f
-  pub offered : r .rows ≡ k
+  pub offered : r .offered ≡ k
   pub number : r .number ≡ x
   pub size : r .length ≡ n
 
@@ -60,11 +67,13 @@ pub record Unended (d : Bytes) (n : ℕ) (q : Pending) (R : Run) (s s′ : List 
 -- "scratch .. is 0 again afterwards"
 pub record Ended (d : Bytes) (q : Pending) (R : Run) (s s′ : List ℕ) (o′ : List ℤ) (r : Portioned) : Type 0 where
   pub end : r .finished ≡ 1
-  pub offered : r .rows ≡ rowsDue (task d q) R
+  pub offered : r .offered ≡ rowsDue (task d q) R
   pub gives : Gives (byPlan d (q .bytes) s (q .lent)) (r .number) (r .length) o′ s′
 
 -- "If anything lent is changed in between, or scratch is neither 0 nor left by an earlier call, only safety and an end are promised."
+-- So of other scratch nothing is said but 47, 31 and 48, and what holds of every reply; the call takes any words and ends.
 pub record PortionGives (d : Bytes) (n : ℕ) (s : List ℕ) (o : List ℤ) (s′ : List ℕ) (o′ : List ℤ) (r : Portioned) : Type 0 where
+  pub within : (r .offered ≤ n) × (r .length ≤ length o′)
   pub refused : (refusal n s ≡ 0 → ⊥) → Says r 0 0 (refusal n s) 0 × ((s′ ≡ s) × (o′ ≡ o))
   pub unended : refusal n s ≡ 0 → (q : Pending) (R : Run) → Unfinished d q s o R → n < rowsDue (task d q) R → Unended d n q R s s′ o′ r
   pub ended : refusal n s ≡ 0 → (q : Pending) (R : Run) → Unfinished d q s o R → rowsDue (task d q) R ≤ n → Ended d q R s s′ o′ r
@@ -72,5 +81,5 @@ pub record PortionGives (d : Bytes) (n : ℕ) (s : List ℕ) (o : List ℤ) (s�
 -- how its last portion ends
 pub record EndsWith (s s′ : List ℕ) (rows k n : ℕ) (r : Portioned) : Type 0 where
   pub end : r .finished ≡ 1
-  pub offered : r .rows ≡ rows
+  pub offered : r .offered ≡ rows
   pub replies : Replies s s′ k n (record { number = r .number; length = r .length })

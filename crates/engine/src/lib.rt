@@ -4,7 +4,7 @@ ghost use Prim.Native.Nat.{_≤_};
 ghost use lib.ListN.{length};
 ghost use Rattle.outcome.specs.Outcome.{byLoops, byPlan, checked, planLines};
 ghost use Rattle.prepared.specs.Gives.{Gives};
-ghost use Rattle.engine.specs.Replies.{Begins, Replies};
+ghost use Rattle.engine.specs.Replies.{Admits, Replies};
 ghost use Rattle.engine.specs.Portions.{BeginGives, PortionGives, Says, EndsWith};
 use front::Checked;
 use lines::Printed;
@@ -19,22 +19,22 @@ pub struct Reply {
 }
 
 // How every call begins: too little scratch, a refusal of the checks, or an accepted question.
-pub enum Begun {
+pub enum Admitted {
     Scant,
     Refused(u64),
     Accepted,
 }
 
 // "31: scratch under 8,192 words. Scratch stays untouched." Then the checks.
-pub fn begin(tables: &[u8], question: &[u8], scratch: &mut [u64]) -> Begun
-    ensures { λ r. ⌜ Begins (now (tables .entry)) (now (question .entry)) (now (scratch .entry)) (now (scratch .exit)) r ⌝ }
+pub fn admit(tables: &[u8], question: &[u8], scratch: &mut [u64]) -> Admitted
+    ensures { λ r. ⌜ Admits (now (tables .entry)) (now (question .entry)) (now (scratch .entry)) (now (scratch .exit)) r ⌝ }
 {
     if scratch.len() < 8192 {
-        return Begun::Scant;
+        return Admitted::Scant;
     }
     match front::prepare(tables, question, scratch) {
-        Checked::Refused(k) => Begun::Refused(k),
-        Checked::Accepted => Begun::Accepted,
+        Checked::Refused(k) => Admitted::Refused(k),
+        Checked::Accepted => Admitted::Accepted,
     }
 }
 
@@ -55,13 +55,13 @@ pub fn finish(s: &mut [u64], k: u64, n: u64) -> Reply
 pub extern "C" fn dislogha_check(tables: &[u8], question: &[u8], scratch: &mut [u64]) -> Reply
     ensures { λ r. ⌜ Gives (checked (now (tables .entry)) (now (question .entry)) (now (scratch .entry))) (r .number) (r .length) [] (now (scratch .exit)) ⌝ }
 {
-    match begin(tables, question, scratch) {
-        Begun::Scant => Reply {
+    match admit(tables, question, scratch) {
+        Admitted::Scant => Reply {
             number: 31,
             length: 0,
         },
-        Begun::Refused(k) => finish(scratch, k, 0),
-        Begun::Accepted => finish(scratch, 0, 0),
+        Admitted::Refused(k) => finish(scratch, k, 0),
+        Admitted::Accepted => finish(scratch, 0, 0),
     }
 }
 
@@ -75,13 +75,13 @@ pub extern "C" fn dislogha_answer_by_loops(
 ) -> Reply
     ensures { λ r. ⌜ Gives (byLoops (now (tables .entry)) (now (question .entry)) (now (scratch .entry)) (now (answer .entry))) (r .number) (r .length) (now (answer .exit)) (now (scratch .exit)) ⌝ }
 {
-    match begin(tables, question, scratch) {
-        Begun::Scant => Reply {
+    match admit(tables, question, scratch) {
+        Admitted::Scant => Reply {
             number: 31,
             length: 0,
         },
-        Begun::Refused(k) => finish(scratch, k, 0),
-        Begun::Accepted => match loops::answer(scratch, tables, answer) {
+        Admitted::Refused(k) => finish(scratch, k, 0),
+        Admitted::Accepted => match loops::answer(scratch, tables, answer) {
             Answer::Short => finish(scratch, 32, 0),
             Answer::Length(n) => finish(scratch, 0, n as u64),
         },
@@ -98,13 +98,13 @@ pub extern "C" fn dislogha_answer_by_plan(
 ) -> Reply
     ensures { λ r. ⌜ Gives (byPlan (now (tables .entry)) (now (question .entry)) (now (scratch .entry)) (now (answer .entry))) (r .number) (r .length) (now (answer .exit)) (now (scratch .exit)) ⌝ }
 {
-    match begin(tables, question, scratch) {
-        Begun::Scant => Reply {
+    match admit(tables, question, scratch) {
+        Admitted::Scant => Reply {
             number: 31,
             length: 0,
         },
-        Begun::Refused(k) => finish(scratch, k, 0),
-        Begun::Accepted => match streams::answer(scratch, tables, answer) {
+        Admitted::Refused(k) => finish(scratch, k, 0),
+        Admitted::Accepted => match streams::answer(scratch, tables, answer) {
             Answer::Short => finish(scratch, 32, 0),
             Answer::Length(n) => finish(scratch, 0, n as u64),
         },
@@ -121,24 +121,25 @@ pub extern "C" fn dislogha_plan_lines(
 ) -> Reply
     ensures { λ r. ⌜ Gives (planLines (now (tables .entry)) (now (question .entry)) (now (scratch .entry)) (now (text .entry))) (r .number) (r .length) (now (text .exit)) (now (scratch .exit)) ⌝ }
 {
-    match begin(tables, question, scratch) {
-        Begun::Scant => Reply {
+    match admit(tables, question, scratch) {
+        Admitted::Scant => Reply {
             number: 31,
             length: 0,
         },
-        Begun::Refused(k) => finish(scratch, k, 0),
-        Begun::Accepted => match lines::plan_lines(scratch, text) {
+        Admitted::Refused(k) => finish(scratch, k, 0),
+        Admitted::Accepted => match lines::plan_lines(scratch, text) {
             Printed::Short => finish(scratch, 33, 0),
             Printed::Length(n) => finish(scratch, 0, n as u64),
         },
     }
 }
 
-// What a portion says: whether its question is finished, how many rows it offered, and number and length as in a reply.
+// What a portion says: whether its question is finished, how many rows it offered, and number and length as in a reply. Not finished
+// and number 0: unfinished; not finished and another number: refused.
 #[repr(C)]
 pub struct Portioned {
     pub finished: u64,
-    pub rows: u64,
+    pub offered: u64,
     pub number: u64,
     pub length: u64,
 }
@@ -148,13 +149,13 @@ pub struct Portioned {
 pub extern "C" fn dislogha_begin(tables: &[u8], question: &[u8], scratch: &mut [u64]) -> Reply
     ensures { λ r. ⌜ BeginGives (now (tables .entry)) (now (question .entry)) (now (scratch .entry)) (now (scratch .exit)) r ⌝ }
 {
-    match begin(tables, question, scratch) {
-        Begun::Scant => Reply {
+    match admit(tables, question, scratch) {
+        Admitted::Scant => Reply {
             number: 31,
             length: 0,
         },
-        Begun::Refused(k) => finish(scratch, k, 0),
-        Begun::Accepted => {
+        Admitted::Refused(k) => finish(scratch, k, 0),
+        Admitted::Accepted => {
             portions::begin(scratch);
             Reply {
                 number: 0,
@@ -164,13 +165,13 @@ pub extern "C" fn dislogha_begin(tables: &[u8], question: &[u8], scratch: &mut [
     }
 }
 
-// A portion that offers no row.
+// A refused portion: no row is offered.
 fn declined(k: u64) -> Portioned
     ensures { λ r. ⌜ Says r 0 0 k 0 ⌝ }
 {
     Portioned {
         finished: 0,
-        rows: 0,
+        offered: 0,
         number: k,
         length: 0,
     }
@@ -184,7 +185,7 @@ fn ended(s: &mut [u64], rows: u64, k: u64, n: u64) -> Portioned
     let x = finish(s, k, n);
     Portioned {
         finished: 1,
-        rows,
+        offered: rows,
         number: x.number,
         length: x.length,
     }
@@ -207,14 +208,14 @@ pub extern "C" fn dislogha_portion(
     if 65535 < rows {
         return declined(47);
     }
-    if scratch.len() < 8192 {
+    if scratch.len() < scratch::WORDS {
         return declined(31);
     }
     match portions::advance(scratch, tables, answer, rows as usize) {
         Progress::Nothing => declined(48),
         Progress::Unfinished => Portioned {
             finished: 0,
-            rows,
+            offered: rows,
             number: 0,
             length: 0,
         },

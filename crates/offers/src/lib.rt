@@ -5,9 +5,9 @@ ghost use Rattle.prepared.specs.Answering.{Asked};
 ghost use Rattle.prepared.specs.Gives.{Gives};
 ghost use Rattle.offers.specs.Offered.{offered};
 ghost use Rattle.offers.specs.Contract.{Counts, Tells};
-use engine::Begun;
+use engine::Admitted;
 use engine::Reply;
-use engine::begin;
+use engine::admit;
 use engine::finish;
 use executor::portion;
 use links::link;
@@ -54,13 +54,13 @@ pub extern "C" fn dislogha_offered_rows(
 ) -> Reply
     ensures { λ r. ⌜ Gives (offered (now (tables .entry)) (now (question .entry)) (now (scratch .entry))) (r .number) (r .length) [] (now (scratch .exit)) ⌝ }
 {
-    match begin(tables, question, scratch) {
-        Begun::Scant => Reply {
+    match admit(tables, question, scratch) {
+        Admitted::Scant => Reply {
             number: 31,
             length: 0,
         },
-        Begun::Refused(k) => finish(scratch, k, 0),
-        Begun::Accepted => {
+        Admitted::Refused(k) => finish(scratch, k, 0),
+        Admitted::Accepted => {
             let n = rows_of(scratch, tables);
             finish(scratch, 0, n)
         }

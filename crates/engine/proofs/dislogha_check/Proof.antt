@@ -4,12 +4,12 @@ use Rattle.engine.proofs.dislogha_check.Statement.{statement}
 use Rattle.engine.proofs.dislogha_check.Tie as tie
 use Rattle.engine.proofs.dislogha_check.Reads as reads
 use Rattle.engine.proofs.dislogha_check.Lts as lts
-use Rattle.engine.proofs.begin.Reads as begin-reads
+use Rattle.engine.proofs.admit.Reads as admit-reads
 use Rattle.engine.proofs.finish.Reads as finish-reads
 
 -- src/lib.rt:55:11
-begin-requires : tie.Need-begin-requires
-begin-requires c κs = search needs
+admit-requires : tie.Need-admit-requires
+admit-requires c κs = search needs
 
 -- src/lib.rt:56:25
 enum-told : tie.Need-enum-told
@@ -21,7 +21,7 @@ enum-known-k c = search needs
 
 -- src/lib.rt:60:30
 finish-requires : tie.Need-finish-requires
-finish-requires c κs = room-refused (c .before .before .before .before .before .before .begin .ensures) (c .before .before .k .given .1)
+finish-requires c κs = room-refused (c .before .before .before .before .before .before .admit .ensures) (c .before .before .k .given .1)
 
 -- src/lib.rt:61:35
 enum-told-2 : tie.Need-enum-told-2
@@ -29,7 +29,7 @@ enum-told-2 c = search needs
 
 -- src/lib.rt:61:28
 finish-requires-2 : tie.Need-finish-requires-2
-finish-requires-2 c κs = room-accepted (c .before .before .before .before .before .begin .ensures) (c .before .enum-told2 .given .1)
+finish-requires-2 c κs = room-accepted (c .before .before .before .before .before .admit .ensures) (c .before .enum-told2 .given .1)
 
 -- src/lib.rt:51:1
 same-length : tie.Need-same-length
@@ -37,7 +37,7 @@ same-length c = search needs
 
 -- src/lib.rt:51:1
 returns : tie.Need-returns
-returns c = check-scant (c .before .before .before .before .begin .ensures) (c .enum-told .given .1)
+returns c = check-scant (c .before .before .before .before .admit .ensures) (c .enum-told .given .1)
 
 -- src/lib.rt:51:1
 same-length-2 : tie.Need-same-length-2
@@ -45,7 +45,7 @@ same-length-2 c = search needs
 
 -- src/lib.rt:51:1
 returns-2 : tie.Need-returns-2
-returns-2 c = check-refused (c .before .before .before .before .before .before .before .before .before .begin .ensures) (c .before .before .before .before .before .k .given .1) (c .before .before .finish .ensures)
+returns-2 c = check-refused (c .before .before .before .before .before .before .before .before .before .admit .ensures) (c .before .before .before .before .before .k .given .1) (c .before .before .finish .ensures)
 
 -- src/lib.rt:51:1
 same-length-3 : tie.Need-same-length-3
@@ -53,13 +53,13 @@ same-length-3 c = search needs
 
 -- src/lib.rt:51:1
 returns-3 : tie.Need-returns-3
-returns-3 c = check-accepted (c .before .before .before .before .before .before .before .before .begin .ensures) (c .before .before .before .before .enum-told2 .given .1) (c .before .before .finish2 .ensures)
+returns-3 c = check-accepted (c .before .before .before .before .before .before .before .before .admit .ensures) (c .before .before .before .before .enum-told2 .given .1) (c .before .before .finish2 .ensures)
 
 pub dislogha-check-spec : {M : Type 1} → statement M
 dislogha-check-spec =
     tie.close
     (tie.spec
-    begin-requires
+    admit-requires
     enum-told
     enum-known-k
     finish-requires

@@ -6,13 +6,13 @@ use Rattle.engine.proofs.dislogha_plan_lines.Statement.{statement}
 use Rattle.engine.proofs.dislogha_plan_lines.Tie as tie
 use Rattle.engine.proofs.dislogha_plan_lines.Reads as reads
 use Rattle.engine.proofs.dislogha_plan_lines.Lts as lts
-use Rattle.engine.proofs.begin.Reads as begin-reads
+use Rattle.engine.proofs.admit.Reads as admit-reads
 use Rattle.engine.proofs.finish.Reads as finish-reads
 use Rattle.lines.proofs.plan_lines.Reads as plan-lines-reads
 
 -- src/lib.rt:99:11
-begin-requires : tie.Need-begin-requires
-begin-requires c κs = search needs
+admit-requires : tie.Need-admit-requires
+admit-requires c κs = search needs
 
 -- src/lib.rt:100:25
 enum-told : tie.Need-enum-told
@@ -24,7 +24,7 @@ enum-known-k c = search needs
 
 -- src/lib.rt:104:30
 finish-requires : tie.Need-finish-requires
-finish-requires c κs = room-refused (c .before .before .before .before .before .before .begin .ensures) (c .before .before .k .given .1)
+finish-requires c κs = room-refused (c .before .before .before .before .before .before .admit .ensures) (c .before .before .k .given .1)
 
 -- src/lib.rt:105:52
 enum-told-2 : tie.Need-enum-told-2
@@ -40,7 +40,7 @@ enum-told-3 c = search needs
 
 -- src/lib.rt:106:31
 finish-requires-2 : tie.Need-finish-requires-2
-finish-requires-2 c κs = omega (arith, room-accepted (c .before .before .before .before .before .before .before .before .before .before .before .before .before .before .begin .ensures) (c .before .before .before .before .before .before .before .before .before .before .enum-told2 .given .1), c .before .before .before .before .before .before .before .plan-lines .kept .0)
+finish-requires-2 c κs = omega (arith, room-accepted (c .before .before .before .before .before .before .before .before .before .before .before .before .before .before .admit .ensures) (c .before .before .before .before .before .before .before .before .before .before .enum-told2 .given .1), c .before .before .before .before .before .before .before .plan-lines .kept .0)
 
 -- src/lib.rt:107:29
 enum-known-n : tie.Need-enum-known-n
@@ -48,7 +48,7 @@ enum-known-n c = search needs
 
 -- src/lib.rt:107:35
 finish-requires-3 : tie.Need-finish-requires-3
-finish-requires-3 c κs = omega (arith, room-accepted (c .before .before .before .before .before .before .before .before .before .before .before .before .before .before .before .begin .ensures) (c .before .before .before .before .before .before .before .before .before .before .before .enum-told2 .given .1), c .before .before .before .before .before .before .before .before .plan-lines .kept .0)
+finish-requires-3 c κs = omega (arith, room-accepted (c .before .before .before .before .before .before .before .before .before .before .before .before .before .before .before .admit .ensures) (c .before .before .before .before .before .before .before .before .before .before .before .enum-told2 .given .1), c .before .before .before .before .before .before .before .before .plan-lines .kept .0)
 
 -- src/lib.rt:90:1
 same-length : tie.Need-same-length
@@ -57,7 +57,7 @@ same-length c = search needs
 -- src/lib.rt:90:1
 returns : tie.Need-returns
 unfolding planLines
-returns c = lines-scant (c .before .before .before .before .begin .ensures) (c .enum-told .given .1)
+returns c = lines-scant (c .before .before .before .before .admit .ensures) (c .enum-told .given .1)
 
 -- src/lib.rt:90:1
 same-length-2 : tie.Need-same-length-2
@@ -66,7 +66,7 @@ same-length-2 c = search needs
 -- src/lib.rt:90:1
 returns-2 : tie.Need-returns-2
 unfolding planLines
-returns-2 c = lines-refused (c .before .before .before .before .before .before .before .before .before .begin .ensures) (c .before .before .before .before .before .k .given .1) (c .before .before .finish .ensures)
+returns-2 c = lines-refused (c .before .before .before .before .before .before .before .before .before .admit .ensures) (c .before .before .before .before .before .k .given .1) (c .before .before .finish .ensures)
 
 -- src/lib.rt:90:1
 same-length-3 : tie.Need-same-length-3
@@ -79,7 +79,7 @@ same-length-4 c = search needs
 -- src/lib.rt:90:1
 returns-3 : tie.Need-returns-3
 unfolding planLines
-returns-3 c = lines-given (c .before .before .before .before .before .before .before .before .before .before .before .before .before .before .before .before .before .begin .ensures) (c .before .before .before .before .before .before .before .before .before .before .before .before .before .enum-told2 .given .1) (c .before .before .before .before .before .before .before .before .before .before .plan-lines .kept .0) (c .before .before .before .before .before .before .before .before .before .before .plan-lines .ensures) (c .before .before .before .before .enum-told3 .given .1) (c .before .before .finish2 .ensures)
+returns-3 c = lines-given (c .before .before .before .before .before .before .before .before .before .before .before .before .before .before .before .before .before .admit .ensures) (c .before .before .before .before .before .before .before .before .before .before .before .before .before .enum-told2 .given .1) (c .before .before .before .before .before .before .before .before .before .before .plan-lines .kept .0) (c .before .before .before .before .before .before .before .before .before .before .plan-lines .ensures) (c .before .before .before .before .enum-told3 .given .1) (c .before .before .finish2 .ensures)
 
 -- src/lib.rt:90:1
 same-length-5 : tie.Need-same-length-5
@@ -92,13 +92,13 @@ same-length-6 c = search needs
 -- src/lib.rt:90:1
 returns-4 : tie.Need-returns-4
 unfolding planLines
-returns-4 c = lines-given (c .before .before .before .before .before .before .before .before .before .before .before .before .before .before .before .before .before .before .begin .ensures) (c .before .before .before .before .before .before .before .before .before .before .before .before .before .before .enum-told2 .given .1) (c .before .before .before .before .before .before .before .before .before .before .before .plan-lines .kept .0) (c .before .before .before .before .before .before .before .before .before .before .before .plan-lines .ensures) (c .before .before .before .before .before .n .given .1) (c .before .before .finish3 .ensures)
+returns-4 c = lines-given (c .before .before .before .before .before .before .before .before .before .before .before .before .before .before .before .before .before .before .admit .ensures) (c .before .before .before .before .before .before .before .before .before .before .before .before .before .before .enum-told2 .given .1) (c .before .before .before .before .before .before .before .before .before .before .before .plan-lines .kept .0) (c .before .before .before .before .before .before .before .before .before .before .before .plan-lines .ensures) (c .before .before .before .before .before .n .given .1) (c .before .before .finish3 .ensures)
 
 pub dislogha-plan-lines-spec : {M : Type 1} → statement M
 dislogha-plan-lines-spec =
     tie.close
     (tie.spec
-    begin-requires
+    admit-requires
     enum-told
     enum-known-k
     finish-requires

@@ -1,10 +1,10 @@
 use mathlib.Core.Path.{subst}
 use Rattle.front.specs.Prepares.{Prepares}
 use borrow.Author.Needs.{needs}
-use Rattle.engine.proofs.begin.Statement.{statement}
-use Rattle.engine.proofs.begin.Tie as tie
-use Rattle.engine.proofs.begin.Reads as reads
-use Rattle.engine.proofs.begin.Lts as lts
+use Rattle.engine.proofs.admit.Statement.{statement}
+use Rattle.engine.proofs.admit.Tie as tie
+use Rattle.engine.proofs.admit.Reads as reads
+use Rattle.engine.proofs.admit.Lts as lts
 use Rattle.front.proofs.prepare.Reads as prepare-reads
 
 -- src/lib.rt:30:9
@@ -39,8 +39,8 @@ same-length-2 c = search needs
 returns-3 : tie.Need-returns-3
 returns-3 c = record { is = (c .before .before .before .before .before .before .if1 .left, subst (Prepares _ _ _ _) (c .enum-told .given .1) (c .before .before .before .before .prepare .ensures)) }
 
-pub begin-spec : {M : Type 1} → statement M
-begin-spec =
+pub admit-spec : {M : Type 1} → statement M
+admit-spec =
     tie.close
     (tie.spec
     returns
