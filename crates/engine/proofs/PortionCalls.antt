@@ -3,12 +3,13 @@ use native.Mathlib.Omega.{arith}
 use mathlib.Core.Path.{_≡_, refl, sym, ap, subst, _∙_}
 use mathlib.Core.Bool.{Bool, true, false}
 use mathlib.Core.List.{List, []}
-use Prim.Native.Nat.{ℕ, _≤_, _<_}
+use Prim.Native.Nat.{ℕ, zero, suc, _≤_, _<_}
 use borrow.Author.Tests.{eq-eqb, ne-eqb, lt-ltb, le-ltb}
 use lib.Dec.{ltb}
 use lib.ListN.{length, getD}
 use lib.IntN.{ℤ}
 use Rattle.calculus.specs.Lists.{pick}
+use Rattle.signed.proofs.Word.{no}
 use Rattle.encoding.specs.Record.{Bytes, Result, refused, got, andThen}
 use Rattle.encoding.specs.Reader.{readQuestion}
 use Rattle.encoding.proofs.Refusals.{Only}
@@ -82,6 +83,10 @@ module _ (n : ℕ) where
     inside : n ≤ 65535 → outside n ≡ false
     unfolding outside pick
     inside h = rw (ne-eqb n 0 some) (le-ltb 65535 n h)
+
+pub inside-some : (n : ℕ) → outside n ≡ false → 0 < n
+inside-some zero h = no (sym (outside-none 0 refl) ∙ h)
+inside-some (suc n) h = omega arith
 
 module _ (n : ℕ) (s : List ℕ) where
   refusal-by : {a c e : Bool} → outside n ≡ a → ltb (length s) scratchWords ≡ c → idle (getD s stageAt 0) ≡ e → refusal n s ≡ pick a 47 (pick c 31 (pick e 48 0))

@@ -29,7 +29,7 @@ use Rattle.cursors.specs.Cursors.{most}
 use Rattle.portions.specs.Run.{Run, counting, begun, portion, rowsDue}
 use Rattle.portions.specs.Standing.{Pending, task}
 use Rattle.portions.specs.Unfinished.{stageAt, idle, Unfinished}
-use Rattle.portions.proofs.Whole.{portion-due, rows-in-all}
+use Rattle.portions.proofs.Whole.{portion-due, portion-portion, rows-in-all}
 use Rattle.portions.proofs.Advanced.{long-unfinished, unfinished-stage, unfinished-live, unwritten}
 use Rattle.environment.specs.Env.{tablesIn}
 use Rattle.environment.proofs.Laws.{tables-in}
@@ -38,7 +38,7 @@ use Rattle.engine.specs.declared.Reply.{Reply}
 use Rattle.engine.specs.declared.Portioned.{Portioned}
 use Rattle.engine.proofs.Calls.{cleared-same}
 use Rattle.engine.proofs.Outcomes.{answers, checks-only}
-use Rattle.engine.proofs.PortionCalls.{outside-refused, no-question, no-refusal}
+use Rattle.engine.proofs.PortionCalls.{inside-some, outside-refused, no-question, no-refusal}
 
 -- ---- portions of one question, one behind another over one scratch and one buffer
 -- a portion, and what it said
@@ -139,6 +139,16 @@ module _ (c : Call) (cs : List Call) where
   unfolding given pick
   given-some h = ap (λ (b : Bool). pick b 0 (c .rows) + given cs) h
 
+-- what each says before the last
+module _ (c : Call) where
+  says-some : outside (c .rows) ≡ false → Says (c .said) 0 (c .rows) 0 0 → Says (c .said) 0 (counted (c .rows)) (pick (outside (c .rows)) 47 0) 0
+  unfolding pick
+  says-some h Y = subst (λ (b : Bool). Says (c .said) 0 (pick b 0 (c .rows)) (pick b 47 0) 0) (sym h) Y
+
+  says-refused : outside (c .rows) ≡ true → Says (c .said) 0 0 47 0 → Says (c .said) 0 (counted (c .rows)) (pick (outside (c .rows)) 47 0) 0
+  unfolding pick
+  says-refused h Y = subst (λ (b : Bool). Says (c .said) 0 (pick b 0 (c .rows)) (pick b 47 0) 0) (sym h) Y
+
 fewer-given : (due n m : ℕ) → n < due → (0 < m → m < due - n) → n + m < due
 fewer-given due n m l h = by-test (ltb 0 m) (λ e. omega (arith, l, h (ltb-true 0 m e))) (λ e. omega (arith, l, ltb-false 0 m e))
 
@@ -147,7 +157,6 @@ ends-past : (c : Call) (cs : List Call) {due : ℕ} {x : Outcome ℤ} {s′ : Li
 unfolding pick
 ends-past c cs h Y W =
     let g : given (c ∷ W .before) ≡ given (W .before) = given-none c (W .before) h in
-    let says : Says (c .said) 0 (counted (c .rows)) (pick (outside (c .rows)) 47 0) 0 = subst (λ (b : Bool). Says (c .said) 0 (pick b 0 (c .rows)) (pick b 47 0) 0) (sym h) Y in
     record {
       before = c ∷ W .before;
       last = W .last;
@@ -156,7 +165,7 @@ ends-past c cs h Y W =
       fewer = λ l. omega (arith, g, W .fewer (omega (arith, g, l)));
       sized = W .sized;
       enough = omega (arith, g, W .enough);
-      unfinished = (says, W .unfinished);
+      unfinished = (says-refused c h Y, W .unfinished);
       finished = record { end = W .finished .end; offered = W .finished .offered ∙ omega (arith, g); number = W .finished .number; size = W .finished .size };
       later = W .later;
       buffer = W .buffer;
@@ -201,7 +210,6 @@ module _ (d : Bytes) (q : Pending) where
     ends-later sized h Y W =
         let e : Result′ t ≡ Result′ s = same-outcome d (q .bytes) (q .lent) (long-unfinished U) (Y .spares) in
         let g : given (c ∷ W .before) ≡ c .rows + given (W .before) = given-some c (W .before) sized in
-        let says : Says (c .said) 0 (counted (c .rows)) (pick (outside (c .rows)) 47 0) 0 = subst (λ (b : Bool). Says (c .said) 0 (pick b 0 (c .rows)) (pick b 47 0) 0) (sym sized) (Y .says) in
         record {
           before = c ∷ W .before;
           last = W .last;
@@ -210,7 +218,7 @@ module _ (d : Bytes) (q : Pending) where
           fewer = λ l. omega (arith, g, fewer-given (Due R) (c .rows) (given (W .before)) h (W .fewer));
           sized = W .sized;
           enough = omega (arith, g, W .enough);
-          unfinished = (says, W .unfinished);
+          unfinished = (says-some c sized (Y .says), W .unfinished);
           finished = record {
             end = W .finished .end;
             offered = W .finished .offered ∙ omega (arith, g);
@@ -243,6 +251,30 @@ module _ (d : Bytes) (q : Pending) where
           ends-past c cs h (subst (λ (k : ℕ). Says (c .said) 0 0 k 0) r (N .0))
           (f (omega (arith, e, g)) (omega (arith, l, g)) (subst (λ (y : List ℤ). Portions d cs s y s′ o′) (N .1 .1) (subst (λ (y : List ℕ). Portions d cs y p s′ o′) (N .1 .0) P)))
       sorted false h f k = go h (leb (Due R) (c .rows)) refl k
+
+  -- As long as fewer rows are offered than are due, each says so, and the question stands where they have brought it.
+  pub so-far : (cs : List Call) {s s′ : List ℕ} {o o′ : List ℤ} {R : Run} → Unfinished d q s o R → (0 < given cs → given cs < Due R) → Portions d cs s o s′ o′
+      → All (λ c. Says (c .said) 0 (counted (c .rows)) (pick (outside (c .rows)) 47 0) 0) cs × Unfinished d q s′ o′ (Next (given cs) R)
+  so-far [] {s} {s′} {o} {o′} {R} U l P = unfold given portion in (tt, subst (λ (y : List ℤ). Unfinished d q s′ y R) (sym (P .1)) (subst (λ (y : List ℕ). Unfinished d q y o R) (sym (P .0)) U))
+  so-far (c ∷ cs) {s} {s′} {o} {o′} {R} U l (t, (p, (F, P))) = sorted (outside (c .rows)) refl (λ m N. so-far cs U m N) (λ Y m. so-far cs Y m P)
+    where
+      sorted : (b : Bool) → outside (c .rows) ≡ b
+          → ((0 < given cs → given cs < Due R) → Portions d cs s o s′ o′ → All (λ c. Says (c .said) 0 (counted (c .rows)) (pick (outside (c .rows)) 47 0) 0) cs × Unfinished d q s′ o′ (Next (given cs) R))
+          → (Unfinished d q t p (Next (c .rows) R) → (0 < given cs → given cs < Due (Next (c .rows) R)) → All (λ c. Says (c .said) 0 (counted (c .rows)) (pick (outside (c .rows)) 47 0) 0) cs × Unfinished d q s′ o′ (Next (given cs) (Next (c .rows) R)))
+          → All (λ c. Says (c .said) 0 (counted (c .rows)) (pick (outside (c .rows)) 47 0) 0) (c ∷ cs) × Unfinished d q s′ o′ (Next (given (c ∷ cs)) R)
+      sorted true h f k =
+          let r : refusal (c .rows) s ≡ 47 = outside-refused (c .rows) s h in
+          let N = F .refused (λ y. omega (arith, r, y)) in
+          let g : given (c ∷ cs) ≡ given cs = given-none c cs h in
+          let rest = f (λ y. omega (arith, g, l (omega (arith, g, y)))) (subst (λ (y : List ℤ). Portions d cs s y s′ o′) (N .1 .1) (subst (λ (y : List ℕ). Portions d cs y p s′ o′) (N .1 .0) P)) in
+          ((says-refused c h (subst (λ (k : ℕ). Says (c .said) 0 0 k 0) r (N .0)), rest .0), subst (λ (n : ℕ). Unfinished d q s′ o′ (Next n R)) (sym g) (rest .1))
+      sorted false h f k =
+          let g : given (c ∷ cs) ≡ c .rows + given cs = given-some c cs h in
+          let m : given (c ∷ cs) < Due R = l (omega (arith, g, inside-some (c .rows) h)) in
+          let Y = F .unended (unrefused U (c .rows) h) q R U (omega (arith, g, m)) in
+          let z : Due (Next (c .rows) R) ≡ Due R - c .rows = portion-due (task d q) (c .rows) R (unfinished-live U) in
+          let rest = k (Y .unfinished) (λ y. omega (arith, g, m, z)) in
+          ((says-some c h (Y .says), rest .0), subst (λ (n : ℕ). Unfinished d q s′ o′ (Next n R)) (sym g) (subst (Unfinished d q s′ o′) (portion-portion (task d q) (c .rows) (given cs) R) (rest .1)))
 
 -- ---- from its beginning on
 -- all rows that it is offered
