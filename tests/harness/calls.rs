@@ -8,6 +8,17 @@ pub struct Outcome {
     pub length: u64,
 }
 
+/// What a portion gives, by value.
+#[repr(C)]
+#[derive(Clone, Copy, Debug, PartialEq, Eq)]
+pub struct Portioned {
+    pub finished: u64,
+    /// Rows that it offered.
+    pub rows: u64,
+    pub number: u64,
+    pub length: u64,
+}
+
 /// Declares a call of an archive and lends slices to it: data and question, then what is written.
 #[macro_export]
 macro_rules! open_call {
@@ -47,3 +58,33 @@ open_call!("engine", dislogha_check as check: scratch of u64);
 open_call!("engine", dislogha_answer_by_loops as answer_by_loops: scratch of u64, answer of i64);
 open_call!("engine", dislogha_answer_by_plan as answer_by_plan: scratch of u64, answer of i64);
 open_call!("engine", dislogha_plan_lines as plan_lines: scratch of u64, lines of u8);
+open_call!("engine", dislogha_begin as begin: scratch of u64);
+
+extern "C" {
+    fn dislogha_portion(
+        data: *const u8,
+        data_bytes: usize,
+        scratch: *mut u64,
+        scratch_words: usize,
+        answer: *mut i64,
+        answer_words: usize,
+        rows: u64,
+    ) -> Portioned;
+}
+
+/// A portion of the question in scratch: it takes no question, so it is not declared as the others.
+pub fn portion(data: &[u8], scratch: &mut [u64], answer: &mut [i64], rows: u64) -> Portioned {
+    // SAFETY: each pointer goes with the length of its own slice, and what is written overlaps
+    // nothing else.
+    unsafe {
+        dislogha_portion(
+            data.as_ptr(),
+            data.len(),
+            scratch.as_mut_ptr(),
+            scratch.len(),
+            answer.as_mut_ptr(),
+            answer.len(),
+            rows,
+        )
+    }
+}

@@ -6,7 +6,7 @@ use super::random::Random;
 /// "31: scratch under 8,192 words."
 pub const SCRATCH: usize = 8192;
 
-/// Rubbish behind each buffer that is not lent at all.
+/// Units of rubbish before and behind each buffer, which are not lent at all.
 const FENCE: usize = 16;
 
 /// Lengths of scratch and of a buffer of which so many units may be written: some that are just
@@ -55,7 +55,7 @@ impl Unit for u8 {
     }
 }
 
-/// A buffer of which a front part is lent.
+/// A buffer of which all but the fences is lent.
 pub struct Lent<T> {
     units: Vec<T>,
     lent: usize,
@@ -75,10 +75,16 @@ impl<T: Unit> Lent<T> {
     pub fn lend(&mut self, lent: usize, salt: u64) -> &mut [T] {
         self.lent = lent;
         self.salt = salt;
-        let rubbish = (0..lent.saturating_add(FENCE)).map(|index| rubbish_at::<T>(salt, index));
+        let fences = 2 * FENCE;
+        let rubbish = (0..lent.saturating_add(fences)).map(|place| rubbish_at::<T>(salt, place));
         self.units.clear();
         self.units.extend(rubbish);
-        &mut self.units[..lent]
+        self.again()
+    }
+
+    /// The part that is lent, as earlier calls left it.
+    pub fn again(&mut self) -> &mut [T] {
+        &mut self.units[FENCE..FENCE + self.lent]
     }
 
     pub fn len(&self) -> usize {
@@ -86,35 +92,41 @@ impl<T: Unit> Lent<T> {
     }
 
     pub fn front(&self, units: usize) -> &[T] {
-        &self.units[..units]
+        &self.units[FENCE..FENCE + units]
     }
 
     /// The units in front that another buffer has, too.
     pub fn shared_with<'a>(&'a self, other: &Lent<T>) -> &'a [T] {
-        let pairs = self.units.iter().zip(&other.units);
+        let pairs = self.units.iter().zip(&other.units).skip(FENCE);
         let shared = pairs.take_while(|(left, right)| left == right).count();
-        &self.units[..shared]
+        self.front(shared)
     }
 
     /// The first unit that is not what it should be: first `wanted`, then as many defaults (0) as
-    /// `zeros` says, and rubbish from there on.
+    /// `zeros` says, and rubbish from there on, as before the first.
     pub fn differs(&self, wanted: &[T], zeros: usize) -> Option<String> {
         let cleared = wanted.len().saturating_add(zeros);
-        let wanted_at = |index: usize| match wanted.get(index) {
-            Some(unit) => *unit,
-            None if index < cleared => T::default(),
-            None => rubbish_at(self.salt, index),
+        let wanted_at = |place: usize| match place.checked_sub(FENCE) {
+            Some(index) if index < wanted.len() => wanted[index],
+            Some(index) if index < cleared => T::default(),
+            _ => rubbish_at(self.salt, place),
         };
-        let differing = (0..self.units.len()).find(|index| self.units[*index] != wanted_at(*index));
-        differing.map(|index| {
-            let (is, should) = (self.units[index], wanted_at(index));
+        let differing = (0..self.units.len()).find(|place| self.units[*place] != wanted_at(*place));
+        differing.map(|place| {
+            let (is, should) = (self.units[place], wanted_at(place));
+            let index = place as i64 - FENCE as i64;
             format!("{index} is {is:?}, should be {should:?}")
         })
+    }
+
+    /// The first unit outside the lent ones that is no longer rubbish.
+    pub fn broken_fence(&self) -> Option<String> {
+        self.differs(self.front(self.lent), 0)
     }
 }
 
 /// Never 0, so that a word that was cleared is seen.
-fn rubbish_at<T: Unit>(salt: u64, index: usize) -> T {
-    let mixed = (index as u64).wrapping_mul(0x9E37_79B9_7F4A_7C15);
+fn rubbish_at<T: Unit>(salt: u64, place: usize) -> T {
+    let mixed = (place as u64).wrapping_mul(0x9E37_79B9_7F4A_7C15);
     T::of_rubbish(mixed.wrapping_add(salt) | 1)
 }

@@ -1,7 +1,8 @@
 //! Recorded vectors: files of one JSON object a line, and the cases made from them.
 
-use std::collections::HashMap;
-use std::path::Path;
+use std::path::PathBuf;
+
+use super::json::Json;
 
 /// A recorded input with what is known of its outcome.
 pub struct Recorded {
@@ -52,45 +53,51 @@ pub fn cases_in(folder: &str) -> Result<Vec<Case>, String> {
 
 /// The vectors in `recorded/` of that folder: file after file by name, each in its own order.
 pub fn recorded_in(folder: &str) -> Result<Vec<Recorded>, String> {
-    let folder = format!("{folder}/recorded");
+    read_lines(&format!("{folder}/recorded"), Recorded::of_line)
+}
+
+/// What stands in the files of a folder, one a line: file after file by name, each in its own order.
+/// It is read by the file's name without its ending and the line's object.
+pub fn read_lines<T>(folder: &str, read: fn(&str, &Json) -> Option<T>) -> Result<Vec<T>, String> {
+    let mut all = Vec::new();
+    for path in paths_in(folder)? {
+        let shown = path.display();
+        let text = std::fs::read_to_string(&path).map_err(|error| format!("{shown}: {error}"))?;
+        let file = path.file_stem().unwrap_or_default().to_string_lossy();
+        let before = all.len();
+        for line in text.lines() {
+            let item = Json::of_line(line).and_then(|object| read(&file, &object));
+            all.push(item.ok_or(format!("{shown}: cannot be read: {line}"))?);
+        }
+        if all.len() == before {
+            return Err(format!("{shown}: empty"));
+        }
+    }
+    Ok(all)
+}
+
+fn paths_in(folder: &str) -> Result<Vec<PathBuf>, String> {
     let at = |error| format!("{folder}: {error}");
     let mut paths = Vec::new();
-    for entry in std::fs::read_dir(&folder).map_err(at)? {
+    for entry in std::fs::read_dir(folder).map_err(at)? {
         paths.push(entry.map_err(at)?.path());
     }
     paths.sort();
-    let mut vectors = Vec::new();
-    for path in paths {
-        vectors.extend(vectors_of(&path)?);
-    }
-    Ok(vectors)
-}
-
-fn vectors_of(path: &Path) -> Result<Vec<Recorded>, String> {
-    let shown = path.display();
-    let text = std::fs::read_to_string(path).map_err(|error| format!("{shown}: {error}"))?;
-    let file = path.file_stem().unwrap_or_default().to_string_lossy();
-    let vector = |line| Recorded::of_line(&file, line).ok_or(format!("{shown}: no vector: {line}"));
-    let vectors: Vec<Recorded> = text.lines().map(vector).collect::<Result<_, String>>()?;
-    if vectors.is_empty() {
-        return Err(format!("{shown}: no vectors"));
-    }
-    Ok(vectors)
+    Ok(paths)
 }
 
 impl Recorded {
-    fn of_line(file: &str, line: &str) -> Option<Recorded> {
-        let fields = read_object(line)?;
-        let unsigned = |key: &str| fields.get(key).and_then(Json::unsigned);
+    fn of_line(file: &str, line: &Json) -> Option<Recorded> {
+        let unsigned = |key: &str| line.get(key).and_then(Json::unsigned);
         Some(Recorded {
-            name: format!("{file}/{}", fields.get("name")?.text()?),
-            data: bytes_of_hex(fields.get("data")?.text()?)?,
-            question: bytes_of_hex(fields.get("question")?.text()?)?,
+            name: format!("{file}/{}", line.get("name")?.text()?),
+            data: line.get("data")?.bytes()?,
+            question: line.get("question")?.bytes()?,
             check: u32::try_from(unsigned("check")?).ok()?,
-            plan: fields.get("plan").and_then(Json::text).map(str::to_string),
+            plan: line.get("plan").and_then(Json::text).map(str::to_string),
             greatest: unsigned("G"),
             length: unsigned("length"),
-            words: fields.get("words").and_then(Json::words),
+            words: line.get("words").and_then(Json::words),
         })
     }
 }
@@ -103,125 +110,4 @@ pub fn bytes_of_hex(text: &str) -> Option<Vec<u8>> {
         _ => None,
     };
     pairs.chunks(2).map(byte).collect()
-}
-
-/// As much of JSON as the vectors use: objects of texts, whole numbers, lists and nothing.
-enum Json {
-    Null,
-    Text(String),
-    Number(i128),
-    List(Vec<Json>),
-}
-
-impl Json {
-    fn text(&self) -> Option<&str> {
-        match self {
-            Json::Text(text) => Some(text),
-            _ => None,
-        }
-    }
-
-    fn unsigned(&self) -> Option<u64> {
-        u64::try_from(self.number()?).ok()
-    }
-
-    fn number(&self) -> Option<i128> {
-        match self {
-            Json::Number(number) => Some(*number),
-            _ => None,
-        }
-    }
-
-    fn words(&self) -> Option<Vec<i64>> {
-        match self {
-            Json::List(elements) => elements
-                .iter()
-                .map(|element| i64::try_from(element.number()?).ok())
-                .collect(),
-            _ => None,
-        }
-    }
-}
-
-fn read_object(line: &str) -> Option<HashMap<String, Json>> {
-    let mut reader = JsonReader { left: line };
-    let mut fields = HashMap::new();
-    reader.expect("{")?;
-    loop {
-        let key = reader.text()?;
-        reader.expect(":")?;
-        fields.insert(key, reader.value()?);
-        if reader.expect(",").is_none() {
-            reader.expect("}")?;
-            return Some(fields);
-        }
-    }
-}
-
-struct JsonReader<'a> {
-    left: &'a str,
-}
-
-impl JsonReader<'_> {
-    fn expect(&mut self, token: &str) -> Option<()> {
-        self.left = self.left.trim_start().strip_prefix(token)?;
-        Some(())
-    }
-
-    fn value(&mut self) -> Option<Json> {
-        let start = self.left.trim_start();
-        if start.starts_with('"') {
-            return self.text().map(Json::Text);
-        }
-        if start.starts_with('[') {
-            return self.list().map(Json::List);
-        }
-        if self.expect("null").is_some() {
-            return Some(Json::Null);
-        }
-        self.number().map(Json::Number)
-    }
-
-    fn text(&mut self) -> Option<String> {
-        self.expect("\"")?;
-        let mut text = String::new();
-        let mut characters = self.left.chars();
-        loop {
-            match characters.next()? {
-                '"' => break,
-                '\\' => match characters.next()? {
-                    'n' => text.push('\n'),
-                    other => text.push(other),
-                },
-                other => text.push(other),
-            }
-        }
-        self.left = characters.as_str();
-        Some(text)
-    }
-
-    fn number(&mut self) -> Option<i128> {
-        let start = self.left.trim_start();
-        let end = start
-            .find(|c: char| c != '-' && !c.is_ascii_digit())
-            .unwrap_or(start.len());
-        let number = start.get(..end)?.parse().ok()?;
-        self.left = start.get(end..)?;
-        Some(number)
-    }
-
-    fn list(&mut self) -> Option<Vec<Json>> {
-        self.expect("[")?;
-        let mut elements = Vec::new();
-        if self.expect("]").is_some() {
-            return Some(elements);
-        }
-        loop {
-            elements.push(self.value()?);
-            if self.expect(",").is_none() {
-                self.expect("]")?;
-                return Some(elements);
-            }
-        }
-    }
 }
