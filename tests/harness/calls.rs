@@ -19,6 +19,21 @@ pub struct Portioned {
     pub length: u64,
 }
 
+impl Portioned {
+    /// A refusal is neither unfinished nor finished, save for 32.
+    pub fn is_unfinished(&self) -> bool {
+        self.number == 0 && self.finished == 0
+    }
+
+    /// What a single call would have given.
+    pub fn outcome(&self) -> Outcome {
+        Outcome {
+            number: self.number,
+            length: self.length,
+        }
+    }
+}
+
 /// Declares a call of an archive and lends slices to it: data and question, then what is written.
 #[macro_export]
 macro_rules! open_call {

@@ -67,6 +67,18 @@ pub fn generate(seed: u64, index: u64) -> Input {
     }
 }
 
+/// Questions over the same tables; now and then one is broken.
+pub fn questions(seed: u64, index: u64, count: usize) -> Vec<Input> {
+    let mut random = Random::new(seed, index);
+    let tables = random_tables(&mut random);
+    let mut question = || Input {
+        family: Family::WellTyped,
+        data: data_bytes(&tables),
+        question: broken_or_whole(&mut random, &tables, 5),
+    };
+    (0..count).map(|_| question()).collect()
+}
+
 fn input_of(random: &mut Random, family: Family) -> (Vec<u8>, Vec<u8>) {
     let tables = random_tables(random);
     let data = data_bytes(&tables);
@@ -87,7 +99,7 @@ fn input_of(random: &mut Random, family: Family) -> (Vec<u8>, Vec<u8>) {
         }
         Family::BrokenBytes => (data, broken_bytes(random, &tables)),
         Family::BrokenData => {
-            let question = broken_or_whole(random, &tables);
+            let question = broken_or_whole(random, &tables, 30);
             (breaks::broken_data(random, &tables), question)
         }
         Family::Levels => (data, perhaps_broken(random, limits::of_levels)),
@@ -116,8 +128,8 @@ fn broken_bytes(random: &mut Random, tables: &[Stored]) -> Vec<u8> {
     bytes
 }
 
-fn broken_or_whole(random: &mut Random, tables: &[Stored]) -> Vec<u8> {
-    if random.chance(30) {
+fn broken_or_whole(random: &mut Random, tables: &[Stored], percent: usize) -> Vec<u8> {
+    if random.chance(percent) {
         return broken_bytes(random, tables);
     }
     written(random, tables, false).bytes()

@@ -17,6 +17,7 @@ pub mod listing;
 mod nodes;
 mod offers;
 pub mod open;
+pub mod portioned;
 mod random;
 pub mod recorded;
 pub mod row_order;

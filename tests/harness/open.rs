@@ -8,6 +8,9 @@ use super::lent::SCRATCH;
 /// Words of an answer that is compared: ordering longer ones may take the engine seconds.
 pub const MOST_WORDS: usize = 8_300;
 
+/// "1 to 65,535" rows of a portion.
+pub const MOST_ROWS: u64 = 65_535;
+
 /// The numbers that data and question decide; a call may also give 31 and its own `too_short`.
 pub const NUMBERS: [u64; 12] = [0, 11, 12, 13, 21, 22, 23, 24, 25, 26, 27, 28];
 
@@ -73,6 +76,26 @@ pub const PLAN: Call<i64> = Call {
     expected: |data, question| {
         reply_of_answer(evaluator::by_plan(data, question, SCRATCH, u64::MAX)?)
     },
+};
+
+/// By plan in as few portions as there can be.
+pub const PORTIONS: Call<i64> = Call {
+    name: "portions",
+    too_short: Some(32),
+    always: false,
+    made: |data, question, scratch, answer| {
+        let begun = calls::begin(data, question, scratch);
+        if begun.number != 0 {
+            return begun;
+        }
+        loop {
+            let said = calls::portion(data, scratch, answer, MOST_ROWS);
+            if !said.is_unfinished() {
+                return said.outcome();
+            }
+        }
+    },
+    expected: PLAN.expected,
 };
 
 pub const LINES: Call<u8> = Call {

@@ -21,8 +21,8 @@ pub const OTHER: u64 = 1 << 63;
 /// A way of answering, and what is lent to it.
 pub struct Way {
     call: Call<i64>,
-    scratch: Lent<u64>,
-    answer: Lent<i64>,
+    pub scratch: Lent<u64>,
+    pub answer: Lent<i64>,
 }
 
 pub struct Ways {
