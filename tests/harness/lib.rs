@@ -5,6 +5,7 @@ mod breaks;
 pub mod calls;
 mod chains;
 pub mod compare;
+pub mod damaged;
 pub mod desk_edges;
 mod doublings;
 mod extremes;

@@ -18,13 +18,13 @@ use super::tally::{Place, Tally};
 use super::ways::{agree, Way, OTHER};
 
 /// Rows that a question may be offered in a pass.
-const MOST_OFFERS: u64 = 100_000;
+pub const MOST_OFFERS: u64 = 100_000;
 
 /// Questions that run at once.
 const SEATS: usize = 3;
 
 /// In the tally: a portion that is unfinished. No refusal has the number.
-const UNFINISHED: u64 = 1;
+pub const UNFINISHED: u64 = 1;
 
 /// How often a question is given up before it may end.
 const GIVEN_UP: usize = 2;
