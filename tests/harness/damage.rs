@@ -10,7 +10,7 @@ use harness::damaged::Damage;
 use harness::tally::exit_code;
 
 /// "Only safety and an end are promised": a round that takes so long is taken for one without end.
-const LONGEST: Duration = Duration::from_secs(120);
+const LONGEST: Duration = Duration::from_secs(60);
 
 static ROUNDS: AtomicU64 = AtomicU64::new(0);
 

@@ -19,6 +19,9 @@ use super::ways::{agree, Way, OTHER};
 /// Words that calls use (docs/DECISIONS.md); the later ones of scratch are only set to 0.
 const USED: usize = 2048;
 
+/// Questions that are made to find two that are accepted.
+const TRIED: u64 = 8;
+
 /// Portions of a round.
 const PORTIONS_MADE: usize = 16;
 
@@ -52,12 +55,16 @@ impl Damage {
     /// Begins two questions and makes portions of both over what was changed.
     pub fn round(&mut self, place: Place) {
         let mut random = Random::new(!place.0, place.1);
-        for (seat, input) in self.seats.iter_mut().zip(inputs(place)) {
+        for (seat, input) in self.seats.iter_mut().zip(inputs(place, &mut random)) {
             seat.begin(input, &mut random);
         }
         for _ in 0..PORTIONS_MADE {
             self.tally.inputs += 1;
             let at = random.below(2);
+            if self.seats[at].is_over() && random.chance(90) {
+                let input = self.seats[at].input.clone();
+                self.seats[at].begin(input, &mut random);
+            }
             for _ in 0..random.weighted(&[10, 50, 25, 15]) {
                 self.change(at, &mut random);
             }
@@ -120,7 +127,9 @@ impl Damage {
     /// A portion, sometimes of no good number of rows or with too little scratch.
     fn portion(&mut self, place: Place, at: usize, random: &mut Random) -> Result<(), String> {
         let few = random.between(1, 9) as u64;
-        let rows = random.one_of(&[0, MOST_ROWS + 1, 1, 1, few, few, few, 40, 40, 1000], 1);
+        let rows = random.one_of(&[1, 1, few, few, few, 40, 40, 1000], 1);
+        let bad = random.one_of(&[0, MOST_ROWS + 1, u64::MAX], 0);
+        let rows = if random.chance(3) { bad } else { rows };
         let rows = if random.chance(1) { MOST_ROWS } else { rows };
         let seat = &mut self.seats[at];
         let scratch = if random.chance(3) {
@@ -132,7 +141,7 @@ impl Damage {
             0 => Some(47),
             rows if rows > MOST_ROWS => Some(47),
             _ if scratch < SCRATCH => Some(31),
-            _ if seat.words().iter().all(|word| *word == 0) => Some(48),
+            _ if seat.is_over() => Some(48),
             _ => None,
         };
         let before = (seat.words().to_vec(), seat.way.answer.again().to_vec());
@@ -172,12 +181,18 @@ impl Damage {
     }
 }
 
-/// Two questions, over the same tables or not.
-fn inputs((seed, index): Place) -> Vec<Input> {
-    match index % 3 {
-        0 => vec![generate(seed, index), generate(seed, index + 1)],
-        _ => questions(seed, index, 2),
+/// Two questions that are begun, over the same tables or not.
+fn inputs((seed, index): Place, random: &mut Random) -> [Input; 2] {
+    let (first, last) = (TRIED * index, TRIED * (index + 1));
+    let mut all: Vec<Input> = (first..last).map(|index| generate(seed, index)).collect();
+    if random.chance(70) {
+        all.splice(0..0, questions(seed, index, TRIED as usize));
     }
+    let mut scratch = vec![0; SCRATCH];
+    all.sort_by_cached_key(|input| {
+        calls::check(&input.data, &input.question, &mut scratch).number != 0
+    });
+    [all.remove(0), all.remove(0)]
 }
 
 /// A word that may matter: small, a power of two or next to one, or any.
@@ -214,6 +229,11 @@ impl Seat {
             &self.input.question,
             self.way.scratch.again(),
         );
+    }
+
+    /// Whether no question is unfinished, so that a portion would be 48.
+    fn is_over(&mut self) -> bool {
+        self.words().iter().all(|word| *word == 0)
     }
 
     fn lend_data(&mut self, bytes: Vec<u8>, random: &mut Random) {
