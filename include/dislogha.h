@@ -1,8 +1,9 @@
-// The engine's open calls for C++17: document 01's refusals, spans, and a wrapper for each call.
+// The engine's open calls for C++17: the refusals of documents 01 and 02, spans, and a wrapper for
+// each call.
 //
-// A call reads and writes only what it is lent, keeps nothing between calls, and ends for every
-// input; nothing here allocates or throws. Several calls may run at once, each with a scratch and a
-// buffer of its own.
+// A call reads and writes only what it is lent, keeps nothing elsewhere between calls, and ends for
+// every input; nothing here allocates or throws. Several calls may run at once, each with a scratch
+// and a buffer of its own.
 //
 // What the engine promises holds for buffers that do not overlap. A wrapper tests that first:
 // where a span that is written shares a byte with another one, it makes no call, changes nothing
@@ -17,6 +18,15 @@ extern "C" {
 
 // 0 and the length of what was written, or a refusal's number and length 0.
 struct dislogha_result {
+    std::uint64_t number;
+    std::uint64_t length;
+};
+
+// What a portion says: 1 where its question is finished, else 0; the rows that it offered; number
+// and length as in a result.
+struct dislogha_portioned {
+    std::uint64_t finished;
+    std::uint64_t rows;
     std::uint64_t number;
     std::uint64_t length;
 };
@@ -40,12 +50,25 @@ dislogha_result dislogha_plan_lines(const std::uint8_t *data, std::size_t data_b
                                     const std::uint8_t *question, std::size_t question_bytes,
                                     std::uint64_t *scratch, std::size_t scratch_words,
                                     std::uint8_t *lines, std::size_t lines_bytes) noexcept;
+
+dislogha_result dislogha_begin(const std::uint8_t *data, std::size_t data_bytes,
+                               const std::uint8_t *question, std::size_t question_bytes,
+                               std::uint64_t *scratch, std::size_t scratch_words) noexcept;
+
+dislogha_portioned dislogha_portion(const std::uint8_t *data, std::size_t data_bytes,
+                                    std::uint64_t *scratch, std::size_t scratch_words,
+                                    std::int64_t *answer, std::size_t answer_words,
+                                    std::uint64_t rows) noexcept;
 }
 
 namespace dislogha {
 
-// Words of scratch that a call asks for. They are 0 after every call that has them.
+// Words of scratch that a call asks for. They are 0 after every call that has them, save while a
+// question is unfinished (`begin`, `portion`).
 constexpr std::size_t scratch_words = 8192;
+
+// Rows that a portion may offer.
+constexpr std::uint64_t most_rows = 65535;
 
 enum class Outcome : std::uint8_t {
     // The call's number is 0.
@@ -56,7 +79,7 @@ enum class Outcome : std::uint8_t {
     overlapping,
 };
 
-// Document 01's numbers.
+// The numbers of documents 01 and 02.
 enum class Refusal : std::uint64_t {
     // Whoever packs the data can cause:
     // A record cut short or not kind 20.
@@ -94,6 +117,10 @@ enum class Refusal : std::uint64_t {
     // The plan call's byte buffer is shorter than the plan's lines. Bytes behind the lines never
     // change.
     lines_too_short = 33,
+    // A portion of 0 rows or above 65,535. Nothing is changed.
+    rows_out_of_range = 47,
+    // A portion where no question is unfinished (scratch 0). Nothing is changed.
+    nothing_unfinished = 48,
 };
 
 struct Result {
@@ -102,6 +129,22 @@ struct Result {
     Refusal refusal;
     // How much was written, where the call answered (0 from the checker); else 0.
     std::uint64_t length;
+};
+
+struct Portion {
+    // `answered` is said of an unfinished question, too.
+    Outcome outcome;
+    // The number, where the portion refused; else 0, which is no refusal.
+    Refusal refusal;
+    // The count of the answer's words, where the question is finished and answered; else 0.
+    std::uint64_t length;
+    // Whether this portion was its question's last, with an answer or with 32.
+    bool finished;
+    // Rows that it offered: as many as given, unless it was the last.
+    std::uint64_t offered;
+
+    // Whether another portion is due. After a refusal none is.
+    constexpr bool unfinished() const noexcept { return outcome == Outcome::answered && !finished; }
 };
 
 // Elements that belong to the caller.
@@ -146,13 +189,19 @@ inline Result result_of(dislogha_result result) noexcept {
             static_cast<Refusal>(result.number), result.length};
 }
 
-// The checker: `answered` and length 0 where the question is accepted over the tables.
-inline Result check(Bytes data, Bytes question, Words scratch) noexcept {
+// A call that writes scratch alone.
+template <class Call>
+Result call_with(Call call, Bytes data, Bytes question, Words scratch) noexcept {
     if (overlaps(scratch, data, question)) {
         return overlapping;
     }
-    return result_of(dislogha_check(data.first(), data.count(), question.first(), question.count(),
-                                    scratch.first(), scratch.count()));
+    return result_of(call(data.first(), data.count(), question.first(), question.count(),
+                          scratch.first(), scratch.count()));
+}
+
+// The checker: `answered` and length 0 where the question is accepted over the tables.
+inline Result check(Bytes data, Bytes question, Words scratch) noexcept {
+    return call_with(dislogha_check, data, question, scratch);
 }
 
 // A call that writes into a buffer, too.
@@ -180,6 +229,44 @@ inline Result answer_by_plan(Bytes data, Bytes question, Words scratch, Answer a
 // front of the buffer. Later bytes are as they were.
 inline Result plan_lines(Bytes data, Bytes question, Words scratch, Text lines) noexcept {
     return call_with(dislogha_plan_lines, data, question, scratch, lines);
+}
+
+// Begins to answer by plan in portions: 31 and all refusals to 28, or `answered` and length 0; then
+// scratch holds the unfinished question. Scratch may hold anything before: a question that is
+// unfinished in it is given up.
+//
+// Each portion offers so many rows, each a pair of a stream row and a table row, and a question is
+// offered its rows twice: while G is found, and while the answer is written. So with
+//
+//     std::uint64_t rows = 0;
+//     auto portion = dislogha::Portion{};
+//     if (dislogha::begin(data, question, scratch).outcome == dislogha::Outcome::answered) {
+//         do {
+//             portion = dislogha::portion(data, scratch, answer, 1000);
+//             show_progress(rows += portion.offered);
+//         } while (portion.unfinished());
+//     }
+//
+// `portion` says in the end what `answer_by_plan` would have said, and the words are the same. In
+// between another question may run over the same data, with a scratch and an answer buffer of its
+// own. What is lent must be as the last portion left it (at another address, if need be): else only
+// safety and an end are promised.
+inline Result begin(Bytes data, Bytes question, Words scratch) noexcept {
+    return call_with(dislogha_begin, data, question, scratch);
+}
+
+// Offers exactly `rows` rows, 1 to 65,535, to the unfinished question in scratch, or all that
+// remain, if no more. While it is unfinished the answer buffer has no promised content; once it is
+// finished, with an answer or with 32, scratch is 0.
+inline Portion portion(Bytes data, Words scratch, Answer answer, std::uint64_t rows) noexcept {
+    if (overlaps(scratch, data, answer) || overlaps(answer, data)) {
+        return {Outcome::overlapping, Refusal{}, 0, false, 0};
+    }
+    const dislogha_portioned said =
+        dislogha_portion(data.first(), data.count(), scratch.first(), scratch.count(),
+                         answer.first(), answer.count(), rows);
+    const Result result = result_of({said.number, said.length});
+    return {result.outcome, result.refusal, result.length, said.finished != 0, said.rows};
 }
 
 } // namespace dislogha

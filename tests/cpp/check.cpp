@@ -18,6 +18,7 @@ namespace {
 using dislogha::Answer;
 using dislogha::Bytes;
 using dislogha::Outcome;
+using dislogha::Portion;
 using dislogha::Refusal;
 using dislogha::Result;
 using dislogha::Words;
@@ -50,6 +51,24 @@ bool answers(Result result, std::uint64_t length) {
 bool refuses(Result result, Refusal refusal) { return is(result, Outcome::refused, refusal, 0); }
 
 bool overlaps(Result result) { return is(result, Outcome::overlapping, Refusal{}, 0); }
+
+bool is(Portion portion, Result result, bool finished, std::uint64_t offered) {
+    return portion.outcome == result.outcome && portion.refusal == result.refusal &&
+           portion.length == result.length && portion.finished == finished &&
+           portion.offered == offered;
+}
+
+bool unfinished(Portion portion, std::uint64_t offered) {
+    return portion.unfinished() && is(portion, {Outcome::answered, Refusal{}, 0}, false, offered);
+}
+
+bool finished(Portion portion, Result result, std::uint64_t offered) {
+    return !portion.unfinished() && is(portion, result, true, offered);
+}
+
+bool refuses(Portion portion, Refusal refusal) {
+    return !portion.unfinished() && is(portion, {Outcome::refused, refusal, 0}, false, 0);
+}
 
 // The first 8,192 words are 0 and the later ones as they were.
 bool cleared(const std::vector<std::uint64_t> &scratch) {
@@ -95,6 +114,38 @@ void answer_listing(AnswerCall answer_by) {
 
     const auto refused = answer_in(Answer(answer.data(), 4));
     expect(refuses(refused, Refusal::answer_too_short), "four words are too few");
+}
+
+// The listing has six rows a pass; its words are those of the single call.
+void portion_listing() {
+    std::vector<std::uint64_t> scratch(dislogha::scratch_words + 3, rubbish);
+    std::vector<std::int64_t> answer(6, -7);
+    const auto lent = Answer(answer.data(), answer.size());
+    const auto portion = [&](std::uint64_t rows) {
+        return dislogha::portion(bytes(tables), words(scratch), lent, rows);
+    };
+    const auto begun = dislogha::begin(bytes(tables), bytes(question), words(scratch));
+    expect(answers(begun, 0), "the listing is begun");
+    expect(unfinished(portion(5), 5), "five rows are offered");
+    const auto before = scratch;
+    expect(refuses(portion(0), Refusal::rows_out_of_range), "0 rows are refused");
+    expect(refuses(portion(dislogha::most_rows + 1), Refusal::rows_out_of_range),
+           "65,536 rows are refused");
+    const auto short_of = Words(scratch.data(), dislogha::scratch_words - 1);
+    expect(refuses(dislogha::portion(bytes(tables), short_of, lent, 1), Refusal::scratch_too_short),
+           "8,191 words are too few for a portion");
+    expect(scratch == before, "what is refused changes nothing");
+    expect(finished(portion(7), {Outcome::answered, Refusal{}, 5}, 7), "seven rows finish it");
+    expect(answer == std::vector<std::int64_t>{2, 1, 110, 2, 0, -7}, "the words of a single call");
+    expect(cleared(scratch), "scratch is cleared after the last portion");
+    expect(refuses(portion(1), Refusal::nothing_unfinished), "then no question is unfinished");
+
+    expect(answers(dislogha::begin(bytes(tables), bytes(question), words(scratch)), 0), "again");
+    const auto few = dislogha::portion(bytes(tables), words(scratch), Answer(answer.data(), 4), 9);
+    expect(finished(few, {Outcome::refused, Refusal::answer_too_short, 0}, 6),
+           "four words are too few, after one pass");
+    const auto none = dislogha::begin(Bytes(), bytes(question), words(scratch));
+    expect(refuses(none, Refusal::type_does_not_fit), "a beginning is refused as a check is");
 }
 
 void print_listing() {
@@ -151,6 +202,18 @@ void check_overlap() {
     const auto not_written = dislogha::plan_lines(bytes(tables), bytes(question), words(scratch),
                                                   dislogha::Text(last, 1));
     expect(overlaps(not_written), "lines inside scratch are not written");
+    const auto not_begun = dislogha::begin(Bytes(last, 1), bytes(question), words(scratch));
+    expect(overlaps(not_begun), "a question over data inside scratch is not begun");
+    std::int64_t answer[1] = {-7};
+    const auto not_offered = [&](Bytes data, Answer lent, const char *what) {
+        const auto portion = dislogha::portion(data, words(scratch), lent, 1);
+        expect(is(portion, dislogha::overlapping, false, 0) && answer[0] == -7, what);
+    };
+    const auto in_scratch = Answer(reinterpret_cast<std::int64_t *>(&scratch.back()), 1);
+    const auto in_answer = Bytes(reinterpret_cast<std::uint8_t *>(answer) + 7, 1);
+    not_offered(Bytes(last, 1), answer, "data inside scratch are not offered");
+    not_offered(bytes(tables), in_scratch, "a portion inside scratch is not written");
+    not_offered(in_answer, answer, "data inside the answer are not offered");
     expect(scratch == before, "nothing is changed where no call is made");
     const auto same = dislogha::check(bytes(question), bytes(question), words(scratch));
     expect(refuses(same, Refusal::not_a_table), "data and question may be the same bytes");
@@ -164,6 +227,7 @@ int main() {
         answer_listing(answer_by);
         answer_side_by_side(answer_by);
     }
+    portion_listing();
     print_listing();
     check_scratch();
     check_overlap();
