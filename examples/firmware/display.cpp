@@ -46,6 +46,10 @@ const char *words_of(dislogha::Refusal refusal) noexcept {
         return "answer too long";
     case Refusal::lines_too_short:
         return "plan too long";
+    case Refusal::rows_out_of_range:
+        return "rows out of range";
+    case Refusal::nothing_unfinished:
+        return "nothing to go on";
     }
     return "unknown refusal";
 }

@@ -1,4 +1,4 @@
-// Document 01's listing in bytes.
+// Document 01's listing in bytes, and a question over its tables that is offered more rows.
 #ifndef LISTING_H
 #define LISTING_H
 
@@ -24,6 +24,18 @@ constexpr std::uint8_t question[] = {
     7,  0, 4,  0, 0, 2, 0, 3, 0,  1, 0, // l.0
     7,  0, 4,  0, 0, 2, 0, 3, 0,  0, 0, // b.0
     7,  0, 4,  0, 1, 2, 0, 3, 0,  1, 0, // of l.1
+};
+
+// The sum of 1 for names 0 to 5, each in table 1: in how many ways six lines can be made fast.
+constexpr std::uint8_t ways_question[] = {
+    75, 0, 14, 0, 4,                    // a sum
+    7,  0, 16, 0, 0, 0, 1, 0, 15, 0, 1, // for a bollard (name 0) in table 1
+    7,  0, 16, 0, 1, 0, 1, 0, 15, 0, 1, // and another one
+    7,  0, 16, 0, 2, 0, 1, 0, 15, 0, 1, //
+    7,  0, 16, 0, 3, 0, 1, 0, 15, 0, 1, //
+    7,  0, 16, 0, 4, 0, 1, 0, 15, 0, 1, //
+    7,  0, 16, 0, 5, 0, 1, 0, 15, 0, 1, //
+    4,  0, 1,  0, 1, 0, 0, 0,           // of 1
 };
 
 } // namespace listing

@@ -1,5 +1,6 @@
 // How firmware asks: buffers of its own, the question answered both ways and compared, the answer
-// or the refusal on the display. Nothing is allocated, and nothing is thrown.
+// or the refusal on the display; then a long question in portions while a short one runs. Nothing
+// is allocated, and nothing is thrown.
 
 #include <algorithm>
 #include <cstdio>
@@ -14,6 +15,7 @@ namespace {
 using dislogha::Answer;
 using dislogha::Bytes;
 using dislogha::Outcome;
+using dislogha::Portion;
 using dislogha::Result;
 
 std::uint64_t scratch[dislogha::scratch_words];
@@ -60,12 +62,72 @@ bool ask(Bytes data, Bytes question, std::size_t words) noexcept {
     return false;
 }
 
+// A question that is answered in portions, with a scratch and a buffer of its own.
+class Asked {
+  public:
+    // `name` is shown with its progress, `show_answer` once it is answered.
+    Asked(const char *name, std::uint64_t rows, void (*show_answer)(const std::int64_t *)) noexcept
+        : name_(name), rows_(rows), show_answer_(show_answer) {}
+
+    bool begin(Bytes data, Bytes question) noexcept {
+        portion_ = Portion{};
+        offered_ = 0;
+        return dislogha::begin(data, question, scratch_).outcome == Outcome::answered;
+    }
+
+    bool unfinished() const noexcept { return portion_.unfinished(); }
+
+    // Offers the next rows, and shows how many were offered so far, or what came of the question.
+    void go_on(Bytes data) noexcept {
+        portion_ = dislogha::portion(data, scratch_, answer_, rows_);
+        offered_ += portion_.offered;
+        if (portion_.unfinished()) {
+            display::show(name_, static_cast<std::int64_t>(rows_),
+                          static_cast<std::int64_t>(offered_));
+        } else if (portion_.outcome == Outcome::answered) {
+            show_answer_(answer_);
+        } else {
+            display::show(display::words_of(portion_.refusal));
+        }
+    }
+
+  private:
+    const char *name_;
+    std::uint64_t rows_;
+    void (*show_answer_)(const std::int64_t *);
+    Portion portion_{};
+    std::uint64_t offered_ = 0;
+    std::uint64_t scratch_[dislogha::scratch_words] = {};
+    std::int64_t answer_[16] = {};
+};
+
+void show_ways(const std::int64_t *answer) noexcept { display::show("lines", 6, answer[0]); }
+
+Asked ways("ways", 60, show_ways);
+Asked berths("berths", 5, show_berths);
+
+// Both in turn until each has ended: the short one does not wait for the long one.
+bool ask_at_once(Bytes data) noexcept {
+    if (!ways.begin(data, listing::ways_question) || !berths.begin(data, listing::question)) {
+        return false;
+    }
+    while (ways.unfinished() || berths.unfinished()) {
+        for (Asked *asked : {&ways, &berths}) {
+            if (asked->unfinished()) {
+                asked->go_on(data);
+            }
+        }
+    }
+    return true;
+}
+
 } // namespace
 
 int main() {
     std::setvbuf(stdout, printed, _IOFBF, sizeof printed);
     const Bytes tables(listing::tables), question(listing::question);
     const bool agreed = ask(tables, question, std::size(by_loops)) &&
-                        ask(Bytes(), question, std::size(by_loops)) && ask(tables, question, 4);
+                        ask(Bytes(), question, std::size(by_loops)) && ask(tables, question, 4) &&
+                        ask_at_once(tables);
     return agreed ? 0 : 1;
 }
