@@ -1,9 +1,9 @@
-// Answering by loops and by plan against SQLite in memory and against loops written out by hand, on
-// the same tables in one run. Times are processor time of the fastest of several runs; nothing is
-// asserted of them. The four answers must be equal, or the exit code is 1.
+// Answering by loops, by plan and by plan in portions against SQLite in memory and against loops
+// written out by hand, on the same tables in one run. Times are processor time of the fastest of
+// several runs; nothing is asserted of them. The five answers must be equal, or the exit code is 1.
 //
 // Arguments: the file that bench/inputs.py writes; behind it, for a profiler, the name of a query
-// and "loops" or "plan": the engine then answers it once, and nothing else is done.
+// and "loops", "plan" or "portions": the engine then answers it once, and nothing else is done.
 
 #include <sqlite3.h>
 #include <time.h>
@@ -95,6 +95,19 @@ void read(const std::string &path, const std::string &name, Input &input) {
         return;
     }
     stop(path + " has no query " + name);
+}
+
+// By plan in as few portions as there can be.
+dislogha::Result answer_in_portions(dislogha::Bytes data, dislogha::Bytes question,
+                                    dislogha::Words scratch, dislogha::Answer answer) noexcept {
+    const dislogha::Result begun = dislogha::begin(data, question, scratch);
+    if (begun.outcome != dislogha::Outcome::answered)
+        return begun;
+    dislogha::Portion portion{};
+    do
+        portion = dislogha::portion(data, scratch, answer, dislogha::most_rows);
+    while (portion.unfinished());
+    return {portion.outcome, portion.refusal, portion.length};
 }
 
 // The engine, answering one way.
@@ -197,39 +210,49 @@ double fastest(const std::function<void()> &run) {
     return least;
 }
 
-constexpr const char *way_names[] = {"by loops", "by plan", "SQLite", "by hand"};
+enum Way { by_loops, by_plan, in_portions, by_sqlite, by_hand, ways_count };
 
-// The times of the four ways.
-void print(const char *name, const double (&ns)[4], double steps) {
-    std::printf("%-15s %9.0f %9.0f %9.0f %9.0f", name, ns[0] / 1e3, ns[1] / 1e3, ns[2] / 1e3,
-                ns[3] / 1e3);
-    std::printf("  %8.2f %8.2f", ns[0] / steps, ns[1] / steps);
-    std::printf("  %8.2f %8.2f", ns[0] / ns[2], ns[0] / ns[3]);
-    std::printf("  %8.2f %8.2f %8.2f\n", ns[1] / ns[2], ns[1] / ns[3], ns[1] / ns[0]);
+constexpr const char *way_names[ways_count] = {"by loops", "by plan", "portions", "SQLite",
+                                               "by hand"};
+
+// The times of all ways.
+void print(const char *name, const double (&ns)[ways_count], double steps) {
+    std::printf("%-15s", name);
+    for (const double time : ns)
+        std::printf(" %9.0f", time / 1e3);
+    std::printf("  %8.2f %8.2f", ns[by_loops] / steps, ns[by_plan] / steps);
+    std::printf("  %8.2f %8.2f", ns[by_loops] / ns[by_sqlite], ns[by_loops] / ns[by_hand]);
+    std::printf("  %8.2f %8.2f %8.2f", ns[by_plan] / ns[by_sqlite], ns[by_plan] / ns[by_hand],
+                ns[by_plan] / ns[by_loops]);
+    std::printf("  %11.2f\n", ns[in_portions] / ns[by_plan]);
 }
 
 void print_heading() {
-    std::printf("%-15s %39s  %17s  %17s  %26s\n", "", "us for the whole answer", "ns a pair or row",
-                "by loops to", "by plan to");
-    std::printf("%-15s %9s %9s %9s %9s  %8s %8s  %8s %8s  %8s %8s %8s\n", "", "by loops", "by plan",
-                "SQLite", "by hand", "by loops", "by plan", "SQLite", "by hand", "SQLite",
-                "by hand", "by loops");
+    std::printf("%-15s %49s  %17s  %17s  %26s  %11s\n", "", "us for the whole answer",
+                "ns a pair or row", "by loops to", "by plan to", "portions to");
+    std::printf("%-15s", "");
+    for (const char *name : way_names)
+        std::printf(" %9s", name);
+    std::printf("  %8s %8s  %8s %8s  %8s %8s %8s  %11s\n", "by loops", "by plan", "SQLite",
+                "by hand", "SQLite", "by hand", "by loops", "by plan");
 }
 
 // Measures one query and prints its line; false where the answers differ.
 bool measure(const Query &query, const Input &input) {
-    Engine by_loops(dislogha::answer_by_loops), by_plan(dislogha::answer_by_plan);
+    Engine loops(dislogha::answer_by_loops), plan(dislogha::answer_by_plan),
+        portions(answer_in_portions);
     Sqlite sqlite(query, input);
     const Rows &first = input.tables.front(), &second = input.tables.back();
     Words words;
-    const std::function<void()> ways[4] = {
-        [&] { by_loops.run(input, words); },
-        [&] { by_plan.run(input, words); },
+    const std::function<void()> ways[ways_count] = {
+        [&] { loops.run(input, words); },
+        [&] { plan.run(input, words); },
+        [&] { portions.run(input, words); },
         [&] { sqlite.run(words); },
         [&] { words = query.loops(first, second); },
     };
     const Words wanted = query.loops(first, second);
-    for (std::size_t way = 0; way < 4; way++) {
+    for (std::size_t way = 0; way < ways_count; way++) {
         ways[way]();
         if (words != wanted) {
             std::printf("%-15s no times: %s gives another answer than by hand\n", query.name,
@@ -237,7 +260,7 @@ bool measure(const Query &query, const Input &input) {
             return false;
         }
     }
-    double ns[4];
+    double ns[ways_count];
     std::transform(std::begin(ways), std::end(ways), ns, fastest);
     print(query.name, ns, input.steps());
     return true;
@@ -247,7 +270,9 @@ int once(const std::string &path, const std::string &name, const std::string &wa
     Input input;
     Words words;
     read(path, name, input);
-    Engine engine(way == "plan" ? dislogha::answer_by_plan : dislogha::answer_by_loops);
+    Engine engine(way == "plan"       ? dislogha::answer_by_plan
+                  : way == "portions" ? answer_in_portions
+                                      : dislogha::answer_by_loops);
     const auto number = static_cast<unsigned long long>(engine.run(input, words));
     std::printf("%s by %s: number %llu, %zu words\n", name.c_str(), way.c_str(), number,
                 words.size());
@@ -258,8 +283,8 @@ int once(const std::string &path, const std::string &name, const std::string &wa
 
 int main(int count, char **arguments) {
     if (count != 2 && count != 4)
-        stop("arguments: the file that bench/inputs.py writes; a query's name, \"loops\" or "
-             "\"plan\"");
+        stop("arguments: the file that bench/inputs.py writes; a query's name, \"loops\", "
+             "\"plan\" or \"portions\"");
     if (count == 4)
         return once(arguments[1], arguments[2], arguments[3]);
     std::printf("SQLite %s\n", sqlite3_libversion());
