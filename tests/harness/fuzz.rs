@@ -1,5 +1,5 @@
-//! All open calls against the second evaluator, and both ways of answering against each other, with
-//! one seed after another until the time is over. Arguments: minutes, first seed.
+//! All open calls against the second evaluator, both ways of answering against each other, and portions
+//! against the single call, with one seed after another until the time is over. Arguments: minutes, first seed.
 
 use std::process::ExitCode;
 use std::sync::atomic::{AtomicU64, Ordering};
@@ -10,6 +10,7 @@ use harness::arguments;
 use harness::compare::Comparison;
 use harness::held::{inputs_of, Held};
 use harness::open::{CHECK, LINES, LOOPS, PLAN};
+use harness::portioned::Portions;
 use harness::tally::{exit_code, Tally};
 use harness::ways::Ways;
 
@@ -49,8 +50,15 @@ fn merged(mut totals: Vec<Tally>, tallies: Vec<Tally>) -> Vec<Tally> {
 fn tallies_until(seeds: &AtomicU64, end: Instant) -> Vec<Tally> {
     let (mut check, mut loops) = (Comparison::new(&CHECK), Comparison::new(&LOOPS));
     let (mut plan, mut lines) = (Comparison::new(&PLAN), Comparison::new(&LINES));
-    let mut both = Ways::new();
-    let mut held: [&mut dyn Held; 5] = [&mut check, &mut loops, &mut plan, &mut lines, &mut both];
+    let (mut both, mut portions) = (Ways::new(), Portions::new());
+    let mut held: [&mut dyn Held; 6] = [
+        &mut check,
+        &mut loops,
+        &mut plan,
+        &mut lines,
+        &mut both,
+        &mut portions,
+    ];
     while Instant::now() < end {
         inputs_of(seeds.fetch_add(1, Ordering::Relaxed), INPUTS, &mut held);
     }
