@@ -44,9 +44,8 @@ struct Seat {
 impl Damage {
     pub fn new() -> Damage {
         let known = vec![0, UNFINISHED, 31, 32, 47, 48];
-        let (seed, index) = (0, 0);
         Damage {
-            seats: [(); 2].map(|()| Seat::new(generate(seed, index))),
+            seats: [0, 1].map(|index| Seat::new(generate(0, index))),
             alone: Way::new(PLAN),
             tally: Tally::new("damage", known),
         }
@@ -82,6 +81,7 @@ impl Damage {
         }
     }
 
+    /// Changes something that is lent to the next portion of a seat.
     fn change(&mut self, at: usize, random: &mut Random) {
         let [first, second] = &mut self.seats;
         let (seat, other) = if at == 0 {
@@ -101,11 +101,11 @@ impl Damage {
             }
             9 => seat.words().swap_with_slice(other.words()),
             10 => {
-                let salt = random.next();
-                let of_rubbish = |index: usize| salt.wrapping_mul(index as u64 | 1);
-                (0..)
-                    .zip(seat.words())
-                    .for_each(|(index, word)| *word = of_rubbish(index));
+                let (salt, from) = (random.next(), random.below(USED));
+                let until = random.between(from, USED);
+                for (index, word) in seat.words()[from..until].iter_mut().enumerate() {
+                    *word = salt.wrapping_mul(index as u64 | 1);
+                }
             }
             11 => seat.words().fill(0),
             12 => seat.change_data(&other.input.data, random),
@@ -255,8 +255,7 @@ impl Seat {
         let word = words[at];
         let flipped = word ^ (1 << random.below(64));
         let low = word ^ (1 << random.below(12));
-        let neighbours = [word.wrapping_add(1), word.wrapping_sub(1)];
-        let [next, last] = neighbours;
+        let (next, last) = (word.wrapping_add(1), word.wrapping_sub(1));
         let chosen = [
             flipped,
             low,
