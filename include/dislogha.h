@@ -1,7 +1,7 @@
 // The engine's open calls for C++17: the refusals of documents 01 and 02, spans, and a wrapper for
 // each call.
 //
-// A call reads and writes only what it is lent, keeps nothing elsewhere between calls, and ends for
+// A call reads and writes only what it is lent, keeps nothing outside of that, and ends for
 // every input; nothing here allocates or throws. Several calls may run at once, each with a scratch
 // and a buffer of its own.
 //
