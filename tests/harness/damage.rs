@@ -1,4 +1,5 @@
-//! Portions over what was changed in between. Arguments: seed, count of portions.
+//! Portions over what was changed in between. Arguments: seed, count of portions, and `answers` where changed seats keep their answer
+//! buffers.
 
 use std::process::ExitCode;
 use std::sync::atomic::{AtomicU64, Ordering};
@@ -17,7 +18,10 @@ static ROUNDS: AtomicU64 = AtomicU64::new(0);
 fn main() -> ExitCode {
     let [seed, count] = arguments("seed, count of portions", [1, 1_000_000]);
     thread::spawn(watch);
-    let mut damage = Damage::new();
+    let answers = std::env::args()
+        .nth(3)
+        .is_some_and(|word| word == "answers");
+    let mut damage = Damage::new(answers);
     while damage.tally.inputs < count {
         damage.round((seed, ROUNDS.fetch_add(1, Ordering::Relaxed)));
     }

@@ -28,6 +28,9 @@ const PORTIONS_MADE: usize = 16;
 pub struct Damage {
     seats: [Seat; 2],
     alone: Way,
+    /// Whether a changed seat keeps its answer buffer. What is then brought to its written form may be any words, and the counts in
+    /// them are taken at their word: it ends, but not always soon (docs/DECISIONS.md). Else it is lent no word from there on.
+    answers: bool,
     /// Its inputs are portions that were made.
     pub tally: Tally,
 }
@@ -42,11 +45,12 @@ struct Seat {
 }
 
 impl Damage {
-    pub fn new() -> Damage {
+    pub fn new(answers: bool) -> Damage {
         let known = vec![0, UNFINISHED, 31, 32, 47, 48];
         Damage {
             seats: [0, 1].map(|index| Seat::new(generate(0, index))),
             alone: Way::new(PLAN),
+            answers,
             tally: Tally::new("damage", known),
         }
     }
@@ -121,6 +125,11 @@ impl Damage {
                 }
             }
             _ => seat.scratch = random.between(SCRATCH, seat.way.scratch.len()),
+        }
+        if !self.answers {
+            for seat in &mut self.seats {
+                seat.way.answer.lend(0, random.next());
+            }
         }
     }
 
