@@ -1,7 +1,9 @@
 -- From the parts of a call to its outcome.
 pub mod Calls
 pub mod PortionCalls
+pub mod RotaCalls
 pub mod Outcomes
 pub mod Demand3
 pub mod RowOrder
 pub mod Portions
+pub mod Rota

@@ -1,15 +1,17 @@
 // The open calls.
 ghost use mathlib.Core.List.{[]};
-ghost use Prim.Native.Nat.{_≤_};
+ghost use Prim.Native.Nat.{_≤_, _<_};
 ghost use lib.ListN.{length};
 ghost use Rattle.outcome.specs.Outcome.{byLoops, byPlan, checked, planLines};
 ghost use Rattle.prepared.specs.Gives.{Gives};
 ghost use Rattle.engine.specs.Replies.{Admits, Replies};
 ghost use Rattle.engine.specs.Portions.{BeginGives, PortionGives, Says, EndsWith};
+ghost use Rattle.engine.specs.Rota.{seatOf, SeatGives, TwoGive, RoundGives};
 use front::Checked;
 use lines::Printed;
 use portions::Progress;
 use prepared::Answer;
+use rota::rota_fits;
 
 // "An answer is 0 and its length ..; a refusal its number and length 0."
 #[repr(C)]
@@ -221,5 +223,92 @@ pub extern "C" fn dislogha_portion(
         },
         Progress::Short(k) => ended(scratch, k as u64, 32, 0),
         Progress::Length(k, n) => ended(scratch, k as u64, 0, n as u64),
+    }
+}
+
+// A round at seat i: a portion of its quota, if the rota has that seat.
+fn seat(tables: &[u8], quotas: &[u64], i: usize, s: &mut [u64], o: &mut [i64]) -> Portioned
+    ensures { λ r. ⌜ SeatGives (now (tables .entry)) (now (quotas .entry)) i (seatOf (now (s .entry)) (now (o .entry))) (seatOf (now (s .exit)) (now (o .exit))) r ⌝ }
+{
+    if quotas.len() <= i {
+        return declined(0);
+    }
+    let q = quotas[i];
+    dislogha_portion(tables, s, o, q)
+}
+
+// What is told of two seats.
+pub struct TwoSeats {
+    pub first: Portioned,
+    pub second: Portioned,
+}
+
+// A round at seat i and at the next.
+fn two_seats(
+    tables: &[u8],
+    quotas: &[u64],
+    i: usize,
+    s0: &mut [u64],
+    o0: &mut [i64],
+    s1: &mut [u64],
+    o1: &mut [i64],
+) -> TwoSeats
+    requires { ⌜ i < 4 ⌝ }
+    ensures { λ r. ⌜ TwoGive (now (tables .entry)) (now (quotas .entry)) i (seatOf (now (s0 .entry)) (now (o0 .entry))) (seatOf (now (s1 .entry)) (now (o1 .entry))) (seatOf (now (s0 .exit)) (now (o0 .exit))) (seatOf (now (s1 .exit)) (now (o1 .exit))) r ⌝ }
+{
+    let first = seat(tables, quotas, i, s0, o0);
+    let second = seat(tables, quotas, i + 1, s1, o1);
+    TwoSeats { first, second }
+}
+
+// What a round tells: 0 or 49, and what each seat's portion said.
+#[repr(C)]
+pub struct Round {
+    pub number: u64,
+    pub first: Portioned,
+    pub second: Portioned,
+    pub third: Portioned,
+    pub fourth: Portioned,
+}
+
+// "A round visits the seats in order." Of a refused rota nothing is told but 49.
+#[no_mangle]
+pub extern "C" fn dislogha_round(
+    tables: &[u8],
+    quotas: &[u64],
+    scratch1: &mut [u64],
+    answer1: &mut [i64],
+    scratch2: &mut [u64],
+    answer2: &mut [i64],
+    scratch3: &mut [u64],
+    answer3: &mut [i64],
+    scratch4: &mut [u64],
+    answer4: &mut [i64],
+) -> Round
+    ensures { λ r. ⌜ RoundGives (now (tables .entry)) (now (quotas .entry)) (seatOf (now (scratch1 .entry)) (now (answer1 .entry))) (seatOf (now (scratch2 .entry)) (now (answer2 .entry))) (seatOf (now (scratch3 .entry)) (now (answer3 .entry))) (seatOf (now (scratch4 .entry)) (now (answer4 .entry))) (seatOf (now (scratch1 .exit)) (now (answer1 .exit))) (seatOf (now (scratch2 .exit)) (now (answer2 .exit))) (seatOf (now (scratch3 .exit)) (now (answer3 .exit))) (seatOf (now (scratch4 .exit)) (now (answer4 .exit))) r ⌝ }
+{
+    let fits = rota_fits(quotas);
+    if !fits {
+        let idle = declined(0);
+        return Round {
+            number: 49,
+            first: idle,
+            second: idle,
+            third: idle,
+            fourth: idle,
+        };
+    }
+    let a = two_seats(tables, quotas, 0, scratch1, answer1, scratch2, answer2);
+    let b = two_seats(tables, quotas, 2, scratch3, answer3, scratch4, answer4);
+    let first = a.first;
+    let second = a.second;
+    let third = b.first;
+    let fourth = b.second;
+    Round {
+        number: 0,
+        first,
+        second,
+        third,
+        fourth,
     }
 }

@@ -1,0 +1,2 @@
+-- The quotas of a rota one by one.
+pub mod Laws

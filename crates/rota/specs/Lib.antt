@@ -1,0 +1,2 @@
+-- Which rotas there are.
+pub mod Rota
