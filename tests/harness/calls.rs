@@ -34,6 +34,20 @@ impl Portioned {
     }
 }
 
+/// What a round gives, by value: 0 or 49, and what each seat's portion said.
+#[repr(C)]
+#[derive(Clone, Copy, Debug, PartialEq, Eq)]
+pub struct Round {
+    pub number: u64,
+    pub seats: [Portioned; 4],
+}
+
+/// What a round is lent for a seat.
+pub struct LentSeat<'a> {
+    pub scratch: &'a mut [u64],
+    pub answer: &'a mut [i64],
+}
+
 /// Declares a call of an archive and lends slices to it: data and question, then what is written.
 #[macro_export]
 macro_rules! open_call {
@@ -85,6 +99,29 @@ extern "C" {
         answer_words: usize,
         rows: u64,
     ) -> Portioned;
+
+    fn dislogha_round(
+        data: *const u8,
+        data_bytes: usize,
+        quotas: *const u64,
+        seats: usize,
+        scratch1: *mut u64,
+        scratch1_words: usize,
+        answer1: *mut i64,
+        answer1_words: usize,
+        scratch2: *mut u64,
+        scratch2_words: usize,
+        answer2: *mut i64,
+        answer2_words: usize,
+        scratch3: *mut u64,
+        scratch3_words: usize,
+        answer3: *mut i64,
+        answer3_words: usize,
+        scratch4: *mut u64,
+        scratch4_words: usize,
+        answer4: *mut i64,
+        answer4_words: usize,
+    ) -> Round;
 }
 
 /// A portion of the question in scratch: it takes no question, so it is not declared as the others.
@@ -100,6 +137,37 @@ pub fn portion(data: &[u8], scratch: &mut [u64], answer: &mut [i64], rows: u64) 
             answer.as_mut_ptr(),
             answer.len(),
             rows,
+        )
+    }
+}
+
+/// A round over a rota with these quotas, one for each of its seats.
+pub fn round(data: &[u8], quotas: &[u64], seats: [LentSeat; 4]) -> Round {
+    let [first, second, third, fourth] = seats;
+    // SAFETY: as for a portion; the seats' slices are all lent to be written, so none overlaps
+    // another one.
+    unsafe {
+        dislogha_round(
+            data.as_ptr(),
+            data.len(),
+            quotas.as_ptr(),
+            quotas.len(),
+            first.scratch.as_mut_ptr(),
+            first.scratch.len(),
+            first.answer.as_mut_ptr(),
+            first.answer.len(),
+            second.scratch.as_mut_ptr(),
+            second.scratch.len(),
+            second.answer.as_mut_ptr(),
+            second.answer.len(),
+            third.scratch.as_mut_ptr(),
+            third.scratch.len(),
+            third.answer.as_mut_ptr(),
+            third.answer.len(),
+            fourth.scratch.as_mut_ptr(),
+            fourth.scratch.len(),
+            fourth.answer.as_mut_ptr(),
+            fourth.answer.len(),
         )
     }
 }

@@ -1,8 +1,8 @@
-//! Recorded scenes (document 02, E7): calls in turn over the same tables, each question at a seat with
-//! a scratch and an answer buffer of its own. Each line of a file is a JSON object with name, tables,
-//! seats and steps, and `out` of a step is what is known of its outcome.
+//! Recorded scenes (document 02, E7 and E8): calls in turn over the same tables, each question at a seat
+//! with a scratch and an answer buffer of its own. Each line of a file is a JSON object with name,
+//! tables, seats and steps, and `out` of a step is what is known of its outcome.
 
-use super::calls::{self, Outcome, Portioned};
+use super::calls::{self, LentSeat, Outcome, Portioned};
 use super::json::Json;
 use super::lent::{Lent, SCRATCH};
 use super::recorded::read_lines;
@@ -12,6 +12,9 @@ const LANDED: [&str; 1] = ["e1"];
 
 /// The field that has the tables in today's form. Only without tables all forms are one.
 const TABLES: &str = "data_01";
+
+/// Seats of a round.
+const SEATS: usize = 4;
 
 pub struct Scene {
     /// The file's name without its ending, a slash, and the name in the file.
@@ -33,10 +36,18 @@ struct Lengths {
     answer: usize,
 }
 
-struct Step {
-    seat: usize,
-    call: Call,
-    out: Out,
+enum Step {
+    At {
+        seat: usize,
+        call: Call,
+        out: Out,
+    },
+    /// Over all seats: quotas, number, and what is known of each seat.
+    Round {
+        quotas: Vec<u64>,
+        number: u64,
+        outs: Vec<Out>,
+    },
 }
 
 enum Call {
@@ -96,18 +107,63 @@ impl Scene {
     /// Plays all steps; gives the number of each, or says what differs.
     pub fn play(&self) -> Result<Vec<u64>, String> {
         let mut seats: Vec<Seat> = self.seats.iter().map(Seat::new).collect();
+        // Nothing at all is lent to a seat that the scene has not.
+        while seats.len() < SEATS {
+            seats.push(Seat::new(&Lengths::NONE));
+        }
         let mut numbers = Vec::new();
         for (position, step) in self.steps.iter().enumerate() {
-            let at = |what: String| format!("step {position}: {what}");
-            let seat = seats.get_mut(step.seat).ok_or(at("no seat".to_string()))?;
-            seat.play(self, step).map_err(at)?;
-            numbers.push(step.out.said.number);
+            let played = match step {
+                Step::At { seat, call, out } => match seats.get_mut(*seat) {
+                    Some(seat) => seat.play(self, call, out).map(|number| vec![number]),
+                    None => Err("no seat".to_string()),
+                },
+                Step::Round {
+                    quotas,
+                    number,
+                    outs,
+                } => self.round(&mut seats, quotas, *number, outs),
+            };
+            numbers.extend(played.map_err(|what| format!("step {position}: {what}"))?);
         }
         Ok(numbers)
+    }
+
+    /// Makes a round; gives its number, or those of the seats that it visited.
+    fn round(
+        &self,
+        seats: &mut [Seat],
+        quotas: &[u64],
+        number: u64,
+        outs: &[Out],
+    ) -> Result<Vec<u64>, String> {
+        let [first, second, third, fourth] = seats else {
+            return Err(format!("{} seats", seats.len()));
+        };
+        let before = [&mut *first, second, third, fourth].map(|seat| seat.held());
+        let lent = [&mut *first, second, third, fourth].map(Seat::lent);
+        let round = calls::round(&self.data, quotas, lent);
+        if round.number != number || outs.len() != SEATS {
+            return Err(format!("number {}, should be {number}", round.number));
+        }
+        let mut numbers = Vec::new();
+        for (at, (seat, out)) in seats.iter_mut().zip(outs).enumerate() {
+            let visited = number == 0 && at < quotas.len();
+            seat.compare(self, round.seats[at], out, &before[at], !visited)
+                .map_err(|what| format!("seat {at}: {what}"))?;
+            numbers.extend(visited.then_some(out.said.number));
+        }
+        Ok(if number == 0 { numbers } else { vec![number] })
     }
 }
 
 impl Lengths {
+    const NONE: Lengths = Lengths {
+        scratch: 0,
+        zero: true,
+        answer: 0,
+    };
+
     fn of_object(seat: &Json) -> Option<Lengths> {
         Some(Lengths {
             scratch: words_of(seat.get("scratch")?)?,
@@ -119,6 +175,7 @@ impl Lengths {
 
 impl Step {
     fn of_object(step: &Json) -> Option<Step> {
+        let out = step.get("out")?;
         let question = || step.get("question")?.bytes();
         let call = match step.get("call")?.text()? {
             "begin" => Call::Begin(question()?),
@@ -131,12 +188,19 @@ impl Step {
                 };
                 Call::Portion(step.get("rows")?.unsigned()?, lent)
             }
+            "round" => {
+                return Some(Step::Round {
+                    quotas: step.get("quotas")?.each(Json::unsigned)?,
+                    number: out.get("number")?.unsigned()?,
+                    outs: out.get("seats")?.each(Out::of_object)?,
+                })
+            }
             _ => return None,
         };
-        Some(Step {
+        Some(Step::At {
             seat: size_of(step.get("seat")?)?,
             call,
-            out: Out::of_object(step.get("out")?)?,
+            out: Out::of_object(out)?,
         })
     }
 }
@@ -151,10 +215,11 @@ impl Out {
                 number: unsigned("number")?,
                 length: unsigned("length")?,
             },
-            scratch: match out.get("scratch")?.text()? {
-                "zero" => Scratch::Zero,
-                "unfinished" => Scratch::Unfinished,
-                "short" | "other" => Scratch::Same,
+            scratch: match out.get("scratch").map(Json::text) {
+                Some(Some("zero")) => Scratch::Zero,
+                Some(Some("unfinished")) => Scratch::Unfinished,
+                // None is told of a seat that the scene has not.
+                Some(Some("short" | "other")) | None => Scratch::Same,
                 _ => return None,
             },
             words: out.get("words").and_then(Json::words),
@@ -174,10 +239,35 @@ impl Seat {
         Seat { scratch, answer }
     }
 
-    fn play(&mut self, scene: &Scene, step: &Step) -> Result<(), String> {
-        let before = (self.scratch.again().to_vec(), self.answer.again().to_vec());
-        let said = self.said(&scene.data, &step.call);
-        let wanted = &step.out;
+    fn lent(&mut self) -> LentSeat<'_> {
+        LentSeat {
+            scratch: self.scratch.again(),
+            answer: self.answer.again(),
+        }
+    }
+
+    /// What stands in scratch and answer.
+    fn held(&mut self) -> (Vec<u64>, Vec<i64>) {
+        (self.scratch.again().to_vec(), self.answer.again().to_vec())
+    }
+
+    /// Makes a call at this seat alone; gives its number.
+    fn play(&mut self, scene: &Scene, call: &Call, out: &Out) -> Result<u64, String> {
+        let before = self.held();
+        let said = self.said(&scene.data, call);
+        self.compare(scene, said, out, &before, false)?;
+        Ok(said.number)
+    }
+
+    /// What was said of this seat and left there; `idle` where nothing is said of it.
+    fn compare(
+        &mut self,
+        scene: &Scene,
+        said: Portioned,
+        wanted: &Out,
+        before: &(Vec<u64>, Vec<i64>),
+        idle: bool,
+    ) -> Result<(), String> {
         if said != wanted.said {
             return Err(format!("{said:?}, should be {:?}", wanted.said));
         }
@@ -194,11 +284,11 @@ impl Seat {
         if let Some(what) = answer {
             return Err(format!("answer word {what}"));
         }
-        let unchanged = *self.scratch.again() == before.0 && *self.answer.again() == before.1;
-        match said.number {
-            31 | 47 | 48 if !unchanged => Err(format!("{} has changed something", said.number)),
-            _ => Ok(()),
+        let unchanged = idle || [31, 47, 48].contains(&said.number);
+        if unchanged && self.held() != *before {
+            return Err(format!("{} has changed something", said.number));
         }
+        Ok(())
     }
 
     /// Makes the call; one that is no portion is taken for one that offers nothing.
