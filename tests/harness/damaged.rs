@@ -11,8 +11,8 @@ use super::generate::{generate, questions, Input};
 use super::lent::{Lent, SCRATCH};
 use super::offers::most_offers;
 use super::open::{MOST_ROWS, PLAN, PORTIONS};
-use super::portioned::{MOST_OFFERS, UNFINISHED};
 use super::random::Random;
+use super::seat::{MOST_OFFERS, UNFINISHED};
 use super::tally::{Place, Tally};
 use super::ways::{agree, Way, OTHER};
 

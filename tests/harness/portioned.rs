@@ -4,27 +4,17 @@
 
 use std::time::Instant;
 
-use evaluator::Unknown;
-
-use super::calls::{self, Outcome, Portioned};
-use super::compare::cleared;
+use super::calls::{self, Portioned};
 use super::generate::{questions, Input};
 use super::held::Held;
 use super::lent::{lengths, SCRATCH};
-use super::offers::most_offers;
-use super::open::{CHECK, LINES, LOOPS, MOST_ROWS, MOST_WORDS, NUMBERS, PLAN, PORTIONS};
+use super::open::{MOST_ROWS, MOST_WORDS, NUMBERS};
 use super::random::Random;
+use super::seat::{known_of, Known, Seat, UNFINISHED};
 use super::tally::{Place, Tally};
-use super::ways::{agree, Way, OTHER};
-
-/// Rows that a question may be offered in a pass.
-pub const MOST_OFFERS: u64 = 100_000;
 
 /// Questions that run at once.
 const SEATS: usize = 3;
-
-/// In the tally: a portion that is unfinished. No refusal has the number.
-pub const UNFINISHED: u64 = 1;
 
 /// How often a question is given up before it may end.
 const GIVEN_UP: usize = 2;
@@ -32,27 +22,6 @@ const GIVEN_UP: usize = 2;
 pub struct Portions {
     seats: Vec<Seat>,
     tally: Tally,
-}
-
-/// What the second evaluator knows of an accepted question.
-#[derive(Clone, Copy)]
-struct Known {
-    /// Rows that a pass offers.
-    pass: u64,
-    /// G.
-    greatest: usize,
-}
-
-/// A question with a scratch and an answer buffer of its own.
-struct Seat {
-    way: Way,
-    /// The single call, and what it gives.
-    alone: Way,
-    outcome: Outcome,
-    known: Known,
-    /// Rows offered so far, once it is begun.
-    offered: Option<u64>,
-    given_up: usize,
 }
 
 impl Held for Portions {
@@ -149,54 +118,7 @@ impl Portions {
     }
 }
 
-/// Nothing but zeros of a refused question.
-fn known_of(input: &Input) -> Result<Known, Unknown> {
-    if most_offers(input) > MOST_OFFERS {
-        return Err(Unknown("too many rows may be offered"));
-    }
-    let answer = evaluator::by_plan(&input.data, &input.question, SCRATCH, u64::MAX)?;
-    Ok(Known {
-        pass: answer.offered,
-        greatest: usize::try_from(answer.greatest).unwrap_or(usize::MAX),
-    })
-}
-
 impl Seat {
-    fn new() -> Seat {
-        Seat {
-            way: Way::new(PORTIONS),
-            alone: Way::new(PLAN),
-            outcome: Outcome {
-                number: 0,
-                length: 0,
-            },
-            known: Known {
-                pass: 0,
-                greatest: 0,
-            },
-            offered: None,
-            given_up: 0,
-        }
-    }
-
-    /// Lends scratch and answer full of rubbish, and answers in a single call.
-    fn sit(&mut self, input: &Input, known: Known, lent: (usize, usize), salt: u64) {
-        self.outcome = self.alone.answers(input, lent, salt);
-        self.known = known;
-        self.offered = None;
-        self.given_up = 0;
-        self.way.scratch.lend(lent.0, salt ^ OTHER);
-        self.way.answer.lend(lent.1, salt ^ OTHER);
-    }
-
-    /// "each once while G is found and, unless 32 follows, once more while the answer is written"
-    fn all_rows(&self) -> u64 {
-        match self.outcome.number {
-            32 => self.known.pass,
-            _ => 2 * self.known.pass,
-        }
-    }
-
     /// The next call at this seat: what it is counted as, and whether the question has ended.
     fn step(&mut self, input: &Input, random: &mut Random) -> Result<(u64, bool), String> {
         let Some(offered) = self.offered else {
@@ -211,25 +133,6 @@ impl Seat {
         self.portion(input, offered, random)
     }
 
-    /// "One call begins, with all refusals to 28", and 31.
-    fn begin(&mut self, input: &Input) -> Result<(u64, bool), String> {
-        let begun = calls::begin(&input.data, &input.question, self.way.scratch.again());
-        let wanted = match self.outcome.number {
-            0 | 32 => 0,
-            number => number,
-        };
-        if begun.number != wanted || begun.length != 0 {
-            return Err(format!("begin gave {begun:?}, should be {wanted}"));
-        }
-        if wanted != 0 {
-            agree([(&self.alone, self.outcome), (&self.way, begun)])?;
-            return Ok((begun.number, true));
-        }
-        self.offered = Some(0);
-        self.stands()?;
-        Ok((begun.number, false))
-    }
-
     fn portion(
         &mut self,
         input: &Input,
@@ -240,28 +143,7 @@ impl Seat {
         let rows = self.rows(due, offered, random);
         let before = self.way.answer.again().to_vec();
         let said = self.offer(input, self.way.scratch.len(), rows);
-        let ends = due <= rows;
-        let Outcome { number, length } = self.outcome;
-        let wanted = Portioned {
-            finished: u64::from(ends),
-            rows: rows.min(due),
-            number: if ends { number } else { 0 },
-            length: if ends { length } else { 0 },
-        };
-        if said != wanted {
-            let behind = format!("{rows} rows behind {offered}");
-            return Err(format!("{behind}: {said:?}, should be {wanted:?}"));
-        }
-        if ends {
-            agree([(&self.alone, self.outcome), (&self.way, said.outcome())])?;
-            return Ok((said.number, true));
-        }
-        self.offered = Some(offered + rows);
-        self.stands()?;
-        if offered + rows < self.known.pass && *self.way.answer.again() != before {
-            return Err(format!("{rows} rows behind {offered}: answer is written"));
-        }
-        Ok((UNFINISHED, false))
+        self.told(rows, said, &before)
     }
 
     /// How many: around what is due in this pass and in all, and not so few that it takes long.
@@ -316,24 +198,10 @@ impl Seat {
         rows: u64,
         number: u64,
     ) -> Result<u64, String> {
-        let before = (
-            self.way.scratch.again().to_vec(),
-            self.way.answer.again().to_vec(),
-        );
+        let before = self.held();
         let said = self.offer(input, scratch, rows);
-        let wanted = Portioned {
-            finished: 0,
-            rows: 0,
-            number,
-            length: 0,
-        };
-        if said != wanted {
-            return Err(format!("{rows} rows: {said:?}, should be {wanted:?}"));
-        }
-        if *self.way.scratch.again() != before.0 || *self.way.answer.again() != before.1 {
-            return Err(format!("{number} has changed something"));
-        }
-        Ok(number)
+        self.unchanged(said, number, &before)
+            .map_err(|what| format!("{rows} rows: {what}"))
     }
 
     /// The question is begun anew over the unfinished one, or another call takes the scratch; then
@@ -347,16 +215,7 @@ impl Seat {
         if random.chance(50) {
             return self.begin(input).map(|(number, _)| number);
         }
-        let Input { data, question, .. } = input;
-        let scratch = self.way.scratch.again();
-        let (mut words, mut bytes) = ([0; 8], [0; 64]);
-        let whole = match random.below(4) {
-            0 => (CHECK.made)(data, question, scratch, &mut []),
-            1 => (LOOPS.made)(data, question, scratch, &mut words),
-            2 => (PLAN.made)(data, question, scratch, &mut words),
-            _ => (LINES.made)(data, question, scratch, &mut bytes),
-        };
-        cleared(&self.way.scratch, whole.number)?;
+        self.lose_scratch(input, random)?;
         self.unchanged_by(input, self.way.scratch.len(), 1, 48)
     }
 
@@ -372,24 +231,5 @@ impl Seat {
     fn offer(&mut self, input: &Input, scratch: usize, rows: u64) -> Portioned {
         let scratch = &mut self.way.scratch.again()[..scratch];
         calls::portion(&input.data, scratch, self.way.answer.again(), rows)
-    }
-
-    /// "Scratch holds the unfinished question", later words stay, and so do those of the answer
-    /// buffer from G on.
-    fn stands(&self) -> Result<(), String> {
-        let Way {
-            scratch, answer, ..
-        } = &self.way;
-        if scratch.front(SCRATCH).iter().all(|word| *word == 0) {
-            return Err("scratch of an unfinished question is 0".to_string());
-        }
-        if let Some(what) = scratch.differs(scratch.front(SCRATCH), 0) {
-            return Err(format!("unfinished, and scratch word {what}"));
-        }
-        let written = self.known.greatest.min(answer.len());
-        match answer.differs(answer.front(written), 0) {
-            Some(what) => Err(format!("unfinished, and answer word {what}")),
-            None => Ok(()),
-        }
     }
 }
