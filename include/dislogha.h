@@ -31,6 +31,13 @@ struct dislogha_portioned {
     std::uint64_t length;
 };
 
+// What a round says: 0 or 49, and what the portion of each seat said, in their order; zeros of a
+// seat that was not visited.
+struct dislogha_round_result {
+    std::uint64_t number;
+    dislogha_portioned seats[4];
+};
+
 // A slice is a pointer and a count of its elements; an empty one may have any pointer.
 dislogha_result dislogha_check(const std::uint8_t *data, std::size_t data_bytes,
                                const std::uint8_t *question, std::size_t question_bytes,
@@ -59,16 +66,30 @@ dislogha_portioned dislogha_portion(const std::uint8_t *data, std::size_t data_b
                                     std::uint64_t *scratch, std::size_t scratch_words,
                                     std::int64_t *answer, std::size_t answer_words,
                                     std::uint64_t rows) noexcept;
+
+// There are as many seats as quotas; what is lent for later ones is not looked at.
+dislogha_round_result
+dislogha_round(const std::uint8_t *data, std::size_t data_bytes, const std::uint64_t *quotas,
+               std::size_t seats, std::uint64_t *scratch1, std::size_t scratch1_words,
+               std::int64_t *answer1, std::size_t answer1_words, std::uint64_t *scratch2,
+               std::size_t scratch2_words, std::int64_t *answer2, std::size_t answer2_words,
+               std::uint64_t *scratch3, std::size_t scratch3_words, std::int64_t *answer3,
+               std::size_t answer3_words, std::uint64_t *scratch4, std::size_t scratch4_words,
+               std::int64_t *answer4, std::size_t answer4_words) noexcept;
 }
 
 namespace dislogha {
 
 // Words of scratch that a call asks for. They are 0 after every call that has them, save while a
-// question is unfinished (`begin`, `portion`).
+// question is unfinished (`begin`, `portion`, `round`).
 constexpr std::size_t scratch_words = 8192;
 
 // Rows that a portion may offer.
 constexpr std::uint64_t most_rows = 65535;
+
+// Seats of a rota, and rows that a seat may be offered in a round.
+constexpr std::size_t most_seats = 4;
+constexpr std::uint64_t most_quota = 1000;
 
 enum class Outcome : std::uint8_t {
     // The call's number is 0.
@@ -121,6 +142,8 @@ enum class Refusal : std::uint64_t {
     rows_out_of_range = 47,
     // A portion where no question is unfinished (scratch 0). Nothing is changed.
     nothing_unfinished = 48,
+    // A rota of no seat or above four, or a quota of 0 or above 1,000. Nothing is changed.
+    rota_out_of_range = 49,
 };
 
 struct Result {
@@ -166,6 +189,33 @@ using Bytes = Span<const std::uint8_t>;
 using Words = Span<std::uint64_t>;
 using Answer = Span<std::int64_t>;
 using Text = Span<std::uint8_t>;
+using Quotas = Span<const std::uint64_t>;
+
+// What a round is lent for a seat.
+struct Seat {
+    Words scratch;
+    Answer answer;
+};
+
+struct Round {
+    // `answered` where the seats were visited, whatever their portions said.
+    Outcome outcome;
+    // 49, where the round refused; else 0, which is no refusal.
+    Refusal refusal;
+    // How many seats were visited: those of the rota, or none.
+    std::size_t visited;
+    // What the portion of each said. Nothing is told of those that were not visited.
+    Portion seats[most_seats];
+
+    // Whether a seat that was visited is due another portion.
+    constexpr bool unfinished() const noexcept {
+        bool due = false;
+        for (std::size_t i = 0; i < visited; i++) {
+            due = due || seats[i].unfinished();
+        }
+        return due;
+    }
+};
 
 // Whether two spans share a byte. An empty one shares none.
 template <class A, class B> bool overlap(Span<A> a, Span<B> b) noexcept {
@@ -187,6 +237,11 @@ inline constexpr Result overlapping{Outcome::overlapping, Refusal{}, 0};
 inline Result result_of(dislogha_result result) noexcept {
     return {result.number == 0 ? Outcome::answered : Outcome::refused,
             static_cast<Refusal>(result.number), result.length};
+}
+
+inline Portion portion_of(dislogha_portioned said) noexcept {
+    const Result result = result_of({said.number, said.length});
+    return {result.outcome, result.refusal, result.length, said.finished != 0, said.rows};
 }
 
 // A call that writes scratch alone.
@@ -262,11 +317,70 @@ inline Portion portion(Bytes data, Words scratch, Answer answer, std::uint64_t r
     if (overlaps(scratch, data, answer) || overlaps(answer, data)) {
         return {Outcome::overlapping, Refusal{}, 0, false, 0};
     }
-    const dislogha_portioned said =
-        dislogha_portion(data.first(), data.count(), scratch.first(), scratch.count(),
-                         answer.first(), answer.count(), rows);
-    const Result result = result_of({said.number, said.length});
-    return {result.outcome, result.refusal, result.length, said.finished != 0, said.rows};
+    return portion_of(dislogha_portion(data.first(), data.count(), scratch.first(), scratch.count(),
+                                       answer.first(), answer.count(), rows));
+}
+
+// Whether what is written at a seat overlaps one of the others.
+template <class... Others> bool overlaps(const Seat &seat, Span<Others>... others) noexcept {
+    return overlaps(seat.scratch, others...) || overlaps(seat.answer, others...);
+}
+
+// A round over a rota of 1 to 4 seats, as many as there are quotas, each of 1 to 1,000 rows. It
+// visits the seats in their order and offers each its quota, as `portion` does with its scratch and
+// answer; what is typed at the others does not matter. 31 (also where nothing is lent) and 48 are
+// told of one seat alone, which stays unchanged, and so do seats behind the rota.
+//
+// A question that is offered n rows ends in n divided by its quota, rounded up, rounds, and in one
+// where it has none. So four trainees share an engine:
+//
+//     static std::uint64_t scratch[4][dislogha::scratch_words]; // 0: no question is unfinished
+//     static std::int64_t answer[4][64];
+//     const dislogha::Seat seats[] = {
+//         {scratch[0], answer[0]}, {scratch[1], answer[1]},
+//         {scratch[2], answer[2]}, {scratch[3], answer[3]}};
+//     const std::uint64_t quotas[] = {100, 100, 100, 1000};
+//     while (open()) {
+//         for (std::size_t i = 0; i < 4; i++) {
+//             if (typed_at(i)) {
+//                 show(i, dislogha::begin(data, question_of(i), scratch[i]));
+//             }
+//         }
+//         const auto round = dislogha::round(data, quotas, seats);
+//         for (std::size_t i = 0; i < round.visited; i++) {
+//             if (round.seats[i].finished) {
+//                 show(i, round.seats[i], answer[i]);
+//             }
+//         }
+//     }
+inline Round round(Bytes data, Quotas quotas, Span<const Seat> seats) noexcept {
+    Seat lent[most_seats];
+    Round told{Outcome::overlapping, Refusal{}, 0, {}};
+    for (std::size_t i = 0; i < most_seats && i < seats.count(); i++) {
+        lent[i] = seats.first()[i];
+        bool shared = overlap(lent[i].scratch, lent[i].answer) || overlaps(lent[i], data, quotas);
+        for (std::size_t j = 0; j < i; j++) {
+            shared = shared || overlaps(lent[i], lent[j].scratch, lent[j].answer);
+        }
+        if (shared) {
+            return told;
+        }
+    }
+    const dislogha_round_result said = dislogha_round(
+        data.first(), data.count(), quotas.first(), quotas.count(), lent[0].scratch.first(),
+        lent[0].scratch.count(), lent[0].answer.first(), lent[0].answer.count(),
+        lent[1].scratch.first(), lent[1].scratch.count(), lent[1].answer.first(),
+        lent[1].answer.count(), lent[2].scratch.first(), lent[2].scratch.count(),
+        lent[2].answer.first(), lent[2].answer.count(), lent[3].scratch.first(),
+        lent[3].scratch.count(), lent[3].answer.first(), lent[3].answer.count());
+    const Result result = result_of({said.number, 0});
+    told.outcome = result.outcome;
+    told.refusal = result.refusal;
+    told.visited = said.number == 0 ? quotas.count() : 0;
+    for (std::size_t i = 0; i < told.visited; i++) {
+        told.seats[i] = portion_of(said.seats[i]);
+    }
+    return told;
 }
 
 } // namespace dislogha

@@ -50,6 +50,8 @@ const char *words_of(dislogha::Refusal refusal) noexcept {
         return "rows out of range";
     case Refusal::nothing_unfinished:
         return "nothing to go on";
+    case Refusal::rota_out_of_range:
+        return "rota out of range";
     }
     return "unknown refusal";
 }

@@ -21,6 +21,8 @@ using dislogha::Outcome;
 using dislogha::Portion;
 using dislogha::Refusal;
 using dislogha::Result;
+using dislogha::Round;
+using dislogha::Seat;
 using dislogha::Words;
 
 const std::vector<std::uint8_t> tables(std::begin(listing::tables), std::end(listing::tables));
@@ -148,6 +150,165 @@ void portion_listing() {
     expect(refuses(none, Refusal::type_does_not_fit), "a beginning is refused as a check is");
 }
 
+// A seat of a rota, with blocks of its own.
+struct Desk {
+    std::vector<std::uint64_t> scratch;
+    std::vector<std::int64_t> answer;
+
+    Desk(std::size_t scratch_words, std::size_t answer_words)
+        : scratch(scratch_words), answer(answer_words, -7) {}
+
+    Seat seat() { return {words(scratch), Answer(answer.data(), answer.size())}; }
+
+    bool operator==(const Desk &other) const {
+        return scratch == other.scratch && answer == other.answer;
+    }
+};
+
+using Desks = std::vector<Desk>;
+
+Round round_over(Desks &desks, const std::vector<std::uint64_t> &quotas) {
+    std::vector<Seat> seats;
+    for (Desk &desk : desks) {
+        seats.push_back(desk.seat());
+    }
+    return dislogha::round(bytes(tables), {quotas.data(), quotas.size()},
+                           {seats.data(), seats.size()});
+}
+
+bool visits(const Round &round, std::size_t seats) {
+    return round.outcome == Outcome::answered && round.refusal == Refusal{} &&
+           round.visited == seats;
+}
+
+void begin_at(Desk &desk) {
+    const auto begun = dislogha::begin(bytes(tables), bytes(question), words(desk.scratch));
+    expect(answers(begun, 0), "the listing is begun at a seat");
+}
+
+// Twelve rows at one seat, in three rounds of five; at the others 31, 48, and 32 behind six rows.
+void round_listing() {
+    const std::vector<std::int64_t> five{2, 1, 110, 2, 0, -7};
+    const std::vector<std::uint64_t> quotas{5, 1000, 1000, 4};
+    Desks desks{{dislogha::scratch_words, 6},
+                {dislogha::scratch_words - 1, 6},
+                {dislogha::scratch_words, 6},
+                {dislogha::scratch_words, 2}};
+    begin_at(desks[0]);
+    begin_at(desks[3]);
+    const Desks begun = desks;
+    const auto told_alike = [&](const Round &round) {
+        expect(visits(round, 4), "four seats are visited");
+        expect(refuses(round.seats[1], Refusal::scratch_too_short), "31 at the second seat alone");
+        expect(refuses(round.seats[2], Refusal::nothing_unfinished), "48 at the third seat alone");
+        expect(desks[1] == begun[1] && desks[2] == begun[2], "both stay unchanged");
+    };
+    const Round first = round_over(desks, quotas);
+    told_alike(first);
+    expect(first.unfinished(), "another round is due");
+    expect(unfinished(first.seats[0], 5) && unfinished(first.seats[3], 4), "each has its quota");
+    const Round second = round_over(desks, quotas);
+    told_alike(second);
+    expect(unfinished(second.seats[0], 5), "another five rows");
+    expect(finished(second.seats[3], {Outcome::refused, Refusal::answer_too_short, 0}, 2),
+           "two words are too few, after one pass");
+    const Round third = round_over(desks, quotas);
+    told_alike(third);
+    expect(finished(third.seats[0], {Outcome::answered, Refusal{}, 5}, 2), "the last two rows");
+    expect(refuses(third.seats[3], Refusal::nothing_unfinished), "48 once it has ended");
+    expect(!third.unfinished(), "no other round is due");
+    expect(desks[0].answer == five && cleared(desks[0].scratch), "the words of a single call");
+    expect(cleared(desks[3].scratch) && desks[3].answer == begun[3].answer, "32 writes no word");
+}
+
+// Seats that the rota has not, and rotas that there are not.
+void check_rota() {
+    Desks desks(4, {dislogha::scratch_words, 6});
+    for (Desk &desk : desks) {
+        begin_at(desk);
+    }
+    const Desks begun = desks;
+    const auto refused = [&](const std::vector<std::uint64_t> &quotas, const char *what) {
+        const Round round = round_over(desks, quotas);
+        expect(round.outcome == Outcome::refused && round.refusal == Refusal::rota_out_of_range &&
+                   round.visited == 0 && !round.unfinished() && desks == begun,
+               what);
+    };
+    refused({}, "a rota of no seat");
+    refused({1, 1, 1, 1, 1}, "a rota of five seats");
+    refused({1, 1, 1, 0}, "a quota of 0");
+    refused({1, dislogha::most_quota + 1}, "a quota of 1,001");
+    refused({(std::uint64_t{1} << 32) + 1}, "a quota that is short in 32 bits");
+
+    const Round one = round_over(desks, {12});
+    expect(visits(one, 1) && finished(one.seats[0], {Outcome::answered, Refusal{}, 5}, 12),
+           "a rota of one seat");
+    expect(desks[1] == begun[1] && desks[2] == begun[2] && desks[3] == begun[3],
+           "seats behind the rota stay as they are");
+    // Nothing is lent for the second of two seats.
+    desks.erase(desks.begin());
+    desks.resize(1, desks[0]);
+    const Round two = round_over(desks, {dislogha::most_quota, 1});
+    expect(visits(two, 2) && finished(two.seats[0], {Outcome::answered, Refusal{}, 5}, 12) &&
+               refuses(two.seats[1], Refusal::scratch_too_short),
+           "a seat for which nothing is lent");
+}
+
+// What is written at one seat may share no word with anything else that is lent, also behind the
+// rota.
+void check_seats_apart() {
+    Desks desks(4, {dislogha::scratch_words, 6});
+    for (Desk &desk : desks) {
+        begin_at(desk);
+    }
+    const Desks begun = desks;
+    std::uint64_t quotas[] = {1, 1};
+    const auto lent = [&] {
+        return std::vector<Seat>{desks[0].seat(), desks[1].seat(), desks[2].seat(),
+                                 desks[3].seat()};
+    };
+    const auto not_made = [&](Bytes data, dislogha::Quotas rota, const std::vector<Seat> &seats,
+                              const char *what) {
+        const Round round = dislogha::round(data, rota, {seats.data(), seats.size()});
+        expect(round.outcome == Outcome::overlapping && round.refusal == Refusal{} &&
+                   round.visited == 0 && !round.unfinished() && desks == begun,
+               what);
+    };
+    const auto last_word = [](Desk &desk) { return &desk.scratch.back(); };
+    const auto last_answer = [](Desk &desk) { return &desk.answer.back(); };
+    const auto signed_word = [](std::uint64_t *word) {
+        return reinterpret_cast<std::int64_t *>(word);
+    };
+    const auto last_byte = [](auto *word) { return reinterpret_cast<std::uint8_t *>(word) + 7; };
+    const auto unsigned_word = [](std::int64_t *word) {
+        return reinterpret_cast<std::uint64_t *>(word);
+    };
+    for (std::size_t i = 0; i < 4; i++) {
+        not_made(Bytes(last_byte(last_word(desks[i])), 1), quotas, lent(), "data inside a scratch");
+        not_made(Bytes(last_byte(last_answer(desks[i])), 1), quotas, lent(),
+                 "data inside an answer");
+        not_made(bytes(tables), {last_word(desks[i]), 1}, lent(), "quotas inside a scratch");
+        not_made(bytes(tables), {unsigned_word(last_answer(desks[i])), 1}, lent(),
+                 "quotas inside an answer");
+        for (std::size_t j = 0; j < 4; j++) {
+            auto seats = lent();
+            seats[i].answer = Answer(signed_word(last_word(desks[j])), 1);
+            not_made(bytes(tables), quotas, seats, "an answer inside a scratch");
+            if (i != j) {
+                seats = lent();
+                seats[i].answer = Answer(last_answer(desks[j]), 1);
+                not_made(bytes(tables), quotas, seats, "two seats with one answer");
+                seats = lent();
+                seats[i].scratch = Words(last_word(desks[j]), 1);
+                not_made(bytes(tables), quotas, seats, "two seats with one scratch");
+            }
+        }
+    }
+    const auto seats = lent();
+    expect(visits(dislogha::round(bytes(tables), quotas, {seats.data(), seats.size()}), 2),
+           "seats that are apart are visited");
+}
+
 void print_listing() {
     const std::string plan = "one\n"
                              "join 0 true\n"
@@ -228,6 +389,9 @@ int main() {
         answer_side_by_side(answer_by);
     }
     portion_listing();
+    round_listing();
+    check_rota();
+    check_seats_apart();
     print_listing();
     check_scratch();
     check_overlap();
