@@ -1,5 +1,5 @@
-//! All open calls against the second evaluator, both ways of answering against each other, and portions
-//! against the single call, with one seed after another until the time is over. Arguments: minutes, first seed.
+//! All open calls against the second evaluator, both ways of answering against each other, portions and
+//! rounds against the single call, with one seed after another until the time is over. Arguments: minutes, first seed.
 
 use std::process::ExitCode;
 use std::sync::atomic::{AtomicU64, Ordering};
@@ -11,6 +11,7 @@ use harness::compare::Comparison;
 use harness::held::{inputs_of, Held};
 use harness::open::{CHECK, LINES, LOOPS, PLAN};
 use harness::portioned::Portions;
+use harness::rota::Rounds;
 use harness::tally::{exit_code, Tally};
 use harness::ways::Ways;
 
@@ -50,14 +51,15 @@ fn merged(mut totals: Vec<Tally>, tallies: Vec<Tally>) -> Vec<Tally> {
 fn tallies_until(seeds: &AtomicU64, end: Instant) -> Vec<Tally> {
     let (mut check, mut loops) = (Comparison::new(&CHECK), Comparison::new(&LOOPS));
     let (mut plan, mut lines) = (Comparison::new(&PLAN), Comparison::new(&LINES));
-    let (mut both, mut portions) = (Ways::new(), Portions::new());
-    let mut held: [&mut dyn Held; 6] = [
+    let (mut both, mut portions, mut rounds) = (Ways::new(), Portions::new(), Rounds::new());
+    let mut held: [&mut dyn Held; 7] = [
         &mut check,
         &mut loops,
         &mut plan,
         &mut lines,
         &mut both,
         &mut portions,
+        &mut rounds,
     ];
     while Instant::now() < end {
         inputs_of(seeds.fetch_add(1, Ordering::Relaxed), INPUTS, &mut held);

@@ -19,7 +19,7 @@ const SEATS: usize = 4;
 const MOST_QUOTA: u64 = 1_000;
 
 /// Rounds that a question may take, unless its quota is the most that there is.
-const MOST_ROUNDS: u64 = 12;
+const MOST_ROUNDS: u64 = 24;
 
 /// In the tally, where no refusal has the number: a seat behind the rota, which is told nothing.
 const IDLE: u64 = 2;
@@ -98,7 +98,7 @@ impl Rounds {
     fn play(&mut self, mut game: Game) -> Result<(), String> {
         for desk in &mut self.desks {
             desk.take(&mut game);
-            desk.to_begin = game.random.weighted(&[15, 65, 20]);
+            desk.to_begin = game.random.weighted(&[10, 50, 40]);
             desk.vacate();
         }
         self.draw(&mut game, 1);
@@ -141,7 +141,7 @@ impl Rounds {
         if desk.seat.offered.is_some() {
             return desk.type_over(game);
         }
-        if desk.to_begin == 0 || game.random.chance(40) {
+        if desk.to_begin == 0 || game.random.chance(30) {
             return Ok(None);
         }
         if !desk.fresh {
@@ -246,6 +246,8 @@ impl Desk {
         let few = random.between(1, 7) as u64;
         let some = random.between(1, MOST_QUOTA as usize) as u64;
         let chosen = [
+            1,
+            1,
             1,
             few,
             few,
