@@ -2,7 +2,8 @@
 // each call.
 //
 // A call reads and writes only what it is lent, keeps nothing outside of that, and ends for
-// every input; nothing here allocates or throws. Several calls may run at once, each with a scratch
+// every input (late, perhaps, where an answer buffer was changed between portions); nothing here
+// allocates or throws. Several calls may run at once, each with a scratch
 // and a buffer of its own.
 //
 // What the engine promises holds for buffers that do not overlap. A wrapper tests that first:
