@@ -9,7 +9,8 @@ use lib.ListN.{length, drop, replicate}
 use lib.IntN.{ℤ, pos}
 use Rattle.calculus.specs.Value.{Value, Tables}
 use Rattle.calculus.specs.Monoid.{canonical, raw}
-use Rattle.encoding.specs.Record.{Bytes}
+use Rattle.encoding.specs.Record.{Bytes, got}
+use Rattle.encoding.specs.Reader.{readQuestion}
 use Rattle.normal_form.specs.Form.{asForm, normalValue}
 use Rattle.outcome.specs.Written.{words}
 use Rattle.outcome.specs.Accepted.{Accepted}
@@ -28,7 +29,7 @@ use Rattle.widths.proofs.Laws.{Away, away-notes, away-form}
 use Rattle.widths.proofs.Rooted.{noted-rooted}
 use Rattle.written.specs.Walk.{Finished}
 use Rattle.written.proofs.Answer.{Answered, normal-written, answer-front}
-use Rattle.asked.proofs.Standing.{tables-are, well-formed, form-in-scope, passed}
+use Rattle.asked.proofs.Standing.{tables-are, well-formed, form-in-scope, passed, solid}
 
 -- t has the question's tables and nodes still, as s had them when the question was prepared
 pub record Still (d : Bytes) (a : Accepted) (s t : List ℕ) : Type 0 where
@@ -46,9 +47,9 @@ module _ {d : Bytes} {a : Accepted} {s t u : List ℕ} (P : Prepared d a s) (S :
   all-rooted = subst (λ (T : Tables). Rooted (columns u) T (λ g. false) (asForm (a .form))) (tables-are P)
       (noted-rooted s (asForm (a .form)) N (S .held) (S .nodes) (S .whole) (P .fits) (P .few) (P .held) (form-nodes (passed P)) (form-numbered (passed P)) (form-in-scope P))
 
-  module _ {o₁ o₂ : List ℤ} {n : ℕ} (K : Finished u 0 o₁ o₂ n) (o : List ℤ) (e : o₁ ≡ words (normalValue raw (a .tables) (a .form)) ++ drop (G a) o) where
+  module _ {o₁ o₂ : List ℤ} {n : ℕ} (K : Finished u 0 o₁ o₂ n) (o : List ℤ) (e : o₁ ≡ words (normalValue raw (a .tables) (a .form)) ++ drop (G a) o) (q : Bytes) (r : readQuestion q ≡ got (a .question)) where
     finished : Answered (a .tables) (a .form) (drop (G a) o) o₂ n
-    finished = normal-written K (suc (left 0)) (omega arith) (a .form) (away-form (noted-away N) (suc (left 0)) 0 ∙ S .form) (well-formed P) all-rooted (drop (G a) o) e
+    finished = normal-written K (suc (left 0)) (omega arith) (a .form) (away-form (noted-away N) (suc (left 0)) 0 ∙ S .form) (well-formed P) (solid P q r) all-rooted (drop (G a) o) e
 
     pub settles-finished : (value : Accepted → Value) → normalValue canonical (a .tables) (a .form) ≡ value a → G a ≤ length o → Settles (written value o a) o 0 n o₂
     settles-finished value same l =

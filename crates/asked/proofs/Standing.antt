@@ -1,6 +1,6 @@
 -- What a question that stands prepared in scratch has there: its tables, its normal form, no generator that stands for a row.
 use mathlib.Core.Path.{_≡_, sym, ap, subst, _∙_}
-use mathlib.Core.Bool.{true, false}
+use mathlib.Core.Bool.{true, false, and-eq-true-iff}
 use mathlib.Core.List.{List}
 use Prim.Native.Nat.{ℕ, _+_, _<_}
 use native.Mathlib.Omega.{arith}
@@ -11,7 +11,8 @@ use Rattle.calculus.proofs.WellFormed.{WellFormed}
 use Rattle.encoding.specs.Record.{Bytes, got}
 use Rattle.encoding.specs.Reader.{readQuestion}
 use Rattle.encoding.proofs.Data.{read-well-formed}
-use Rattle.normal_form.specs.Form.{asForm, value, normalValue}
+use Rattle.normal_form.specs.Form.{Form, Forms, row, cell, rec, bin, negate, comp, fnil, fcons, asForm, value, normalValue}
+use Rattle.normal_form.specs.Form as Fo
 use Rattle.normal_form.specs.NoRule.{Ordered}
 use Rattle.normal_form.proofs.Proper.{normal-in-scope}
 use Rattle.outcome.specs.Accepted.{Accepted}
@@ -22,8 +23,31 @@ use Rattle.form.proofs.ReadBack.{read-back}
 use Rattle.prepared.specs.Prepared.{Prepared}
 use Rattle.environment.specs.Env.{envOf, tablesIn, Held}
 use Rattle.environment.proofs.Laws.{tables-in, env-empty}
-use Rattle.counts.specs.Filled.{filled}
+use Rattle.layout.proofs.Values.{SomeF, Solid, SolidF}
+use Rattle.counts.specs.Filled.{filled, someF, filledF}
 use Rattle.counts.proofs.Filled.{read-filled}
+
+-- no record is without fields: as the test says it, and as the layout of values asks for it
+mutual
+  unfolding filled
+
+  filled-solid : (t : Form) → filled t ≡ true → Solid t
+  filled-solid (Fo.num z) e = tt
+  filled-solid (Fo.truth b) e = tt
+  filled-solid (row g) e = tt
+  filled-solid (cell i g) e = tt
+  filled-solid (rec ts) e = let p = and-eq-true-iff (someF ts) (filledF ts) .0 e in (some-solid ts (p .0), fields-solid ts (p .1))
+  filled-solid (bin o t u) e = tt
+  filled-solid (negate t) e = tt
+  filled-solid (comp m q h) e = filled-solid h e
+
+  some-solid : (ts : Forms) → someF ts ≡ true → SomeF ts
+  some-solid fnil e = let z : _≡_ {A = ℕ} 0 1 = cc in absurd (omega arith)
+  some-solid (fcons t ts) e = tt
+
+  fields-solid : (ts : Forms) → filledF ts ≡ true → SolidF ts
+  fields-solid fnil e = tt
+  fields-solid (fcons t ts) e = let p = and-eq-true-iff (filled t) (filledF ts) .0 e in (filled-solid t (p .0), fields-solid ts (p .1))
 
 module _ {d : Bytes} {a : Accepted} {s : List ℕ} (P : Prepared d a s) where
   pub tables-are : tablesIn d ≡ a .tables
@@ -61,3 +85,6 @@ module _ {d : Bytes} {a : Accepted} {s : List ℕ} (P : Prepared d a s) where
   -- "5 record (1 to 8 terms)"
   pub no-empty : (l : Bytes) → readQuestion l ≡ got (a .question) → filled (asForm (a .form)) ≡ true
   no-empty l r = ap (λ t. filled (asForm t)) (passed .form-is) ∙ read-filled (kindOf (a .tables)) l r
+
+  pub solid : (l : Bytes) → readQuestion l ≡ got (a .question) → Solid (asForm (a .form))
+  solid l r = filled-solid (asForm (a .form)) (no-empty l r)

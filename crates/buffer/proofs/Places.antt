@@ -15,7 +15,7 @@ use mir.Facts.{toZ-ofZ, sfits-lit}
 use borrow.Author.Tests.{lt-ltb, le-ltb, ltb-true, ltb-false}
 use Rattle.calculus.specs.Lists.{pick}
 use Rattle.signed.proofs.Word.{lt-is, by-test}
-use Rattle.buffer.specs.Reading.{wordAt, natOf, behind, times}
+use Rattle.buffer.specs.Reading.{wordAt, natOf, least, countAt, behind, times}
 
 -- ---- steps
 pub behind-in : (w : List ℤ) (p : ℕ) → p < length w → p + 1 ≡ behind w p
@@ -108,6 +108,18 @@ module _ (z : ℤ) (f : SFits w64 z) where
     pub tally-some : (natAbs (toZ w64 (ofZ w64 z)) ≡ natOf z) × (natAbs (toZ w64 (ofZ w64 z)) < 2 ^ 63)
     tally-some = let n = natural z f (below e) in rw (toZ-ofZ f) (n .0, n .2)
 
+-- ---- the lesser of two numbers
+pub least-first : {m x : ℕ} (n : ℕ) → m ≡ x → m ≤ n → m ≡ least x n
+unfolding least pick
+least-first {m} {x} n e l = rw (le-ltb n x (omega arith)) e
+
+pub least-second : {m x : ℕ} (n : ℕ) → m ≡ x → n < m → n ≡ least x n
+unfolding least pick
+least-second {m} {x} n e l = rw (lt-ltb n x (omega arith)) refl
+
+pub least-none : (m n : ℕ) → n ≤ 0 → 0 ≡ least m n
+least-none m n l = by-test (ltb n m) (λ e. omega (arith, least-second {m = m} n refl (ltb-true n m e))) (λ e. omega (arith, least-first {m = m} n refl (ltb-false n m e), ltb-false n m e))
+
 -- ---- the first word of what stands at a place
 pub starts : (w : List ℤ) (p : ℕ) {z : ℤ} {r : List ℤ} → drop p w ≡ z ∷ r → p < length w
 starts w p e = omega (arith, sym (length-drop p w) ∙ ap length e)
@@ -120,3 +132,9 @@ word-at w p e = ap (λ (n : ℕ). getD w n (pos 0)) (none p) ∙ sym (getD-drop 
 
 pub word-past : (w : List ℤ) (p : ℕ) {z : ℤ} {r : List ℤ} → drop p w ≡ z ∷ r → drop (behind w p) w ≡ r
 word-past w p e = ap (λ (n : ℕ). drop n w) (sym (behind-in w p (starts w p e))) ∙ sym (drop-drop 1 p w) ∙ ap (drop 1) e
+
+-- a count that has so many words behind it is read as it stands
+pub count-at : (w : List ℤ) (p k : ℕ) {r : List ℤ} → drop p w ≡ pos k ∷ r → k ≤ length r → countAt w p ≡ k
+count-at w p k e l =
+    ap (λ (z : ℤ). least (natOf z) (length w - p - 1)) (word-at w p e)
+    ∙ sym (least-first {m = k} (length w - p - 1) refl (omega (arith, sym (length-drop p w) ∙ ap length e)))

@@ -1,10 +1,12 @@
 -- The raw value of a normal form is of the type that the normal form stands for: a row is looked at only where its generator has
--- run, and a generator has as many columns as its table.
+-- run, a generator has as many columns as its table, and no record is without fields.
 use mathlib.Core.Path.{_≡_, refl, sym, subst}
 use mathlib.Core.Bool.{Bool, true, false}
 use mathlib.Core.List.{List, [], _∷_, map}
-use Prim.Native.Nat.{ℕ, zero, suc}
-use lib.Dec.{T, eqb, eqb→eq}
+use Prim.Native.Nat.{ℕ, zero, suc, _≤_}
+use native.Mathlib.Omega.{arith}
+use lib.Dec.{T, ltb, eqb, eqb→eq}
+use borrow.Author.Tests.{ltb-true, ltb-false}
 use lib.IntN.{ℤ, pos}
 use lib.ListN.{length}
 use Rattle.calculus.specs.Lists.{guard, upd}
@@ -14,16 +16,17 @@ use Rattle.calculus.specs.Value.{Value, Values, toList, fromList, junk, asBool,
 use Rattle.calculus.specs.Value as Va
 use Rattle.calculus.specs.Monoid.{start, step, total, finish, foldBy, raw}
 use Rattle.calculus.specs.Meaning.{Env}
-use Rattle.calculus.proofs.Lists.{All, all-bind}
+use Rattle.calculus.proofs.Lists.{All, all-imp, all-bind}
 use Rattle.calculus.proofs.Folds.{raw-of}
-use Rattle.calculus.proofs.WellFormed.{Row, WellFormed, rows-well-formed}
+use Rattle.calculus.proofs.WellFormed.{Row, WellFormed, rows-well-formed, columns-at-least, past-no-rows}
 use Rattle.checks.specs.Types.{Ty, number, record′, coll, cells}
 use Rattle.checks.proofs.Judgement.{result}
 use Rattle.checks.proofs.Refold.{gathered}
 use Rattle.normal_form.specs.Form.{Form, Forms, Clauses, NormalForm, asForm, row, cell, rec, bin, negate, comp, fnil, fcons, done, gen, cond, value, values, loops, normalValue}
 use Rattle.normal_form.specs.Form as Fo
+use Rattle.signed.proofs.Word.{by-test}
 use Rattle.layout.specs.Shape.{typeOf, typesOf}
-use Rattle.layout.specs.Typed.{Of, a-number, a-truth, a-record, a-collection, OfEach, no-field, field, AllOf, no-element, element}
+use Rattle.layout.specs.Typed.{Some, Of, a-number, a-truth, a-record, a-collection, OfEach, no-field, field, AllOf, no-element, element}
 
 -- ---- elements as a list
 pub to-all : {t : Ty} {vs : Values} → AllOf t vs → All (Of t) (toList vs)
@@ -40,8 +43,18 @@ unfolding cells
 row-cells [] = no-field
 row-cells (z ∷ zs) = field (a-number z) (row-cells zs)
 
-pub row-of : {n : ℕ} {v : Value} → Row n v → Of (record′ (cells n)) v
-row-of r = subst (Of (record′ (cells _))) (sym (r .is)) (a-record (subst (λ (m : ℕ). OfEach (cells m) (fromList (map Va.num (r .cells)))) (r .width) (row-cells (r .cells))))
+some-cells : (n : ℕ) → 1 ≤ n → Some (cells n)
+unfolding cells
+some-cells zero l = absurd (omega arith)
+some-cells (suc n) l = tt
+
+row-of : {n : ℕ} {v : Value} → 1 ≤ n → Row n v → Of (record′ (cells n)) v
+row-of {n} l r = subst (Of (record′ (cells n))) (sym (r .is)) (a-record (some-cells n l) (subst (λ (m : ℕ). OfEach (cells m) (fromList (map Va.num (r .cells)))) (r .width) (row-cells (r .cells))))
+
+rows-of : {D : Tables} → WellFormed D → (k : ℕ) → All (Of (record′ (cells (columnsOf D k)))) (rowsOf D k)
+rows-of {D} W k = by-test (ltb k (length D))
+    (λ e. all-imp (Row (columnsOf D k)) (Of (record′ (cells (columnsOf D k)))) (rowsOf D k) (rows-well-formed W k) (λ v r. row-of (columns-at-least W k (ltb-true k (length D) e)) r))
+    (λ e. rw (past-no-rows D k (ltb-false k (length D) e)) tt)
 
 nth-of : (n i : ℕ) (vs : Values) → OfEach (cells n) vs → Of number (nth i vs)
 unfolding cells nth
@@ -67,7 +80,7 @@ stand-next C B ρ g v S h x = go (eqb g x) refl
 
 cell-of : (b : Bool) (n i : ℕ) (v : Value) → StandsFor b n v → Of number (fieldOf i v)
 unfolding fieldOf
-cell-of true n i v (a-record {vs = vs} h) = nth-of n i vs h
+cell-of true n i v (a-record {vs = vs} m h) = nth-of n i vs h
 cell-of false n i v e = subst (λ (w : Value). Of number (fieldOf i w)) (sym e) (a-number (pos 0))
 
 -- which generators have run behind clauses
@@ -97,6 +110,31 @@ abbrev mutual
   RootedC C T B done = Unit {0}
   RootedC C T B (gen g k q) = (C g ≡ columnsOf T k) × RootedC C T (upd g true B) q
   RootedC C T B (cond t q) = RootedC C T B q
+
+-- No record in the head, or in a field of it, is without fields.
+abbrev pub SomeF : Forms → Type 0
+SomeF fnil = ⊥
+SomeF (fcons t ts) = Unit {0}
+
+abbrev mutual
+  pub Solid : Form → Type 0
+  Solid (Fo.num z) = Unit {0}
+  Solid (Fo.truth b) = Unit {0}
+  Solid (row g) = Unit {0}
+  Solid (cell i g) = Unit {0}
+  Solid (rec ts) = SomeF ts × SolidF ts
+  Solid (bin o t u) = Unit {0}
+  Solid (negate t) = Unit {0}
+  Solid (comp m q h) = Solid h
+
+  pub SolidF : Forms → Type 0
+  SolidF fnil = Unit {0}
+  SolidF (fcons t ts) = Solid t × SolidF ts
+
+some-types : (C : ℕ → ℕ) (ts : Forms) → SomeF ts → Some (typesOf C ts)
+unfolding typeOf
+some-types C fnil h = absurd h
+some-types C (fcons t ts) h = tt
 
 -- ---- operators and monoids
 bin-of : (o : Bin) (v w : Value) → Of (result o) (binV o v w)
@@ -130,28 +168,28 @@ module _ {D : Tables} (W : WellFormed D) (C : ℕ → ℕ) where
   loops-of : (P : Value → Type 0) (B : ℕ → Bool) (q : Clauses) (k : Env → List Value) (ρ : Env) → RootedC C D B q → Stand C B ρ → ((σ : Env) → Stand C (ran q B) σ → All P (k σ)) → All P (loops raw D q k ρ)
   unfolding value ran
   loops-of P B done k ρ h S f = f ρ S
-  loops-of P B (gen g t q) k ρ h S f = all-bind (Row (columnsOf D t)) P (λ v. loops raw D q k (upd g v ρ)) (rowsOf D t) (rows-well-formed W t) (λ v r.
-      loops-of P (upd g true B) q k (upd g v ρ) (h .1) (stand-next C B ρ g v S (subst (λ (n : ℕ). Of (record′ (cells n)) v) (sym (h .0)) (row-of r))) f)
+  loops-of P B (gen g t q) k ρ h S f = all-bind (Of (record′ (cells (columnsOf D t)))) P (λ v. loops raw D q k (upd g v ρ)) (rowsOf D t) (rows-of W t) (λ v r.
+      loops-of P (upd g true B) q k (upd g v ρ) (h .1) (stand-next C B ρ g v S (subst (λ (n : ℕ). Of (record′ (cells n)) v) (sym (h .0)) r)) f)
   loops-of P B (cond t q) k ρ h S f = guard-all P (asBool (value raw D t ρ)) (loops raw D q k ρ) (loops-of P B q k ρ h S f)
 
   mutual
     unfolding value typeOf notV
 
-    pub value-of : (B : ℕ → Bool) (t : Form) (ρ : Env) → Rooted C D B t → Stand C B ρ → Of (typeOf C t) (value raw D t ρ)
-    value-of B (Fo.num z) ρ h S = a-number z
-    value-of B (Fo.truth b) ρ h S = a-truth b
-    value-of B (row g) ρ h S = subst (λ b. StandsFor b (C g) (ρ g)) h (S g)
-    value-of B (cell i g) ρ h S = cell-of (B g) (C g) i (ρ g) (S g)
-    value-of B (rec ts) ρ h S = a-record (values-of B ts ρ h S)
-    value-of B (bin o t u) ρ h S = bin-of o (value raw D t ρ) (value raw D u ρ)
-    value-of B (negate t) ρ h S = a-truth _
-    value-of B (comp m q t) ρ h S = fold-of m (typeOf C t) (loops raw D q (λ σ. value raw D t σ ∷ []) ρ) (loops-of (Of (typeOf C t)) B q (λ σ. value raw D t σ ∷ []) ρ (h .0) S (λ σ Z. (value-of (ran q B) t σ (h .1) Z, tt)))
+    pub value-of : (B : ℕ → Bool) (t : Form) (ρ : Env) → Solid t → Rooted C D B t → Stand C B ρ → Of (typeOf C t) (value raw D t ρ)
+    value-of B (Fo.num z) ρ n h S = a-number z
+    value-of B (Fo.truth b) ρ n h S = a-truth b
+    value-of B (row g) ρ n h S = subst (λ b. StandsFor b (C g) (ρ g)) h (S g)
+    value-of B (cell i g) ρ n h S = cell-of (B g) (C g) i (ρ g) (S g)
+    value-of B (rec ts) ρ n h S = a-record (some-types C ts (n .0)) (values-of B ts ρ (n .1) h S)
+    value-of B (bin o t u) ρ n h S = bin-of o (value raw D t ρ) (value raw D u ρ)
+    value-of B (negate t) ρ n h S = a-truth _
+    value-of B (comp m q t) ρ n h S = fold-of m (typeOf C t) (loops raw D q (λ σ. value raw D t σ ∷ []) ρ) (loops-of (Of (typeOf C t)) B q (λ σ. value raw D t σ ∷ []) ρ (h .0) S (λ σ Z. (value-of (ran q B) t σ n (h .1) Z, tt)))
 
-    values-of : (B : ℕ → Bool) (ts : Forms) (ρ : Env) → RootedF C D B ts → Stand C B ρ → OfEach (typesOf C ts) (values raw D ts ρ)
-    values-of B fnil ρ h S = no-field
-    values-of B (fcons t ts) ρ h S = field (value-of B t ρ (h .0) S) (values-of B ts ρ (h .1) S)
+    values-of : (B : ℕ → Bool) (ts : Forms) (ρ : Env) → SolidF ts → RootedF C D B ts → Stand C B ρ → OfEach (typesOf C ts) (values raw D ts ρ)
+    values-of B fnil ρ n h S = no-field
+    values-of B (fcons t ts) ρ n h S = field (value-of B t ρ (n .0) (h .0) S) (values-of B ts ρ (n .1) (h .1) S)
 
   -- The raw value of a question's normal form.
-  pub normal-of : (t : NormalForm) → Rooted C D (λ g. false) (asForm t) → Of (typeOf C (asForm t)) (normalValue raw D t)
+  pub normal-of : (t : NormalForm) → Solid (asForm t) → Rooted C D (λ g. false) (asForm t) → Of (typeOf C (asForm t)) (normalValue raw D t)
   unfolding normalValue
-  normal-of t h = value-of (λ g. false) (asForm t) (λ g. junk) h (λ g. refl)
+  normal-of t n h = value-of (λ g. false) (asForm t) (λ g. junk) n h (λ g. refl)

@@ -1,4 +1,5 @@
--- The values of a type.
+-- The values of a type. No record is without fields ("5 record (1 to 8 terms)", and a table has 1 to 8 columns): so every value has
+-- at least a word.
 use mathlib.Core.Bool.{Bool}
 use lib.IntN.{ℤ}
 use Rattle.calculus.specs.Syntax.{Collection}
@@ -6,11 +7,16 @@ use Rattle.calculus.specs.Value.{Value, Values, num, truth, rec, coll, vnil, vc
 use Rattle.checks.specs.Types.{Ty, Tys, number, record′, ynil, ycons}
 use Rattle.checks.specs.Types as Ty
 
+-- at least one field
+abbrev pub Some : Tys → Type 0
+Some ynil = ⊥
+Some (ycons t ts) = Unit {0}
+
 mutual
   pub data Of : Ty → Value → Type 0 where
     a-number : (z : ℤ) → Of number (num z)
     a-truth : (b : Bool) → Of Ty.truth (truth b)
-    a-record : {ts : Tys} {vs : Values} → OfEach ts vs → Of (record′ ts) (rec vs)
+    a-record : {ts : Tys} {vs : Values} → Some ts → OfEach ts vs → Of (record′ ts) (rec vs)
     a-collection : (c : Collection) {t : Ty} {vs : Values} → AllOf t vs → Of (Ty.coll c t) (coll vs)
 
   -- field by field

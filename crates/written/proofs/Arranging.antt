@@ -69,7 +69,7 @@ mutual
   pub arrange-of : (t : Ty) (v : Value) → Of t v → Of t (arrangeAs t v)
   arrange-of t v (a-number z) = a-number z
   arrange-of t v (a-truth b) = a-truth b
-  arrange-of t v (a-record {ts = ts} {vs = vs} h) = a-record (arrange-each ts vs h)
+  arrange-of t v (a-record {ts = ts} {vs = vs} n h) = a-record n (arrange-each ts vs h)
   arrange-of t v (a-collection c {t = u} {vs = vs} h) = subst (Of (coll c u)) (sym (arrange-coll c u vs)) (a-collection c (from-all (arranged c (map (arrangeAs u) (toList vs))) (arranged-all (Of u) c (map (arrangeAs u) (toList vs)) (arrange-all u vs h))))
 
   arrange-each : (ts : Tys) (vs : Values) → OfEach ts vs → OfEach ts (refolds ordered ts vs)

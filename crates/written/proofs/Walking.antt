@@ -3,11 +3,11 @@ use mathlib.Core.Path.{_≡_, refl, sym, ap, subst, _∙_}
 use mathlib.Core.List.{List, [], _∷_, _++_, map, append-assoc, append-nil}
 use Prim.Native.Nat.{ℕ, _+_, _-_, _^_, _≤_, _<_}
 use native.Mathlib.Omega.{arith}
-use lib.ListN.{length, getD, replicate, length-append, length-map}
-use lib.Seq.{getD-at}
+use lib.ListN.{length, drop, replicate, length-append, length-map}
+use lib.Seq.{drop-at}
 use lib.IntN.{ℤ, pos}
 use Rattle.calculus.specs.Syntax.{Collection}
-use Rattle.calculus.specs.Value.{Value, Values, count, toList}
+use Rattle.calculus.specs.Value.{Value, Values, count, toList, fromList}
 use Rattle.calculus.specs.Value as Va
 use Rattle.calculus.specs.Monoid.{ordered}
 use Rattle.calculus.proofs.Lists.{All}
@@ -17,7 +17,7 @@ use Rattle.checks.proofs.Refold.{onParts, refold, refolds, arrangeAs, arrange-c
 use Rattle.outcome.specs.Written.{words, wordsL}
 use Rattle.form.specs.Packing.{places, next}
 use Rattle.form.specs.Tree.{left}
-use Rattle.buffer.specs.Reading.{natOf, countAt, behind, times}
+use Rattle.buffer.specs.Reading.{countAt, behind, times}
 use Rattle.buffer.specs.Blocks.{Shifted, Marked, Cleared}
 use Rattle.buffer.proofs.Places.{ahead-in}
 use Rattle.layout.specs.declared.Kind.{Kind}
@@ -29,8 +29,8 @@ use Rattle.layout.specs.Shape.{typeAt, typesAt, collectionOf, Shaped, Laid}
 use Rattle.layout.specs.Typed.{Of, a-record, a-collection, OfEach, no-field, field}
 use Rattle.layout.proofs.Types.{at-laid, by-words, by-fields, by-elements, by-none, by-more}
 use Rattle.layout.proofs.Flat.{flat-words}
-use Rattle.layout.proofs.Stands.{words-cons}
-use Rattle.layout.proofs.Values.{to-all}
+use Rattle.layout.proofs.Stands.{words-cons, count-stands}
+use Rattle.layout.proofs.Values.{to-all, from-all}
 use Rattle.layout.proofs.Elements.{one-of, words-last}
 use Rattle.ordering.specs.declared.Kept.{Kept}
 use Rattle.ordering.specs.Ordering.{Held, Ordered}
@@ -70,7 +70,7 @@ words-by {r = r} {o′ = o′} C t h en D G R v k c ld ls = subst (λ (u : Value
 
 record-by : {ts : Tys} {e r : Ends} {o o′ : List ℤ} → WalksEach ts e o o′ r → WalksAs (record′ ts) e o o′ r
 unfolding words refold onParts
-record-by W D G R v (a-record {vs = vs} h) c ld ls = W D G R vs h c ld ls
+record-by W D G R v (a-record {vs = vs} n h) c ld ls = W D G R vs h c ld ls
 
 module _ {s : List ℕ} {i : ℕ} {e r : Ends} {o o′ : List ℤ} where
   pub walk-words : {n : ℕ} → Shaped s i (Words n) → Carried n e o o′ r → Walked s i e o o′ r
@@ -194,9 +194,14 @@ abbrev OrdersAs : Ty → Collection → ℕ → ℕ → ℕ → List ℤ → Lis
 OrdersAs t c first n end o o′ r = (F R : List ℤ) (l : List Value) → All (Of t) l → length l ≡ n → o ≡ F ++ (wordsOf l ++ R) → length F ≡ first → length F + length (wordsOf l) ≡ end → Held F R (arranged c l) (length (wordsOf l)) o′ (r .count) (r .end)
 
 -- the count that is read is the one that stands there
-count-read : (D G B o : List ℤ) (k n p : ℕ) → n ≡ countAt o p → o ≡ D ++ (G ++ (pos k ∷ B)) → length D + length G ≡ p → k ≡ n
-count-read D G B o k n p en q lp =
-    sym (en ∙ ap (λ (x : List ℤ). natOf (getD x p (pos 0))) (q ∙ sym (append-assoc D G (pos k ∷ B))) ∙ ap natOf (getD-at (D ++ G) (pos k) B (pos 0) p (length-append D G ∙ lp)))
+count-read : (t : Ty) (D G R o : List ℤ) (l : List Value) (k n p : ℕ) → All (Of t) l → length l ≡ k → n ≡ countAt o p → o ≡ D ++ (G ++ (pos k ∷ (wordsOf l ++ R))) → length D + length G ≡ p → length l ≡ n
+count-read t D G R o l k n p h lk en q lp =
+    let c : count (fromList l) ≡ length l = count-from l in
+    let B : List ℤ = pos (count (fromList l)) ∷ (wordsOf l ++ R) in
+    sym (en
+    ∙ count-stands t (fromList l) o p R (from-all l h)
+    (ap (drop p) (q ∙ ap (λ (x : ℕ). D ++ (G ++ (pos x ∷ (wordsOf l ++ R)))) (sym (c ∙ lk)) ∙ sym (append-assoc D G B)) ∙ drop-at (D ++ G) B p (length-append D G ∙ lp))
+    ∙ c)
 
 -- the count m that was mended is n
 mended : (D M G H R o : List ℤ) (m n : ℕ) → o ≡ D ++ (pos m ∷ (M ++ (G ++ (H ++ R)))) → m ≡ n → o ≡ D ++ ((pos n ∷ M) ++ ((G ++ H) ++ R))
@@ -208,7 +213,7 @@ module _ (c : Collection) {t : Ty} {n : ℕ} {e b g r : Ends} {j : Kept} {o o₁
   list-by : (D G R : List ℤ) (l : List Value) (k : ℕ) → length l ≡ k → All (Of t) l → o ≡ D ++ (G ++ (pos k ∷ (wordsOf l ++ R))) → length D ≡ e .dst → length D + length G ≡ e .src →
       (F : List ℤ) → F ≡ D ++ (pos k ∷ []) → (m : List Value) → m ≡ map (arrangeAs t) l → Moved D (pos (length (arranged c m)) ∷ wordsOf (arranged c m)) R o₄ r
   list-by D G R l k lk h q ld ls F eF m em =
-      let cl : length l ≡ n = lk ∙ count-read D G (wordsOf l ++ R) o k n (e .src) en q ls in
+      let cl : length l ≡ n = count-read t D G R o l k n (e .src) h lk en q ls in
       let cm : length m ≡ n = ap length em ∙ length-map l (arrangeAs t) ∙ cl in
       let lF : length F ≡ length D + 1 = ap length eF ∙ length-append D (pos k ∷ []) in
       let X = C .is D G (pos k ∷ []) (wordsOf l ++ R) refl q ld ls in
