@@ -1,5 +1,4 @@
-//! Portions over what was changed in between. Arguments: seed, count of portions, and `answers` where changed seats keep their answer
-//! buffers.
+//! Portions over what was changed in between. Arguments: seed, count of portions.
 
 use std::process::ExitCode;
 use std::sync::atomic::{AtomicU64, Ordering};
@@ -18,10 +17,7 @@ static ROUNDS: AtomicU64 = AtomicU64::new(0);
 fn main() -> ExitCode {
     let [seed, count] = arguments("seed, count of portions", [1, 1_000_000]);
     thread::spawn(watch);
-    let answers = std::env::args()
-        .nth(3)
-        .is_some_and(|word| word == "answers");
-    let mut damage = Damage::new(answers);
+    let mut damage = Damage::new();
     while damage.tally.inputs < count {
         damage.round((seed, ROUNDS.fetch_add(1, Ordering::Relaxed)));
     }

@@ -25,12 +25,13 @@ const TRIED: u64 = 8;
 /// Portions of a round.
 const PORTIONS_MADE: usize = 16;
 
+/// In the tally: an answer in a buffer whose words were changed since its question was begun. No refusal
+/// has the number.
+const OVER_CHANGED: u64 = 2;
+
 pub struct Damage {
     seats: [Seat; 2],
     alone: Way,
-    /// Whether a changed seat keeps its answer buffer. What is then brought to its written form may be any words, and the counts in
-    /// them are taken at their word: it ends, but not always soon (docs/DECISIONS.md). Else it is lent no word from there on.
-    answers: bool,
     /// Its inputs are portions that were made.
     pub tally: Tally,
 }
@@ -42,15 +43,16 @@ struct Seat {
     way: Way,
     /// Words of scratch that are lent.
     scratch: usize,
+    /// Whether words of the answer buffer were changed since the question was begun.
+    answer_changed: bool,
 }
 
 impl Damage {
-    pub fn new(answers: bool) -> Damage {
-        let known = vec![0, UNFINISHED, 31, 32, 47, 48];
+    pub fn new() -> Damage {
+        let known = vec![0, UNFINISHED, OVER_CHANGED, 31, 32, 47, 48];
         Damage {
             seats: [0, 1].map(|index| Seat::new(generate(0, index))),
             alone: Way::new(PLAN),
-            answers,
             tally: Tally::new("damage", known),
         }
     }
@@ -116,20 +118,17 @@ impl Damage {
             13 => {
                 let words = random.one_of(&[0, 1, 2, 5, 30, 200], 0);
                 seat.way.answer.lend(words, random.next());
+                seat.answer_changed = words > 0;
             }
             14 => {
                 let word = any_word(random) as i64;
                 let at = random.below(seat.way.answer.len());
                 if let Some(changed) = seat.way.answer.again().get_mut(at) {
                     *changed = word;
+                    seat.answer_changed = true;
                 }
             }
             _ => seat.scratch = random.between(SCRATCH, seat.way.scratch.len()),
-        }
-        if !self.answers {
-            for seat in &mut self.seats {
-                seat.way.answer.lend(0, random.next());
-            }
         }
     }
 
@@ -156,10 +155,10 @@ impl Damage {
         let before = (seat.words().to_vec(), seat.way.answer.again().to_vec());
         let start = Instant::now();
         let said = seat.portion(scratch, rows, random.chance(50));
-        let counted = if said.is_unfinished() {
-            UNFINISHED
-        } else {
-            said.number
+        let counted = match said.number {
+            _ if said.is_unfinished() => UNFINISHED,
+            0 if seat.answer_changed => OVER_CHANGED,
+            number => number,
         };
         self.tally.called(counted, start.elapsed(), place);
         seat.fences()?;
@@ -222,6 +221,7 @@ impl Seat {
             data: Lent::new(),
             way: Way::new(PORTIONS),
             scratch: SCRATCH,
+            answer_changed: false,
         }
     }
 
@@ -231,6 +231,7 @@ impl Seat {
         self.way.scratch.lend(scratch, random.next());
         self.way.answer.lend(answer, random.next());
         self.scratch = scratch;
+        self.answer_changed = false;
         self.input = input;
         self.lend_data(self.input.data.clone(), random);
         calls::begin(
