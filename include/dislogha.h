@@ -2,9 +2,8 @@
 // each call.
 //
 // A call reads and writes only what it is lent, keeps nothing outside of that, and ends for
-// every input (late, perhaps, where an answer buffer was changed between portions); nothing here
-// allocates or throws. Several calls may run at once, each with a scratch
-// and a buffer of its own.
+// every input (late, perhaps, where a scratch was changed between portions); nothing here
+// allocates or throws. Several calls may run at once, each with a scratch and a buffer of its own.
 //
 // What the engine promises holds for buffers that do not overlap. A wrapper tests that first:
 // where a span that is written shares a byte with another one, it makes no call, changes nothing
