@@ -5,6 +5,6 @@ fn main() {
     let mut scratch = [0u64; 8192];
     let mut words = [0i64; 4096];
     let mut text = [0u8; 118791];
-    let count = printout::printout(&input[..n], &mut scratch, &mut words, &mut text);
+    let count = desk_text::printout(&input[..n], &mut scratch, &mut words, &mut text);
     io::write_all(1, &text[..count]);
 }

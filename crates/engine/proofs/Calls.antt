@@ -6,22 +6,22 @@ use native.Mathlib.Omega.{arith}
 use lib.ListN.{length, getD, drop, replicate, length-drop}
 use lib.Seq.{getD-drop, ext-getD}
 use lib.IntN.{ℤ}
-use Rattle.calculus.specs.Value.{Value}
-use Rattle.encoding.specs.Record.{Bytes, Result, got, andThen}
-use Rattle.outcome.specs.Accepted.{Accepted, examine}
-use Rattle.outcome.specs.Outcome.{Outcome, Answer, scratchWords, cleared, withScratch, written, answered, checked, printed, planLines}
-use Rattle.outcome.proofs.Agreement.{scratch-short, scratch-long}
-use Rattle.prepared.specs.Gives.{Gives, Settles, Spares}
-use Rattle.prepared.specs.Answering.{Asked, numberOf, lengthOf}
-use Rattle.prepared.specs.Answering as An
-use Rattle.prepared.specs.declared.Answer.{Answer as Ended}
-use Rattle.prepared.proofs.Settled.{settles-refused, settles-got}
-use Rattle.lines.specs.Printed.{Prints}
-use Rattle.lines.specs.Printed as Pr
-use Rattle.lines.specs.declared.Printed.{Printed}
-use Rattle.front.specs.Loaded.{Apart}
-use Rattle.front.specs.Prepares.{Accepts, Prepares}
-use Rattle.front.specs.declared.Checked.the-variants as Checked
+use Rattle.spec_calculus.specs.Value.{Value}
+use Rattle.spec_encoding.specs.Record.{Bytes, Result, got, andThen}
+use Rattle.spec_outcome.specs.Accepted.{Accepted, examine}
+use Rattle.spec_outcome.specs.Outcome.{Outcome, Answer, scratchWords, cleared, withScratch, written, answered, checked, printed, planLines}
+use Rattle.spec_outcome.proofs.Agreement.{scratch-short, scratch-long}
+use Rattle.form_prepared.specs.Gives.{Gives, Settles, Spares}
+use Rattle.form_prepared.specs.Answering.{Asked, numberOf, lengthOf}
+use Rattle.form_prepared.specs.Answering as An
+use Rattle.form_prepared.specs.declared.Answer.{Answer as Ended}
+use Rattle.form_prepared.proofs.Settled.{settles-refused, settles-got}
+use Rattle.plan_lines.specs.Printed.{Prints}
+use Rattle.plan_lines.specs.Printed as Pr
+use Rattle.plan_lines.specs.declared.Printed.{Printed}
+use Rattle.front_end.specs.Loaded.{Apart}
+use Rattle.front_end.specs.Prepares.{Accepts, Prepares}
+use Rattle.front_end.specs.declared.Checked.the-variants as Checked
 use Rattle.engine.specs.Replies.{AdmittedBy, Admits, Replies}
 use Rattle.engine.specs.declared.Admitted.{Admitted}
 use Rattle.engine.specs.declared.Admitted.the-variants as Admitted

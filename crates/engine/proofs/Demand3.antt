@@ -9,21 +9,21 @@ use lib.Dec.{leb}
 use lib.ListN.{length, take, drop}
 use lib.Seq.{take-at}
 use lib.IntN.{ℤ}
-use Rattle.calculus.specs.Syntax.{Term}
-use Rattle.calculus.specs.Monoid.{canonical}
-use Rattle.calculus.specs.Meaning.{meaning}
-use Rattle.calculus.proofs.Lists.{All}
-use Rattle.encoding.specs.Record.{Bytes, Result, got, andThen}
-use Rattle.encoding.proofs.Refusals.{Only, only-then, only-require}
-use Rattle.plan.specs.Planner.{planOf}
-use Rattle.plan.specs.Operators.{planValue}
-use Rattle.plan.specs.Lines.{lines}
-use Rattle.plan.proofs.NoQuestion.{questions, reading, planTerms, no-question}
-use Rattle.outcome.specs.Accepted.{Accepted, examine}
-use Rattle.outcome.specs.Outcome.{Answer, G, written, answered, checked, byLoops, byPlan, printed, planLines}
-use Rattle.outcome.proofs.Checks.{passed, got-is, handed, examined}
-use Rattle.outcome.proofs.Agreement.{same-value, wordsOf, demand-3}
-use Rattle.prepared.specs.Gives.{Gives}
+use Rattle.spec_calculus.specs.Syntax.{Term}
+use Rattle.spec_calculus.specs.Monoid.{canonical}
+use Rattle.spec_calculus.specs.Meaning.{meaning}
+use Rattle.spec_calculus.proofs.Lists.{All}
+use Rattle.spec_encoding.specs.Record.{Bytes, Result, got, andThen}
+use Rattle.spec_encoding.proofs.Refusals.{Only, only-then, only-require}
+use Rattle.spec_plan.specs.Planner.{planOf}
+use Rattle.spec_plan.specs.Operators.{planValue}
+use Rattle.spec_plan.specs.Lines.{lines}
+use Rattle.spec_plan.proofs.NoQuestion.{questions, reading, planTerms, no-question}
+use Rattle.spec_outcome.specs.Accepted.{Accepted, examine}
+use Rattle.spec_outcome.specs.Outcome.{Answer, G, written, answered, checked, byLoops, byPlan, printed, planLines}
+use Rattle.spec_outcome.proofs.Checks.{passed, got-is, handed, examined}
+use Rattle.spec_outcome.proofs.Agreement.{same-value, wordsOf, demand-3}
+use Rattle.form_prepared.specs.Gives.{Gives}
 use Rattle.engine.specs.declared.Reply.{Reply}
 use Rattle.engine.proofs.Outcomes.{refusal, answers, checks-only}
 

@@ -7,11 +7,11 @@ use native.Mathlib.Omega.{arith}
 use borrow.Author.Tests.{ltb-true}
 use lib.Dec.{ltb}
 use lib.ListN.{length, drop}
-use Rattle.encoding.specs.Record.{Bytes, Result, refused, got}
-use Rattle.encoding.proofs.Refusals.{Only}
-use Rattle.outcome.specs.Accepted.{Accepted, examine}
-use Rattle.outcome.specs.Outcome.{Outcome, Answer, scratchWords, settled, withScratch}
-use Rattle.outcome.proofs.Checks.{examine-only}
+use Rattle.spec_encoding.specs.Record.{Bytes, Result, refused, got}
+use Rattle.spec_encoding.proofs.Refusals.{Only}
+use Rattle.spec_outcome.specs.Accepted.{Accepted, examine}
+use Rattle.spec_outcome.specs.Outcome.{Outcome, Answer, scratchWords, settled, withScratch}
+use Rattle.spec_outcome.proofs.Checks.{examine-only}
 
 module _ {A : Type 0} (s : List ℕ) (b : List A) where
   -- what 31 gives, or what stands behind it

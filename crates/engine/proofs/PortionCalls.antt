@@ -8,24 +8,24 @@ use borrow.Author.Tests.{eq-eqb, ne-eqb, lt-ltb, le-ltb}
 use lib.Dec.{ltb}
 use lib.ListN.{length, getD}
 use lib.IntN.{ℤ}
-use Rattle.calculus.specs.Lists.{pick}
-use Rattle.signed.proofs.Word.{no}
-use Rattle.encoding.specs.Record.{Bytes, Result, refused, got, andThen}
-use Rattle.encoding.specs.Reader.{readQuestion}
-use Rattle.encoding.proofs.Refusals.{Only}
-use Rattle.calculus.specs.Syntax.{Question}
-use Rattle.calculus.specs.Value.{Tables}
-use Rattle.outcome.specs.Accepted.{Accepted, judge, examine}
-use Rattle.outcome.specs.Outcome.{scratchWords, cleared, checked, written, answered, planned, byPlan}
-use Rattle.outcome.proofs.Checks.{got-is}
-use Rattle.prepared.specs.Gives.{Gives, Settles}
-use Rattle.front.specs.Prepares.{Accepts}
-use Rattle.portions.specs.Run.{begun}
-use Rattle.portions.specs.Standing.{Pending, task, Asks}
-use Rattle.portions.specs.Unfinished.{stageAt, idle, Unfinished, Continues, Finishes, AdvancedBy, Advances}
-use Rattle.portions.specs.Unfinished as Un
-use Rattle.portions.specs.declared.Progress.{Progress}
-use Rattle.portions.specs.declared.Progress.the-variants as Progress
+use Rattle.spec_calculus.specs.Lists.{pick}
+use Rattle.base_signed.proofs.Word.{no}
+use Rattle.spec_encoding.specs.Record.{Bytes, Result, refused, got, andThen}
+use Rattle.spec_encoding.specs.Reader.{readQuestion}
+use Rattle.spec_encoding.proofs.Refusals.{Only}
+use Rattle.spec_calculus.specs.Syntax.{Question}
+use Rattle.spec_calculus.specs.Value.{Tables}
+use Rattle.spec_outcome.specs.Accepted.{Accepted, judge, examine}
+use Rattle.spec_outcome.specs.Outcome.{scratchWords, cleared, checked, written, answered, planned, byPlan}
+use Rattle.spec_outcome.proofs.Checks.{got-is}
+use Rattle.form_prepared.specs.Gives.{Gives, Settles}
+use Rattle.front_end.specs.Prepares.{Accepts}
+use Rattle.exec_portions.specs.Run.{begun}
+use Rattle.exec_portions.specs.Standing.{Pending, task, Asks}
+use Rattle.exec_portions.specs.Unfinished.{stageAt, idle, Unfinished, Continues, Finishes, AdvancedBy, Advances}
+use Rattle.exec_portions.specs.Unfinished as Un
+use Rattle.exec_portions.specs.declared.Progress.{Progress}
+use Rattle.exec_portions.specs.declared.Progress.the-variants as Progress
 use Rattle.engine.specs.Replies.{Admits, Replies}
 use Rattle.engine.specs.Portions.{BeginGives, outside, refusal, Says, PortionGives, EndsWith}
 use Rattle.engine.specs.declared.Admitted.{Admitted}

@@ -9,30 +9,30 @@ use borrow.Author.Tests.{leb-true, leb-false, ltb-true, ltb-false, eqb-true, eqb
 use lib.Dec.{eqb, leb, ltb}
 use lib.ListN.{length, getD, drop, replicate, length-append, length-replicate, getD-replicate, List·getD-append}
 use lib.IntN.{ℤ}
-use Rattle.calculus.specs.Lists.{pick}
-use Rattle.calculus.specs.Value.{Tables}
-use Rattle.calculus.specs.Monoid.{raw}
-use Rattle.calculus.proofs.Lists.{All}
-use Rattle.encoding.specs.Record.{Bytes, Result, refused, got, andThen}
-use Rattle.encoding.specs.Data.{readData}
-use Rattle.plan.specs.Planner.{planOf}
-use Rattle.machine.specs.Machine.{State}
-use Rattle.machine.specs.Offers.{planOffers}
-use Rattle.outcome.specs.Accepted.{Accepted, examine}
-use Rattle.outcome.specs.Outcome.{Outcome, Answer, scratchWords, cleared, settled, G, checked, written, answered, planned, byPlan}
-use Rattle.outcome.proofs.Agreement.{scratch-short, scratch-long}
-use Rattle.outcome.proofs.Checks.{handed}
-use Rattle.encoding.proofs.Refusals.{only-then}
-use Rattle.prepared.specs.Gives.{Spares}
-use Rattle.signed.proofs.Word.{by-test}
-use Rattle.cursors.specs.Cursors.{most}
-use Rattle.portions.specs.Run.{Run, counting, begun, portion, rowsDue}
-use Rattle.portions.specs.Standing.{Pending, task}
-use Rattle.portions.specs.Unfinished.{stageAt, idle, Unfinished}
-use Rattle.portions.proofs.Whole.{portion-due, portion-portion, rows-in-all}
-use Rattle.portions.proofs.Advanced.{long-unfinished, unfinished-stage, unfinished-live, unwritten}
-use Rattle.environment.specs.Env.{tablesIn}
-use Rattle.environment.proofs.Laws.{tables-in}
+use Rattle.spec_calculus.specs.Lists.{pick}
+use Rattle.spec_calculus.specs.Value.{Tables}
+use Rattle.spec_calculus.specs.Monoid.{raw}
+use Rattle.spec_calculus.proofs.Lists.{All}
+use Rattle.spec_encoding.specs.Record.{Bytes, Result, refused, got, andThen}
+use Rattle.spec_encoding.specs.Data.{readData}
+use Rattle.spec_plan.specs.Planner.{planOf}
+use Rattle.exec_machine.specs.Machine.{State}
+use Rattle.exec_machine.specs.Offers.{planOffers}
+use Rattle.spec_outcome.specs.Accepted.{Accepted, examine}
+use Rattle.spec_outcome.specs.Outcome.{Outcome, Answer, scratchWords, cleared, settled, G, checked, written, answered, planned, byPlan}
+use Rattle.spec_outcome.proofs.Agreement.{scratch-short, scratch-long}
+use Rattle.spec_outcome.proofs.Checks.{handed}
+use Rattle.spec_encoding.proofs.Refusals.{only-then}
+use Rattle.form_prepared.specs.Gives.{Spares}
+use Rattle.base_signed.proofs.Word.{by-test}
+use Rattle.exec_state.specs.Cursors.{most}
+use Rattle.exec_portions.specs.Run.{Run, counting, begun, portion, rowsDue}
+use Rattle.exec_portions.specs.Standing.{Pending, task}
+use Rattle.exec_portions.specs.Unfinished.{stageAt, idle, Unfinished}
+use Rattle.exec_portions.proofs.Whole.{portion-due, portion-portion, rows-in-all}
+use Rattle.exec_portions.proofs.Advanced.{long-unfinished, unfinished-stage, unfinished-live, unwritten}
+use Rattle.form_env.specs.Env.{tablesIn}
+use Rattle.form_env.proofs.Laws.{tables-in}
 use Rattle.engine.specs.Portions.{rowsInAll, BeginGives, outside, refusal, Says, Unended, Ended, PortionGives}
 use Rattle.engine.specs.declared.Reply.{Reply}
 use Rattle.engine.specs.declared.Portioned.{Portioned}

@@ -8,13 +8,13 @@ use Prim.Native.Nat.{ℕ, zero, suc, _+_, _-_, _*_, _≤_, _<_}
 use borrow.Author.Tests.{ne-eqb, le-ltb}
 use lib.ListN.{length, getD}
 use lib.IntN.{ℤ}
-use Rattle.calculus.specs.Lists.{pick}
-use Rattle.calculus.proofs.Lists.{All}
-use Rattle.encoding.specs.Record.{Bytes}
-use Rattle.outcome.specs.Outcome.{Outcome}
-use Rattle.cursors.specs.Cursors.{most}
-use Rattle.rota.specs.Rota.{rotaFits}
-use Rattle.rota.proofs.Laws.{quota-within}
+use Rattle.spec_calculus.specs.Lists.{pick}
+use Rattle.spec_calculus.proofs.Lists.{All}
+use Rattle.spec_encoding.specs.Record.{Bytes}
+use Rattle.spec_outcome.specs.Outcome.{Outcome}
+use Rattle.exec_state.specs.Cursors.{most}
+use Rattle.base_rota.specs.Rota.{rotaFits}
+use Rattle.base_rota.proofs.Laws.{quota-within}
 use Rattle.engine.specs.Portions.{outside, BeginGives}
 use Rattle.engine.specs.Rota.{Seat, SeatGives}
 use Rattle.engine.specs.declared.Reply.{Reply}

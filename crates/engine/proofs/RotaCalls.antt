@@ -6,8 +6,8 @@ use Prim.Native.Nat.{ℕ, _+_, _≤_, _<_}
 use native.Mathlib.Omega.{arith}
 use lib.ListN.{length, getD}
 use lib.IntN.{ℤ}
-use Rattle.encoding.specs.Record.{Bytes}
-use Rattle.rota.specs.Rota.{rotaFits}
+use Rattle.spec_encoding.specs.Record.{Bytes}
+use Rattle.base_rota.specs.Rota.{rotaFits}
 use Rattle.engine.specs.Portions.{Says, PortionGives}
 use Rattle.engine.specs.Rota.{Seat, seatOf, Idle, SeatGives, TwoGive, RoundGives}
 use Rattle.engine.specs.declared.Portioned.{Portioned}

@@ -6,15 +6,15 @@ use mathlib.Core.List.{List, []}
 use Prim.Native.Nat.{ℕ, _≤_}
 use lib.ListN.{length, take}
 use lib.IntN.{ℤ}
-use Rattle.calculus.specs.Rearranged.{Alike}
-use Rattle.encoding.specs.Record.{Bytes}
-use Rattle.encoding.specs.Data.{readData}
-use Rattle.outcome.specs.Accepted.{examine}
-use Rattle.outcome.specs.Outcome.{Outcome, checked, byLoops, byPlan, planLines}
-use Rattle.outcome.specs.RowOrder.{Reordered, Rereads, Way, looping, planning, by}
-use Rattle.outcome.proofs.Agreement.{same-outcome, wordsOf}
-use Rattle.outcome.proofs.RowOrder.{any-order, any-order-checked, any-order-lines, any-repeats}
-use Rattle.prepared.specs.Gives.{Gives}
+use Rattle.spec_calculus.specs.Rearranged.{Alike}
+use Rattle.spec_encoding.specs.Record.{Bytes}
+use Rattle.spec_encoding.specs.Data.{readData}
+use Rattle.spec_outcome.specs.Accepted.{examine}
+use Rattle.spec_outcome.specs.Outcome.{Outcome, checked, byLoops, byPlan, planLines}
+use Rattle.spec_outcome.specs.RowOrder.{Reordered, Rereads, Way, looping, planning, by}
+use Rattle.spec_outcome.proofs.Agreement.{same-outcome, wordsOf}
+use Rattle.spec_outcome.proofs.RowOrder.{any-order, any-order-checked, any-order-lines, any-repeats}
+use Rattle.form_prepared.specs.Gives.{Gives}
 use Rattle.engine.specs.declared.Reply.{Reply}
 use Rattle.engine.proofs.Demand3.{SameReply, both-ways}
 

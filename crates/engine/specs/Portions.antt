@@ -6,18 +6,18 @@ use Prim.Native.Nat.{ℕ, _+_, _≤_, _<_}
 use lib.Dec.{eqb, leb, ltb}
 use lib.ListN.{length, getD}
 use lib.IntN.{ℤ}
-use Rattle.calculus.specs.Lists.{pick}
-use Rattle.calculus.specs.Monoid.{raw}
-use Rattle.encoding.specs.Record.{Bytes, got}
-use Rattle.plan.specs.Planner.{planOf}
-use Rattle.machine.specs.Offers.{planOffers}
-use Rattle.outcome.specs.Accepted.{Accepted, examine}
-use Rattle.outcome.specs.Outcome.{scratchWords, G, checked, byPlan}
-use Rattle.prepared.specs.Gives.{Gives, Spares}
-use Rattle.cursors.specs.Cursors.{most}
-use Rattle.portions.specs.Run.{Run, begun, portion, rowsDue}
-use Rattle.portions.specs.Standing.{Pending, task}
-use Rattle.portions.specs.Unfinished.{stageAt, idle, Unfinished}
+use Rattle.spec_calculus.specs.Lists.{pick}
+use Rattle.spec_calculus.specs.Monoid.{raw}
+use Rattle.spec_encoding.specs.Record.{Bytes, got}
+use Rattle.spec_plan.specs.Planner.{planOf}
+use Rattle.exec_machine.specs.Offers.{planOffers}
+use Rattle.spec_outcome.specs.Accepted.{Accepted, examine}
+use Rattle.spec_outcome.specs.Outcome.{scratchWords, G, checked, byPlan}
+use Rattle.form_prepared.specs.Gives.{Gives, Spares}
+use Rattle.exec_state.specs.Cursors.{most}
+use Rattle.exec_portions.specs.Run.{Run, begun, portion, rowsDue}
+use Rattle.exec_portions.specs.Standing.{Pending, task}
+use Rattle.exec_portions.specs.Unfinished.{stageAt, idle, Unfinished}
 use Rattle.engine.specs.Replies.{Replies}
 use Rattle.engine.specs.declared.Reply.{Reply}
 use Rattle.engine.specs.declared.Portioned.{Portioned}

@@ -3,10 +3,10 @@ use mathlib.Core.Path.{_≡_}
 use mathlib.Core.List.{List}
 use Prim.Native.Nat.{ℕ, _≤_, _<_}
 use lib.ListN.{length}
-use Rattle.encoding.specs.Record.{Bytes}
-use Rattle.outcome.specs.Outcome.{scratchWords, cleared}
-use Rattle.front.specs.Prepares.{Prepares}
-use Rattle.front.specs.declared.Checked.the-variants as Checked
+use Rattle.spec_encoding.specs.Record.{Bytes}
+use Rattle.spec_outcome.specs.Outcome.{scratchWords, cleared}
+use Rattle.front_end.specs.Prepares.{Prepares}
+use Rattle.front_end.specs.declared.Checked.the-variants as Checked
 use Rattle.engine.specs.declared.Reply.{Reply}
 use Rattle.engine.specs.declared.Admitted.{Admitted}
 use Rattle.engine.specs.declared.Admitted.the-variants as Admitted

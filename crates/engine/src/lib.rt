@@ -2,16 +2,16 @@
 ghost use mathlib.Core.List.{[]};
 ghost use Prim.Native.Nat.{_≤_, _<_};
 ghost use lib.ListN.{length};
-ghost use Rattle.outcome.specs.Outcome.{byLoops, byPlan, checked, planLines};
-ghost use Rattle.prepared.specs.Gives.{Gives};
+ghost use Rattle.spec_outcome.specs.Outcome.{byLoops, byPlan, checked, planLines};
+ghost use Rattle.form_prepared.specs.Gives.{Gives};
 ghost use Rattle.engine.specs.Replies.{Admits, Replies};
 ghost use Rattle.engine.specs.Portions.{BeginGives, PortionGives, Says, EndsWith};
 ghost use Rattle.engine.specs.Rota.{seatOf, SeatGives, TwoGive, RoundGives};
-use front::Checked;
-use lines::Printed;
-use portions::Progress;
-use prepared::Answer;
-use rota::rota_fits;
+use base_rota::rota_fits;
+use exec_portions::Progress;
+use form_prepared::Answer;
+use front_end::Checked;
+use plan_lines::Printed;
 
 // "An answer is 0 and its length ..; a refusal its number and length 0."
 #[repr(C)]
@@ -34,7 +34,7 @@ pub fn admit(tables: &[u8], question: &[u8], scratch: &mut [u64]) -> Admitted
     if scratch.len() < 8192 {
         return Admitted::Scant;
     }
-    match front::prepare(tables, question, scratch) {
+    match front_end::prepare(tables, question, scratch) {
         Checked::Refused(k) => Admitted::Refused(k),
         Checked::Accepted => Admitted::Accepted,
     }
@@ -45,7 +45,7 @@ pub fn finish(s: &mut [u64], k: u64, n: u64) -> Reply
     requires { ⌜ 8192 ≤ length (now s) ⌝ }
     ensures { λ r. ⌜ Replies (now (s .entry)) (now (s .exit)) k n r ⌝ }
 {
-    scratch::clear(s);
+    base_scratch::clear(s);
     Reply {
         number: k,
         length: n,
@@ -83,7 +83,7 @@ pub extern "C" fn dislogha_answer_by_loops(
             length: 0,
         },
         Admitted::Refused(k) => finish(scratch, k, 0),
-        Admitted::Accepted => match loops::answer(scratch, tables, answer) {
+        Admitted::Accepted => match loop_answer::answer(scratch, tables, answer) {
             Answer::Short => finish(scratch, 32, 0),
             Answer::Length(n) => finish(scratch, 0, n as u64),
         },
@@ -106,7 +106,7 @@ pub extern "C" fn dislogha_answer_by_plan(
             length: 0,
         },
         Admitted::Refused(k) => finish(scratch, k, 0),
-        Admitted::Accepted => match streams::answer(scratch, tables, answer) {
+        Admitted::Accepted => match exec_answer::answer(scratch, tables, answer) {
             Answer::Short => finish(scratch, 32, 0),
             Answer::Length(n) => finish(scratch, 0, n as u64),
         },
@@ -129,7 +129,7 @@ pub extern "C" fn dislogha_plan_lines(
             length: 0,
         },
         Admitted::Refused(k) => finish(scratch, k, 0),
-        Admitted::Accepted => match lines::plan_lines(scratch, text) {
+        Admitted::Accepted => match plan_lines::plan_lines(scratch, text) {
             Printed::Short => finish(scratch, 33, 0),
             Printed::Length(n) => finish(scratch, 0, n as u64),
         },
@@ -158,7 +158,7 @@ pub extern "C" fn dislogha_begin(tables: &[u8], question: &[u8], scratch: &mut [
         },
         Admitted::Refused(k) => finish(scratch, k, 0),
         Admitted::Accepted => {
-            portions::begin(scratch);
+            exec_portions::begin(scratch);
             Reply {
                 number: 0,
                 length: 0,
@@ -210,10 +210,10 @@ pub extern "C" fn dislogha_portion(
     if 65535 < rows {
         return declined(47);
     }
-    if scratch.len() < scratch::WORDS {
+    if scratch.len() < base_scratch::WORDS {
         return declined(31);
     }
-    match portions::advance(scratch, tables, answer, rows as usize) {
+    match exec_portions::advance(scratch, tables, answer, rows as usize) {
         Progress::Nothing => declined(48),
         Progress::Unfinished => Portioned {
             finished: 0,

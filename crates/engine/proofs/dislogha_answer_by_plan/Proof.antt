@@ -1,5 +1,5 @@
 use Rattle.engine.proofs.Calls.{room-refused, asked, room-answered, answer-scant, answer-refused, answer-given}
-use Rattle.outcome.specs.Outcome.{planned, byPlan}
+use Rattle.spec_outcome.specs.Outcome.{planned, byPlan}
 use borrow.Author.Needs.{needs}
 use Rattle.engine.proofs.dislogha_answer_by_plan.Statement.{statement}
 use Rattle.engine.proofs.dislogha_answer_by_plan.Tie as tie

@@ -1,0 +1,95 @@
+// A value, raw in the answer buffer, is brought to its written form in place.
+ghost use Prim.Native.Nat.{_≤_};
+ghost use Rattle.form_words.specs.Packing.{places};
+ghost use Rattle.answer_types.specs.Shape.{Shaped};
+ghost use Rattle.answer_canonical.specs.Walk.{Carried, Walked, WalkedFields, WalkedElements, Finished};
+use answer_sort::order;
+use answer_types::Layout;
+use answer_types::Shape;
+use answer_types::element_layout;
+use answer_types::layout_at;
+use base_buffer::ahead;
+use base_buffer::clear;
+use base_buffer::mark;
+use base_buffer::shift;
+use base_buffer::tally;
+use form_words::next;
+
+// Where the next raw word is read, and where the next written word goes.
+struct Ends {
+    src: usize,
+    dst: usize,
+}
+
+// The next n words, which are written as they are, move down.
+fn carry(o: &mut [i64], n: usize, e: Ends) -> Ends
+    ensures { λ r. ⌜ Carried n e (now (o .entry)) (now (o .exit)) r ⌝ }
+{
+    let src = ahead(o, e.src, n);
+    shift(o, e.dst, e.src, src);
+    Ends {
+        src: src,
+        dst: ahead(o, e.dst, n),
+    }
+}
+
+// A value of the type t. Nested collections come first: each element is brought to written form and moved down, then the
+// elements are ordered, and the count is mended.
+fn walk(s: &[u64], o: &mut [i64], t: Layout, e: Ends) -> Ends
+    requires { ⌜ Shaped (now s) (t .place) (t .shape) ⌝ }
+    ensures { λ r. ⌜ Walked (now (s .entry)) (t .place) e (now (o .entry)) (now (o .exit)) r ⌝ }
+{
+    let shape = t.shape;
+    match shape {
+        Shape::Word => carry(o, 1, e),
+        Shape::Words(n) => carry(o, n, e),
+        Shape::Fields(end) => walk_fields(s, o, t.place + 1, end, e),
+        Shape::Elements(k, h) => {
+            let u = element_layout(s, h);
+            let n = tally(o, e.src);
+            let b = carry(o, 1, e);
+            let g = walk_elements(s, o, u, n, b);
+            let r = order(s, o, u, k, b.dst, n, g.dst);
+            mark(o, e.dst, r.count);
+            Ends {
+                src: g.src,
+                dst: r.end,
+            }
+        }
+    }
+}
+
+// Fields, their types from place c to end.
+fn walk_fields(s: &[u64], o: &mut [i64], c: usize, end: usize, e: Ends) -> Ends
+    requires { ⌜ end ≤ places ⌝ }
+    ensures { λ r. ⌜ WalkedFields (now (s .entry)) c end e (now (o .entry)) (now (o .exit)) r ⌝ }
+{
+    if end <= c {
+        return e;
+    }
+    let g = walk(s, o, layout_at(s, c), e);
+    walk_fields(s, o, next(s, c), end, g)
+}
+
+// Elements.
+fn walk_elements(s: &[u64], o: &mut [i64], t: Layout, count: usize, e: Ends) -> Ends
+    requires { ⌜ Shaped (now s) (t .place) (t .shape) ⌝ }
+    ensures { λ r. ⌜ WalkedElements (now (s .entry)) (t .place) count e (now (o .entry)) (now (o .exit)) r ⌝ }
+{
+    let mut n = count;
+    let mut g = e;
+    while 0 < n {
+        g = walk(s, o, t, g);
+        n -= 1;
+    }
+    g
+}
+
+// The value of the type at i whose raw words stand in front; how many words it has when written.
+pub fn finish(s: &[u64], o: &mut [i64], i: usize) -> usize
+    ensures { λ r. ⌜ Finished (now (s .entry)) i (now (o .entry)) (now (o .exit)) r ⌝ }
+{
+    let e = walk(s, o, layout_at(s, i), Ends { src: 0, dst: 0 });
+    clear(o, e.dst, e.src);
+    e.dst
+}

@@ -1,0 +1,7 @@
+use Rattle.answer_writer.proofs.Laying.{bump-more, bump-full}
+use borrow.Author.Needs.{needs}
+use Rattle.answer_writer.proofs.more.Statement.{statement}
+use Rattle.answer_writer.proofs.more.Tie as tie
+
+pub more-spec : {M : Type 1} → statement M
+more-spec = tie.close (tie.spec (λ c. search needs) (λ c. bump-more (c .before .args .p) (c .if1 .taken)) (λ c. bump-full (c .before .args .p) (c .if1 .left)))

@@ -1,0 +1,106 @@
+// The words of the answer, laid into its buffer below a limit; how a value is written, and the words of a row.
+ghost use mathlib.Core.Path.{_≡_};
+ghost use Rattle.answer_writer.specs.Laying.{bump, laid, Puts};
+ghost use Rattle.answer_writer.specs.Shapes.{comprehensionShape, ShapeAt};
+ghost use Rattle.answer_writer.specs.Contract.{Rows};
+use base_monoid::Monoid;
+use base_tables::cell;
+use base_tables::columns;
+use base_tables::rows;
+use form_arith::Sort;
+use form_arith::result;
+use form_env::description;
+use form_env::slot;
+use form_words::low;
+use form_words::monoid_of;
+use form_words::next;
+use form_words::operator;
+use form_words::word;
+
+// How a form's value is written: one word, a row's columns, a record's fields up to a place, a collection.
+pub enum Shape {
+    Word(Sort),
+    Row(usize),
+    Record(usize),
+    Collection,
+}
+
+// One more below 2^62, and from there on the same: G can be any number, and nothing wraps.
+pub fn more(p: usize) -> usize
+    ensures { λ r. ⌜ r ≡ bump p ⌝ }
+{
+    if p < 4611686018427387904 { p + 1 } else { p }
+}
+
+pub fn lay(out: &mut [i64], limit: usize, p: usize, x: i64)
+    ensures { λ _. ⌜ now (out .exit) ≡ laid limit p x (now (out .entry)) ⌝ }
+{
+    if p < limit {
+        if p < out.len() {
+            out[p] = x;
+        }
+    }
+}
+
+// A word at p where that is below the limit; the next place.
+pub fn put(out: &mut [i64], limit: usize, p: usize, x: i64) -> usize
+    ensures { λ r. ⌜ Puts limit (now (out .entry)) p x (now (out .exit)) r ⌝ }
+{
+    lay(out, limit, p, x);
+    more(p)
+}
+
+fn comprehension_shape(m: Monoid) -> Shape
+    ensures { λ r. ⌜ r ≡ comprehensionShape m ⌝ }
+{
+    match m {
+        Monoid::List => Shape::Collection,
+        Monoid::Bag => Shape::Collection,
+        Monoid::Set => Shape::Collection,
+        Monoid::Sum => Shape::Word(Sort::Number),
+        Monoid::Max => Shape::Word(Sort::Number),
+        Monoid::Some => Shape::Word(Sort::Truth),
+        Monoid::All => Shape::Word(Sort::Truth),
+        Monoid::Min => Shape::Word(Sort::Number),
+    }
+}
+
+// By the word itself: `look` would make a node first.
+pub fn shape_at(s: &[u64], i: usize) -> Shape
+    ensures { λ r. ⌜ ShapeAt (now (s .entry)) i r ⌝ }
+{
+    if 512 <= i {
+        return Shape::Word(Sort::Number);
+    }
+    let w = word(s, i);
+    let a = w / 16384;
+    match w % 16 {
+        2 => Shape::Word(Sort::Truth),
+        3 => Shape::Row(low(a)),
+        5 => Shape::Record(next(s, i)),
+        6 => Shape::Word(result(operator(a))),
+        7 => Shape::Word(Sort::Truth),
+        8 => comprehension_shape(monoid_of(a % 8)),
+        _ => Shape::Word(Sort::Number),
+    }
+}
+
+// The columns of the row that generator g stands for; one 0 where there is no row.
+pub fn row(s: &[u64], data: &[u8], out: &mut [i64], limit: usize, g: usize, p: usize) -> usize
+    ensures { λ r. ⌜ Rows (now («data» .entry)) (now (s .entry)) limit (now (out .entry)) g p (now (out .exit)) r ⌝ }
+{
+    let e = slot(s, g) as usize;
+    let w = description(s, e / 2048);
+    let r = e % 2048;
+    if rows(w) <= r {
+        return put(out, limit, p, 0);
+    }
+    let n = columns(w);
+    let mut q = p;
+    let mut c = 0;
+    while c < n {
+        q = put(out, limit, q, cell(data, w, r, c));
+        c += 1;
+    }
+    q
+}

@@ -1,0 +1,37 @@
+-- `tables::cell`: each way out is one of `cellIn`'s. Assumes nothing.
+use mir.Facts.{toZ-ofZ}
+use Rattle.base_signed.proofs.Word.{fits}
+use Rattle.base_tables.proofs.Readers.{cell-below, cell-beside, cell-inside}
+use borrow.Author.Needs.{needs}
+use Rattle.base_tables.proofs.cell.Statement.{statement}
+use Rattle.base_tables.proofs.cell.Tie as tie
+
+returns : tie.Need-returns
+returns c = cell-below (c .before .rows .ensures) (c .if1 .taken)
+
+returns-2 : tie.Need-returns-2
+returns-2 c = cell-beside (c .before .before .before .rows .ensures) (c .before .before .if1 .left) (c .before .columns .ensures) (c .if2 .taken)
+
+returns-3 : tie.Need-returns-3
+returns-3 c =
+    let c2 = c .before .before in
+    let c3 = c2 .before in
+    let c4 = c3 .before in
+    let c5 = c4 .before in
+    rw (toZ-ofZ (fits (c .signed-of .ok))) (cell-inside (c5 .before .rows .ensures) (c5 .if1 .left) (c4 .columns .ensures) (c3 .if2 .left) (c2 .cells .ensures .0) (c .before .four-at .ensures .0) (c .signed-of .ensures))
+
+pub cell-spec : {M : Type 1} → statement M
+cell-spec =
+    tie.close
+    (tie.spec
+    (λ c κs. search needs)
+    returns
+    (λ c κs. search needs)
+    returns-2
+    (λ c κs. search needs)
+    (λ c. search needs)
+    (λ c. search needs)
+    (λ c. search needs)
+    (λ c κs. search needs)
+    (λ c κs. search needs)
+    returns-3)

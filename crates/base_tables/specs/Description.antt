@@ -1,0 +1,58 @@
+-- A table's description: the one word that the engine keeps of a table. Collection (2 bits), columns (4), rows (11), and
+-- above them the position of the table's first cell in the data.
+use mathlib.Core.Path.{_≡_}
+use Prim.Native.Nat.{ℕ, zero, suc, _+_, _*_, _/_, _%_, _≤_, _<_, _^_}
+use lib.Dec.{ltb}
+use lib.ListN.{length, getD}
+use lib.IntN.{ℤ, pos, natAbs}
+use Rattle.spec_calculus.specs.Lists.{pick}
+use Rattle.spec_calculus.specs.Syntax.{Collection, list, bag, set}
+use Rattle.spec_calculus.specs.Value.{Values, vnil, vcons, num, rec, Tables, junk, asInt, fieldOf, kindOf, columnsOf, rowsOf}
+use Rattle.spec_encoding.specs.Record.{Bytes, byte, two, four, signed}
+
+-- of the table with this content, whose cells begin at p
+unfoldable pub descriptionOf : Bytes → ℕ → ℕ
+descriptionOf c p = byte c 0 + 4 * (byte c 1 + 16 * (two c 2 + 2048 * p))
+
+abbrev pub collectionIn : ℕ → ℕ
+collectionIn w = w % 4
+
+abbrev pub columnsIn : ℕ → ℕ
+columnsIn w = w / 4 % 16
+
+abbrev pub rowsIn : ℕ → ℕ
+rowsIn w = w / 64 % 2048
+
+abbrev pub positionIn : ℕ → ℕ
+positionIn w = w / 131072
+
+-- the cell in row r and column c; 0 outside
+unfoldable pub cellIn : Bytes → ℕ → ℕ → ℕ → ℤ
+cellIn d w r c =
+    pick (ltb r (rowsIn w)) (pick (ltb c (columnsIn w)) (signed (four d (positionIn w + 4 * (columnsIn w * r + c)))) (pos 0)) (pos 0)
+
+-- "Bound of a number: a cell 2^31"
+pub record CellOf (d : Bytes) (w r c : ℕ) (z : ℤ) : Type 0 where
+  pub is : z ≡ cellIn d w r c
+  pub small : natAbs z ≤ 2 ^ 31
+
+-- n cells of row r, from column c on
+unfoldable pub cellsIn : Bytes → ℕ → ℕ → ℕ → ℕ → Values
+cellsIn d w r c zero = vnil
+cellsIn d w r c (suc n) = vcons (num (cellIn d w r c)) (cellsIn d w r (suc c) n)
+
+-- "collection (1 list, 2 bag, 3 set)"
+unfoldable pub collectionNumber : Collection → ℕ
+collectionNumber list = 1
+collectionNumber bag = 2
+collectionNumber set = 3
+
+-- w describes table k of T, whose bytes are in d: "columns (1 to 8)", "rows (0 to 1,024)"
+pub record Describes (d : Bytes) (T : Tables) (k w : ℕ) : Type 0 where
+  pub collection : collectionIn w ≡ collectionNumber (kindOf T k)
+  pub columns : columnsIn w ≡ columnsOf T k
+  pub most-columns : columnsOf T k ≤ 8
+  pub rows : rowsIn w ≡ length (rowsOf T k)
+  pub most-rows : length (rowsOf T k) ≤ 1024
+  pub row : (r : ℕ) → r < length (rowsOf T k) → getD (rowsOf T k) r junk ≡ rec (cellsIn d w r 0 (columnsOf T k))
+  pub cell : (r c : ℕ) → r < length (rowsOf T k) → c < columnsOf T k → cellIn d w r c ≡ asInt (fieldOf c (getD (rowsOf T k) r junk))

@@ -1,0 +1,216 @@
+// The one place that reads the lent data: its records, and the cells of its tables.
+ghost use mathlib.Core.Path.{_≡_};
+ghost use Prim.Native.Nat.{_+_, _*_, _≤_, _<_, _^_};
+ghost use lib.ListN.{length, getD, set};
+ghost use lib.IntN.{natAbs};
+ghost use Rattle.spec_encoding.specs.Record.{four, signed};
+ghost use Rattle.spec_encoding.specs.Data.{fits};
+ghost use Rattle.base_tables.specs.Description.{descriptionOf, collectionIn, columnsIn, rowsIn, CellOf};
+ghost use Rattle.base_tables.specs.Reading.{headerGives, headerAt, tableAt, ReadsData};
+
+// A whole record of kind 20 with the length of its content, or none.
+pub enum Header {
+    Record(usize),
+    Bad,
+}
+
+// A table's description and the position behind its record, or the refusal's number.
+pub enum TableRead {
+    Is(u64, usize),
+    Refused(u64),
+}
+
+// A cast of a parameter asks no proof where it is used.
+fn wide(x: u8) -> usize
+    ensures { λ r. ⌜ (r ≡ x) × (r < 256) ⌝ }
+{
+    x as usize
+}
+
+// A byte; 0 outside.
+fn byte_at(s: &[u8], i: usize) -> usize
+    ensures { λ r. ⌜ (r ≡ getD (now (s .entry)) i 0) × (r < 256) ⌝ }
+{
+    if i < s.len() { wide(s[i]) } else { 0 }
+}
+
+// Two bytes, little-endian.
+fn two_at(s: &[u8], i: usize) -> usize
+    requires { ⌜ i < 2 ^ 62 ⌝ }
+    ensures { λ r. ⌜ (r ≡ getD (now (s .entry)) i 0 + 256 * getD (now (s .entry)) (i + 1) 0) × (r < 65536) ⌝ }
+{
+    byte_at(s, i) + 256 * byte_at(s, i + 1)
+}
+
+// Four bytes, little-endian. One test where all are there: a cell is read for each pair of rows.
+fn four_at(s: &[u8], i: usize) -> usize
+    requires { ⌜ i < 2 ^ 61 ⌝ }
+    ensures { λ r. ⌜ (r ≡ four (now (s .entry)) i) × (r < 2 ^ 32) ⌝ }
+{
+    if i + 4 <= s.len() {
+        return wide(s[i])
+            + 256 * wide(s[i + 1])
+            + 65536 * (wide(s[i + 2]) + 256 * wide(s[i + 2 + 1]));
+    }
+    two_at(s, i) + 65536 * two_at(s, i + 2)
+}
+
+// How many cells so many rows have.
+fn cells(columns: usize, rows: usize) -> usize
+    requires { ⌜ (columns < 16) × (rows < 2048) ⌝ }
+    ensures { λ n. ⌜ (n ≡ columns * rows) × (n < 32768) ⌝ }
+{
+    columns * rows
+}
+
+// "a record cut short or not kind 20"
+pub fn read_header(s: &[u8]) -> Header
+    ensures { λ r. ⌜ headerGives r ≡ headerAt (now (s .entry)) ⌝ }
+{
+    if s.len() < 4 {
+        return Header::Bad;
+    }
+    let n = two_at(s, 0);
+    if s.len() - 4 < n {
+        return Header::Bad;
+    }
+    if two_at(s, 2) != 20 {
+        return Header::Bad;
+    }
+    Header::Record(n)
+}
+
+// "12: collection, columns or rows outside their ranges, or a length that does not match"
+fn well_formed(c: &[u8]) -> bool
+    ensures { λ r. ⌜ r ≡ fits (now (c .entry)) ⌝ }
+{
+    let collection = byte_at(c, 0);
+    let columns = byte_at(c, 1);
+    let rows = two_at(c, 2);
+    if c.len() < 4 {
+        return false;
+    }
+    if collection < 1 {
+        return false;
+    }
+    if 3 < collection {
+        return false;
+    }
+    if columns < 1 {
+        return false;
+    }
+    if 8 < columns {
+        return false;
+    }
+    if 1024 < rows {
+        return false;
+    }
+    c.len() == 4 + 4 * cells(columns, rows)
+}
+
+// The description of the table with this content, whose cells begin at p.
+fn describe(c: &[u8], p: usize) -> u64
+    requires { ⌜ p < 2 ^ 40 ⌝ }
+    ensures { λ r. ⌜ r ≡ descriptionOf (now (c .entry)) p ⌝ }
+{
+    let w = byte_at(c, 0) + 4 * (byte_at(c, 1) + 16 * (two_at(c, 2) + 2048 * p));
+    w as u64
+}
+
+// The record that begins at p.
+fn table_at(data: &[u8], p: usize) -> TableRead
+    requires { ⌜ (p ≤ length (now «data»)) × (p < 2 ^ 32) ⌝ }
+    ensures { λ r. ⌜ r ≡ tableAt (now («data» .entry)) p ⌝ }
+{
+    let Header::Record(n) = read_header(&data[p..]) else {
+        return TableRead::Refused(11);
+    };
+    let from = p + 4;
+    let next = from + n;
+    if well_formed(&data[from..next]) {
+        TableRead::Is(describe(&data[from..next], p + 8), next)
+    } else {
+        TableRead::Refused(12)
+    }
+}
+
+// The fields of a description (specs/Description.antt).
+pub fn collection(w: u64) -> u64
+    ensures { λ r. ⌜ r ≡ collectionIn w ⌝ }
+{
+    w % 4
+}
+
+pub fn columns(w: u64) -> usize
+    ensures { λ r. ⌜ r ≡ columnsIn w ⌝ }
+{
+    (w / 4 % 16) as usize
+}
+
+pub fn rows(w: u64) -> usize
+    ensures { λ r. ⌜ r ≡ rowsIn w ⌝ }
+{
+    (w / 64 % 2048) as usize
+}
+
+// "signed, four bytes each"
+fn signed_of(n: usize) -> i64
+    requires { ⌜ n < 2 ^ 32 ⌝ }
+    ensures { λ z. ⌜ (z ≡ signed n) × (natAbs z ≤ 2 ^ 31) ⌝ }
+{
+    if n < 2147483648 {
+        n as i64
+    } else {
+        (n as i64) - 4294967296
+    }
+}
+
+// The cell in row r and column c of the table that w describes; 0 outside.
+pub fn cell(data: &[u8], w: u64, r: usize, c: usize) -> i64
+    ensures { λ z. ⌜ CellOf (now («data» .entry)) w r c z ⌝ }
+{
+    if rows(w) <= r {
+        return 0;
+    }
+    let width = columns(w);
+    if width <= c {
+        return 0;
+    }
+    let at = (w / 131072) as usize + 4 * (cells(width, r) + c);
+    signed_of(four_at(data, at))
+}
+
+// No store outside.
+pub fn put(scratch: &mut [u64], i: usize, v: u64)
+    ensures { λ _. ⌜ now (scratch .exit) ≡ set (now (scratch .entry)) i v ⌝ }
+{
+    if i < scratch.len() {
+        scratch[i] = v;
+    }
+}
+
+// "the data, earliest record first, 13 before 11 before 12". Answers the refusal's number, or 0 with the tables' number and
+// descriptions in the first nine words of scratch.
+pub fn read_data(data: &[u8], scratch: &mut [u64]) -> u64
+    ensures { λ r. ⌜ ReadsData (now («data» .entry)) (now (scratch .entry)) (now (scratch .exit)) r ⌝ }
+{
+    let mut p = 0;
+    let mut n = 0;
+    while p < data.len() {
+        if n == 8 {
+            return 13;
+        }
+        match table_at(data, p) {
+            TableRead::Refused(x) => {
+                return x;
+            }
+            TableRead::Is(w, next) => {
+                n += 1;
+                put(scratch, n, w);
+                p = next;
+            }
+        }
+    }
+    put(scratch, 0, n as u64);
+    0
+}

@@ -1,0 +1,105 @@
+// What operators and monoids do to values that are kept as one word.
+ghost use mathlib.Core.Path.{_≡_};
+ghost use Prim.Native.Nat.{_≤_, _^_};
+ghost use lib.IntN.{natAbs};
+ghost use Rattle.form_words.specs.Tree.{binOf};
+ghost use Rattle.base_monoid.specs.Word.{monoidOf};
+ghost use Rattle.form_arith.specs.Sorts.{codeOf, readWord, sortOf, operandSort, resultSort, truthWord, negateWord, operateWord, operateBound};
+use base_monoid::Monoid;
+use form_words::Op;
+
+// How a value is read as a word: as a number, as a truth, or not at all.
+pub enum Sort {
+    Number,
+    Truth,
+    Other,
+}
+
+fn code(k: Sort) -> u64
+    ensures { λ r. ⌜ r ≡ codeOf k ⌝ }
+{
+    match k {
+        Sort::Number => 0,
+        Sort::Truth => 1,
+        Sort::Other => 2,
+    }
+}
+
+// The word x of a value of one sort, read as another.
+pub fn read_as(want: Sort, have: Sort, x: i64) -> i64
+    ensures { λ r. ⌜ r ≡ readWord want have x ⌝ }
+{
+    if code(want) == code(have) { x } else { 0 }
+}
+
+// The sort of a monoid's heads, and of its value.
+pub fn sort_of(m: Monoid) -> Sort
+    ensures { λ r. ⌜ r ≡ sortOf (monoidOf m) ⌝ }
+{
+    match m {
+        Monoid::List => Sort::Other,
+        Monoid::Bag => Sort::Other,
+        Monoid::Set => Sort::Other,
+        Monoid::Sum => Sort::Number,
+        Monoid::Max => Sort::Number,
+        Monoid::Some => Sort::Truth,
+        Monoid::All => Sort::Truth,
+        Monoid::Min => Sort::Number,
+    }
+}
+
+pub fn operands(o: Op) -> Sort
+    ensures { λ r. ⌜ r ≡ operandSort (binOf o) ⌝ }
+{
+    match o {
+        Op::Plus => Sort::Number,
+        Op::Minus => Sort::Number,
+        Op::Times => Sort::Number,
+        Op::Equal => Sort::Number,
+        Op::Less => Sort::Number,
+        Op::And => Sort::Truth,
+        Op::Or => Sort::Truth,
+    }
+}
+
+pub fn result(o: Op) -> Sort
+    ensures { λ r. ⌜ r ≡ resultSort (binOf o) ⌝ }
+{
+    match o {
+        Op::Plus => Sort::Number,
+        Op::Minus => Sort::Number,
+        Op::Times => Sort::Number,
+        Op::Equal => Sort::Truth,
+        Op::Less => Sort::Truth,
+        Op::And => Sort::Truth,
+        Op::Or => Sort::Truth,
+    }
+}
+
+pub fn truth_word(b: bool) -> i64
+    ensures { λ r. ⌜ r ≡ truthWord b ⌝ }
+{
+    if b { 1 } else { 0 }
+}
+
+pub fn negated(a: i64) -> i64
+    ensures { λ r. ⌜ r ≡ negateWord a ⌝ }
+{
+    truth_word(a == 0)
+}
+
+// The result must be a word: what refusal 28 is for.
+pub fn operate(o: Op, a: i64, b: i64) -> i64
+    requires { ⌜ operateBound (binOf o) (natAbs a) (natAbs b) ≤ 2 ^ 62 ⌝ }
+    ensures { λ r. ⌜ r ≡ operateWord (binOf o) a b ⌝ }
+{
+    match o {
+        Op::Plus => a + b,
+        Op::Minus => a - b,
+        Op::Times => a * b,
+        Op::Equal => truth_word(a == b),
+        Op::Less => truth_word(a < b),
+        Op::And => { if a == 0 { a } else { b } }
+        Op::Or => { if a == 0 { b } else { a } }
+    }
+}

@@ -1,0 +1,111 @@
+// Operators and monoids on any words. Where the operands' magnitudes allow a result beyond 2^62, the result is 0. Refusal 28 keeps
+// accepted questions from this, but scratch may hold anything.
+ghost use mathlib.Core.Path.{_≡_};
+ghost use Prim.Native.Nat.{_+_, _*_, _<_, _^_};
+ghost use lib.Dec.{leb};
+ghost use lib.IntN.{pos, natAbs};
+ghost use lib.Signed.{mag, _<ℤ_, _≤ℤ_};
+ghost use Rattle.form_words.specs.Tree.{binOf};
+ghost use Rattle.base_monoid.specs.Word.{monoidOf};
+ghost use Rattle.form_arith.specs.Sorts.{operateBound};
+ghost use Rattle.form_guarded.specs.Guarded.{mergeRoom, Operates, Merges};
+use base_monoid::Monoid;
+use form_words::Op;
+
+// A number that is not negative.
+fn natural(x: i64) -> u64
+    requires { ⌜ pos 0 ≤ℤ x ⌝ }
+    ensures { λ r. ⌜ pos r ≡ x ⌝ }
+    ensures { λ r. ⌜ r < 9223372036854775809 ⌝ }
+{
+    x as u64
+}
+
+// -1 - x of a negative x: the least number has no opposite.
+fn flipped(x: i64) -> i64
+    requires { ⌜ x <ℤ pos 0 ⌝ }
+    ensures { λ r. ⌜ r ≡ pos (mag x) ⌝ }
+{
+    -1 - x
+}
+
+fn magnitude(x: i64) -> u64
+    ensures { λ r. ⌜ r ≡ natAbs x ⌝ }
+{
+    if x < 0 {
+        natural(flipped(x)) + 1
+    } else {
+        natural(x)
+    }
+}
+
+fn sum_fits(x: u64, y: u64) -> bool
+    ensures { λ r. ⌜ r ≡ leb (x + y) (2 ^ 62) ⌝ }
+{
+    if 4611686018427387904 < x {
+        return false;
+    }
+    y <= 4611686018427387904 - x
+}
+
+// Without a division where both are cells' magnitudes.
+fn product_fits(x: u64, y: u64) -> bool
+    ensures { λ r. ⌜ r ≡ leb (x * y) (2 ^ 62) ⌝ }
+{
+    if x <= 2147483648 {
+        if y <= 2147483648 {
+            return true;
+        }
+    }
+    if y == 0 {
+        return true;
+    }
+    x <= 4611686018427387904 / y
+}
+
+fn bounded(o: Op, x: u64, y: u64) -> bool
+    ensures { λ r. ⌜ r ≡ leb (operateBound (binOf o) x y) (2 ^ 62) ⌝ }
+{
+    match o {
+        Op::Plus => sum_fits(x, y),
+        Op::Minus => sum_fits(x, y),
+        Op::Times => product_fits(x, y),
+        Op::Equal => true,
+        Op::Less => true,
+        Op::And => true,
+        Op::Or => true,
+    }
+}
+
+pub fn operate(o: Op, a: i64, b: i64) -> i64
+    ensures { λ r. ⌜ Operates o a b r ⌝ }
+{
+    if bounded(o, magnitude(a), magnitude(b)) {
+        return form_arith::operate(o, a, b);
+    }
+    0
+}
+
+fn mergeable(m: Monoid, x: u64, y: u64) -> bool
+    ensures { λ r. ⌜ r ≡ leb (mergeRoom (monoidOf m) x y) (2 ^ 62) ⌝ }
+{
+    match m {
+        Monoid::List => sum_fits(x, y),
+        Monoid::Bag => sum_fits(x, y),
+        Monoid::Set => sum_fits(x, y),
+        Monoid::Sum => sum_fits(x, y),
+        Monoid::Max => true,
+        Monoid::Some => true,
+        Monoid::All => true,
+        Monoid::Min => true,
+    }
+}
+
+pub fn merge(m: Monoid, a: i64, b: i64) -> i64
+    ensures { λ r. ⌜ Merges m a b r ⌝ }
+{
+    if mergeable(m, magnitude(a), magnitude(b)) {
+        return m.merge(a, b);
+    }
+    0
+}

@@ -1,0 +1,24 @@
+-- An accepted question in scratch, as answering and planning find it: the tables' descriptions, the words of the normal form, and
+-- nothing else below them.
+use mathlib.Core.Path.{_≡_}
+use mathlib.Core.List.{List}
+use Prim.Native.Nat.{ℕ, _≤_, _<_}
+use lib.ListN.{length, getD}
+use Rattle.spec_encoding.specs.Record.{Bytes, got}
+use Rattle.spec_encoding.specs.Data.{readData}
+use Rattle.spec_normal_form.specs.Form.{asForm}
+use Rattle.spec_outcome.specs.Accepted.{Accepted, judge}
+use Rattle.base_tables.specs.Reading.{Stored}
+use Rattle.form_words.specs.Packing.{formAt, places}
+use Rattle.form_words.specs.Flat.{Fits, Holds, flat}
+
+-- "A question is accepted over tables where the checker, with scratch enough, answers 0": the checks' result is a
+pub record Prepared (d : Bytes) (a : Accepted) (s : List ℕ) : Type 0 where
+  pub tables : readData d ≡ got (a .tables)
+  pub judged : judge (a .tables) (a .question) ≡ got a
+  pub stored : Stored d (a .tables) s
+  pub fits : Fits (asForm (a .form))
+  pub few : length (flat (asForm (a .form))) ≤ places
+  pub held : Holds s 0 (flat (asForm (a .form)))
+  pub blank : (j : ℕ) → 16 ≤ j → j < formAt → getD s j 0 ≡ 0
+  pub long : 8192 ≤ length s

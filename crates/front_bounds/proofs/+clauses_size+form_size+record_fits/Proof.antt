@@ -1,0 +1,134 @@
+use borrow.Author.Needs.{needs}
+use native.Mathlib.Omega.{arith}
+use mathlib.Core.Path.{refl}
+use Prim.Native.Nat.{_+_, ℕ, _<_}
+use mir.Facts.{toZ-ofZ}
+use Rattle.base_signed.proofs.Word.{fits}
+use Rattle.form_words.specs.Tree.{left}
+use Rattle.form_words.proofs.Laws.{recast, recastC, next-past}
+use Rattle.front_bounds.proofs.Laws.{small-number, size-number, size-truth, size-row, size-cell, size-record, size-binary, size-negation, size-comprehension, size-generator, size-condition, size-nothing, clauses-generator, clauses-condition, clauses-head, fields-end, fields-more}
+use borrow.Fn.Kinds.{In}
+use borrow.Fn.PlainCycle.{Measures, is, falls, and}
+use Rattle.front_bounds.proofs.clauses_size.Reads as clauses-size
+use Rattle.front_bounds.proofs.clauses_size.Kinds as clauses-size-kinds
+use Rattle.front_bounds.proofs.+clauses_size+form_size+record_fits.Lts-clauses_size as clauses-size-lts
+use Rattle.front_bounds.proofs.form_size.Reads as form-size
+use Rattle.front_bounds.proofs.form_size.Kinds as form-size-kinds
+use Rattle.front_bounds.proofs.+clauses_size+form_size+record_fits.Lts-form_size as form-size-lts
+use Rattle.front_bounds.proofs.record_fits.Reads as record-fits
+use Rattle.front_bounds.proofs.record_fits.Kinds as record-fits-kinds
+use Rattle.front_bounds.proofs.+clauses_size+form_size+record_fits.Lts-record_fits as record-fits-lts
+use Rattle.front_bounds.proofs.binary_bound.Reads as binary-bound-reads
+use Rattle.front_bounds.proofs.both.Reads as both-reads
+use Rattle.front_bounds.proofs.checked.Reads as checked-reads
+use Rattle.front_bounds.proofs.magnitude.Reads as magnitude-reads
+use Rattle.front_bounds.proofs.per_generator.Reads as per-generator-reads
+use Rattle.front_bounds.proofs.per_head.Reads as per-head-reads
+use Rattle.front_bounds.proofs.unbounded.Reads as unbounded-reads
+use Rattle.form_words.proofs.look.Reads as look-reads
+use Rattle.form_words.proofs.look_clause.Reads as look-clause-reads
+use Rattle.form_words.proofs.next.Reads as next-reads
+use Rattle.front_bounds.proofs.+clauses_size+form_size+record_fits.{statement}
+use Rattle.front_bounds.proofs.+clauses_size+form_size+record_fits.Tie.{close}
+
+abbrev μ-clauses-size : Measures 1 clauses-size-kinds.ps ℕ
+μ-clauses-size κs a = left (a .1 .0) + 1
+
+abbrev μ-form-size : Measures 1 form-size-kinds.ps ℕ
+μ-form-size κs a = left (a .1 .0)
+
+abbrev μ-record-fits : Measures 1 record-fits-kinds.ps ℕ
+μ-record-fits κs a = left (a .1 .0) + 1
+
+abbrev clauses-size-at : ℕ → In 1 clauses-size-kinds.ps
+clauses-size-at t = and 1 clauses-size-kinds.ps (is 1 clauses-size-kinds.ps μ-clauses-size t) clauses-size.Pre
+
+abbrev clauses-size-below : ℕ → In 1 clauses-size-kinds.ps
+clauses-size-below t = and 1 clauses-size-kinds.ps (falls 1 clauses-size-kinds.ps _<_ μ-clauses-size t) clauses-size.Pre
+
+abbrev form-size-at : ℕ → In 1 form-size-kinds.ps
+form-size-at t = and 1 form-size-kinds.ps (is 1 form-size-kinds.ps μ-form-size t) form-size.Pre
+
+abbrev form-size-below : ℕ → In 1 form-size-kinds.ps
+form-size-below t = and 1 form-size-kinds.ps (falls 1 form-size-kinds.ps _<_ μ-form-size t) form-size.Pre
+
+abbrev record-fits-at : ℕ → In 1 record-fits-kinds.ps
+record-fits-at t = and 1 record-fits-kinds.ps (is 1 record-fits-kinds.ps μ-record-fits t) record-fits.Pre
+
+abbrev record-fits-below : ℕ → In 1 record-fits-kinds.ps
+record-fits-below t = and 1 record-fits-kinds.ps (falls 1 record-fits-kinds.ps _<_ μ-record-fits t) record-fits.Pre
+
+pub +clauses-size+form-size+record-fits-spec : {M : Type 1} → statement M
++clauses-size+form-size+record-fits-spec =
+    close μ-clauses-size μ-form-size μ-record-fits
+    (λ t. clauses-size-lts.spec (look-clause-reads.Asked, look-clause-reads.Learnt, clauses-size-below t, clauses-size.Post, per-generator-reads.Asked, per-generator-reads.Learnt, form-size-below t, form-size.Post, both-reads.Asked, both-reads.Learnt, per-head-reads.Asked, per-head-reads.Learnt) (clauses-size-at t) clauses-size.Post
+    (λ c κs. search needs)
+    (λ c. search needs)
+    (λ c. let w = recastC (c .before .before .before .look-clause .ensures) (c .before .g .given .1) .inside in omega arith)
+    (λ c κs. let w = recastC (c .before .before .before .look-clause .ensures) (c .before .g .given .1) .inside in (omega (arith, c .before .before .before .before .before .pre .0), tt))
+    (λ c κs. search needs)
+    (λ c. search needs)
+    (λ c. let w = recastC (c .before .before .before .look-clause .ensures) (c .before .j .given .1) .inside in omega arith)
+    (λ c κs. let w = recastC (c .before .before .before .look-clause .ensures) (c .before .j .given .1) .inside in (omega (arith, c .before .before .before .before .before .pre .0), tt))
+    (λ c κs. let w = recastC (c .before .before .before .before .look-clause .ensures) (c .before .before .j .given .1) .inside in (omega (arith, c .before .before .before .before .before .before .pre .0), tt))
+    (λ c κs. search needs)
+    (λ c. search needs)
+    (λ c κs. (omega (arith, c .before .before .before .before .pre .0), tt))
+    (λ c κs. search needs)
+    (λ c. clauses-generator (recastC (c .before .before .before .before .before .look-clause .ensures) (c .before .before .before .g .given .1)) (c .before .clauses-size .ensures) (c .per-generator .ensures) refl)
+    (λ c. clauses-condition (recastC (c .before .before .before .before .before .before .look-clause .ensures) (c .before .before .before .before .j .given .1)) (c .before .before .form-size .ensures) (c .before .clauses-size2 .ensures) refl (c .both .ensures))
+    (λ c. clauses-head (recastC (c .before .before .before .before .look-clause .ensures) (c .before .before .enum-told .given .1)) (c .before .form-size2 .ensures) (c .per-head .ensures) refl))
+    (λ t. form-size-lts.spec (look-reads.Asked, look-reads.Learnt, magnitude-reads.Asked, magnitude-reads.Learnt, checked-reads.Asked, checked-reads.Learnt, unbounded-reads.Asked, unbounded-reads.Learnt, record-fits-below t, record-fits.Post, form-size-below t, form-size.Post, binary-bound-reads.Asked, binary-bound-reads.Learnt, both-reads.Asked, both-reads.Learnt, clauses-size-below t, clauses-size.Post) (form-size-at t) form-size.Post
+    (λ c κs. search needs)
+    (λ c. search needs)
+    (λ c κs. small-number (recast (c .before .before .before .look .ensures) (c .before .z .given .1)) (toZ-ofZ (fits (c .known-told .given .0 .1))))
+    (λ c κs. search needs)
+    (λ c. search needs)
+    (λ c κs. search needs)
+    (λ c. search needs)
+    (λ c κs. search needs)
+    (λ c. search needs)
+    (λ c κs. search needs)
+    (λ c. search needs)
+    (λ c. let w = recast (c .before .before .before .look .ensures) (c .before .e .given .1) .inside in omega arith)
+    (λ c κs. let w = recast (c .before .before .before .look .ensures) (c .before .e .given .1) .inside in (omega (arith, c .before .before .before .before .before .pre .0), w .1))
+    (λ c κs. search needs)
+    (λ c. search needs)
+    (λ c. let w = recast (c .before .before .before .look .ensures) (c .before .o .given .1) .inside in omega arith)
+    (λ c κs. let w = recast (c .before .before .before .look .ensures) (c .before .o .given .1) .inside in (omega (arith, c .before .before .before .before .before .pre .0), tt))
+    (λ c κs. let w = recast (c .before .before .before .before .look .ensures) (c .before .before .o .given .1) .inside in (omega (arith, c .before .before .before .before .before .before .pre .0), tt))
+    (λ c κs. search needs)
+    (λ c κs. search needs)
+    (λ c κs. search needs)
+    (λ c. search needs)
+    (λ c. let w = recast (c .before .before .look .ensures) (c .enum-told .given .1) .inside in omega arith)
+    (λ c κs. let w = recast (c .before .before .look .ensures) (c .enum-told .given .1) .inside in (omega (arith, c .before .before .before .before .pre .0), tt))
+    (λ c κs. search needs)
+    (λ c. search needs)
+    (λ c. let w = recast (c .before .before .before .look .ensures) (c .before .m .given .1) .inside in omega arith)
+    (λ c κs. let w = recast (c .before .before .before .look .ensures) (c .before .m .given .1) .inside in (omega (arith, c .before .before .before .before .before .pre .0), tt))
+    (λ c κs. search needs)
+    (λ c. search needs)
+    (λ c κs. search needs)
+    (λ c. search needs)
+    (λ c κs. search needs)
+    (λ c. search needs)
+    (λ c κs. search needs)
+    (λ c. size-number (recast (c .before .before .before .before .before .look .ensures) (c .before .before .before .z .given .1)) (toZ-ofZ (fits (c .before .before .known-told .given .0 .1))) (c .before .magnitude .ensures) (c .checked .ensures))
+    (λ c. size-truth (c .unbounded .ensures) (recast (c .before .before .before .before .look .ensures) (c .before .before .b .given .1)))
+    (λ c. size-row (c .unbounded2 .ensures) (recast (c .before .before .before .before .look .ensures) (c .before .before .g .given .1)))
+    (λ c. size-cell (recast (c .before .before .before .before .look .ensures) (c .before .before .c .given .1)) (c .checked2 .ensures))
+    (λ c. size-record (recast (c .before .before .before .before .before .look .ensures) (c .before .before .before .e .given .1)) (c .before .record-fits .ensures) (c .unbounded3 .ensures))
+    (λ c. size-binary (recast (c .before .before .before .before .before .before .before .before .look .ensures) (c .before .before .before .before .before .before .o .given .1)) (c .before .before .before .before .form-size .ensures) (c .before .before .before .form-size2 .ensures) (c .before .before .binary-bound .ensures) (c .before .both .ensures) (c .checked3 .ensures))
+    (λ c. size-negation (recast (c .before .before .before .before .look .ensures) (c .before .before .enum-told .given .1)) (c .before .form-size3 .ensures) (c .unbounded4 .ensures))
+    (λ c. size-comprehension (recast (c .before .before .before .before .before .look .ensures) (c .before .before .before .m .given .1)) (c .before .clauses-size .ensures) (c .checked4 .ensures))
+    (λ c. size-generator (c .unbounded5 .ensures) (recast (c .before .before .before .before .look .ensures) (c .before .before .g2 .given .1)))
+    (λ c. size-condition (c .unbounded6 .ensures) (recast (c .before .before .before .before .look .ensures) (c .before .before .j .given .1)))
+    (λ c. size-nothing (c .unbounded7 .ensures) (recast (c .before .before .before .look .ensures) (c .before .enum-told2 .given .1))))
+    (λ t. record-fits-lts.spec (form-size-below t, form-size.Post, next-reads.Asked, next-reads.Learnt, record-fits-below t, record-fits.Post, both-reads.Asked, both-reads.Learnt) (record-fits-at t) record-fits.Post
+    (λ c. fields-end (c .if1 .taken))
+    (λ c κs. (omega (arith, c .before .before .pre .0), tt))
+    (λ c κs. search needs)
+    (λ c κs. (omega (arith, c .before .before .before .before .pre .0, c .next .ensures, next-past (c .before .before .before .before .args .s .now) (c .before .before .before .before .args .i) (omega arith)), c .before .before .before .before .pre .1))
+    (λ c κs. search needs)
+    (λ c. fields-more (c .before .before .before .before .if1 .left) (c .before .before .before .before .before .before .pre .1) (c .before .before .before .form-size .ensures) (c .before .before .next .ensures) (c .before .record-fits .ensures) (c .both .ensures)))

@@ -1,0 +1,36 @@
+use borrow.Author.Needs.{needs}
+use mathlib.Core.Path.{_≡_, refl, sym, ap, _∙_}
+use Prim.Native.Nat.{ℕ}
+use Rattle.spec_normal_form.specs.Bound.{binBound}
+use Rattle.form_words.specs.declared.Op.{Op}
+use Rattle.form_words.specs.Tree.{binOf}
+use Rattle.front_bounds.specs.Size.{cut}
+use Rattle.front_bounds.proofs.binary_bound.Statement.{statement}
+use Rattle.front_bounds.proofs.binary_bound.Tie as tie
+
+-- x: the case that the match found
+found : {o x : Op} {r : ℕ} (a b : ℕ) → o ≡ x → r ≡ cut (binBound (binOf x) a b) → r ≡ cut (binBound (binOf o) a b)
+found a b e q = q ∙ sym (ap (λ (y : Op). cut (binBound (binOf y) a b)) e)
+
+pub binary-bound-spec : {M : Type 1} → statement M
+unfolding binBound
+binary-bound-spec =
+    tie.close
+    (tie.spec
+    (λ c. search needs)
+    (λ c κs. search needs)
+    (λ c. search needs)
+    (λ c κs. search needs)
+    (λ c. search needs)
+    (λ c κs. search needs)
+    (λ c. search needs)
+    (λ c. search needs)
+    (λ c. search needs)
+    (λ c. search needs)
+    (λ c. found (c .before .before .before .args .a) (c .before .before .before .args .b) (c .before .enum-told .given .1) (c .add .ensures))
+    (λ c. found (c .before .before .before .args .a) (c .before .before .before .args .b) (c .before .enum-told2 .given .1) (c .add2 .ensures))
+    (λ c. found (c .before .before .before .args .a) (c .before .before .before .args .b) (c .before .enum-told3 .given .1) (c .mul .ensures))
+    (λ c. found (c .before .before .args .a) (c .before .before .args .b) (c .enum-told4 .given .1) refl)
+    (λ c. found (c .before .before .args .a) (c .before .before .args .b) (c .enum-told5 .given .1) refl)
+    (λ c. found (c .before .before .args .a) (c .before .before .args .b) (c .enum-told6 .given .1) refl)
+    (λ c. found (c .before .before .args .a) (c .before .before .args .b) (c .enum-told7 .given .1) refl))

@@ -1,0 +1,205 @@
+// Refusal 28: whether every number of the normal form has a bound of at most 2^62.
+ghost use mathlib.Core.Path.{_≡_};
+ghost use mathlib.Core.Bool.{_&&_};
+ghost use Prim.Native.Nat.{_+_, _*_, _^_, _<_, _≤_};
+ghost use lib.IntN.{natAbs};
+ghost use Rattle.spec_normal_form.specs.Bound.{binBound};
+ghost use Rattle.base_monoid.specs.Word.{monoidOf};
+ghost use Rattle.form_words.specs.Packing.{places};
+ghost use Rattle.form_words.specs.Tree.{binOf};
+ghost use Rattle.front_bounds.specs.Size.{cut, perGenerator, perHead, Checked, Unbounded, FormSize, ClausesSize, FormsFit, Verdict};
+use base_monoid::Monoid;
+use form_words::Clause;
+use form_words::Node;
+use form_words::Op;
+use form_words::look;
+use form_words::look_clause;
+use form_words::next;
+
+const LIMIT: u64 = 4611686018427387904;
+
+const OVER: u64 = 4611686018427387905;
+
+// A form's bound, cut at 2^62 + 1, and whether every number in the form is within 2^62.
+pub struct Size {
+    pub bound: u64,
+    pub fits: bool,
+}
+
+fn magnitude(z: i64) -> u64
+    requires { ⌜ natAbs z < 2 ^ 50 ⌝ }
+    ensures { λ r. ⌜ r ≡ natAbs z ⌝ }
+{
+    if z < 0 { (-z) as u64 } else { z as u64 }
+}
+
+// Sums and products stop at 2^62 + 1, so they never wrap and still tell what is over 2^62.
+fn add(a: u64, b: u64) -> u64
+    ensures { λ r. ⌜ r ≡ cut (a + b) ⌝ }
+{
+    if b <= OVER {
+        if a <= OVER - b {
+            return a + b;
+        }
+    }
+    OVER
+}
+
+fn mul(a: u64, b: u64) -> u64
+    ensures { λ r. ⌜ r ≡ cut (a * b) ⌝ }
+{
+    if a == 0 {
+        return 0;
+    }
+    if b <= OVER / a { a * b } else { OVER }
+}
+
+fn binary_bound(o: Op, a: u64, b: u64) -> u64
+    ensures { λ r. ⌜ r ≡ cut (binBound (binOf o) a b) ⌝ }
+{
+    match o {
+        Op::Plus => add(a, b),
+        Op::Minus => add(a, b),
+        Op::Times => mul(a, b),
+        Op::Equal => 0,
+        Op::Less => 0,
+        Op::And => 0,
+        Op::Or => 0,
+    }
+}
+
+// A comprehension's bound with one generator more.
+fn per_generator(m: Monoid, a: u64) -> u64
+    ensures { λ r. ⌜ r ≡ perGenerator (monoidOf m) a ⌝ }
+{
+    match m {
+        Monoid::List => a,
+        Monoid::Bag => a,
+        Monoid::Set => a,
+        Monoid::Sum => mul(a, 1024),
+        Monoid::Max => a,
+        Monoid::Some => a,
+        Monoid::All => a,
+        Monoid::Min => a,
+    }
+}
+
+// A comprehension's bound with no generator.
+fn per_head(m: Monoid, a: u64) -> u64
+    ensures { λ r. ⌜ r ≡ perHead (monoidOf m) a ⌝ }
+{
+    match m {
+        Monoid::List => 0,
+        Monoid::Bag => 0,
+        Monoid::Set => 0,
+        Monoid::Sum => a,
+        Monoid::Max => a,
+        Monoid::Some => 0,
+        Monoid::All => 0,
+        Monoid::Min => a,
+    }
+}
+
+fn both(a: bool, b: bool) -> bool
+    ensures { λ r. ⌜ r ≡ (a && b) ⌝ }
+{
+    if a { b } else { false }
+}
+
+// A number with this bound; `inside` says whether the numbers in it fit.
+fn checked(bound: u64, inside: bool) -> Size
+    ensures { λ r. ⌜ Checked bound inside r ⌝ }
+{
+    Size {
+        bound: bound,
+        fits: both(bound <= LIMIT, inside),
+    }
+}
+
+// What is no number has bound 0; `inside` says whether the numbers in it fit.
+fn unbounded(inside: bool) -> Size
+    ensures { λ r. ⌜ Unbounded inside r ⌝ }
+{
+    Size {
+        bound: 0,
+        fits: inside,
+    }
+}
+
+pub fn form_size(s: &[u64], i: usize) -> Size
+    ensures { λ r. ⌜ FormSize (now (s .entry)) i r ⌝ }
+{
+    match look(s, i) {
+        Node::Number(z) => checked(magnitude(z), true),
+        Node::Truth(b) => unbounded(true),
+        Node::Row(g) => unbounded(true),
+        Node::Cell(c, g) => checked(2147483648, true),
+        Node::Record(e) => unbounded(record_fits(s, i + 1, e)),
+        Node::Binary(o, j) => {
+            let a = form_size(s, i + 1);
+            let b = form_size(s, j);
+            checked(binary_bound(o, a.bound, b.bound), both(a.fits, b.fits))
+        }
+        Node::Negation => {
+            let a = form_size(s, i + 1);
+            unbounded(a.fits)
+        }
+        Node::Comprehension(m) => {
+            let a = clauses_size(s, i + 1, m);
+            checked(a.bound, a.fits)
+        }
+        Node::Generator(g, k) => unbounded(true),
+        Node::Condition(j) => unbounded(true),
+        Node::Nothing => unbounded(true),
+    }
+}
+
+// The clauses from i on and the head behind them, in a comprehension of m.
+fn clauses_size(s: &[u64], i: usize, m: Monoid) -> Size
+    ensures { λ r. ⌜ ClausesSize (now (s .entry)) i m r ⌝ }
+{
+    match look_clause(s, i) {
+        Clause::Generator(g, k) => {
+            let a = clauses_size(s, i + 1, m);
+            Size {
+                bound: per_generator(m, a.bound),
+                fits: a.fits,
+            }
+        }
+        Clause::Condition(j) => {
+            let t = form_size(s, i + 1);
+            let a = clauses_size(s, j, m);
+            Size {
+                bound: a.bound,
+                fits: both(t.fits, a.fits),
+            }
+        }
+        Clause::Head => {
+            let a = form_size(s, i);
+            Size {
+                bound: per_head(m, a.bound),
+                fits: a.fits,
+            }
+        }
+    }
+}
+
+// The fields of a record, from i to e.
+fn record_fits(s: &[u64], i: usize, e: usize) -> bool
+    requires { ⌜ e ≤ places ⌝ }
+    ensures { λ r. ⌜ FormsFit (now (s .entry)) i e r ⌝ }
+{
+    if e <= i {
+        return true;
+    }
+    let a = form_size(s, i);
+    let b = record_fits(s, next(s, i), e);
+    both(a.fits, b)
+}
+
+pub fn bound_fits(s: &[u64]) -> bool
+    ensures { λ r. ⌜ Verdict (now (s .entry)) r ⌝ }
+{
+    let whole = form_size(s, 0);
+    whole.fits
+}

@@ -1,0 +1,101 @@
+// From bytes to an accepted question in scratch: the passes in document 01's order of refusals.
+ghost use Prim.Native.Nat.{_-_, _≤_};
+ghost use lib.ListN.{length};
+ghost use Rattle.front_emit.specs.Whole.{Writable};
+ghost use Rattle.front_end.specs.Front.{FromSizes, FromTypes, FromNames, Fronted};
+ghost use Rattle.front_end.specs.Prepares.{FromForm, Prepares};
+use front_parser::Read;
+
+// The number of the question's nodes, or the refusal.
+pub enum Front {
+    Refused(u64),
+    Nodes(usize),
+}
+
+// A refusal, or a question that answering and planning may begin with.
+pub enum Checked {
+    Refused(u64),
+    Accepted,
+}
+
+// "27: a normal form over 512 nodes."
+fn sized(s: &mut [u64], n: usize) -> Front
+    requires { ⌜ n ≤ 256 ⌝ }
+    ensures { λ r. ⌜ FromSizes (now (s .entry)) (now (s .exit)) n r ⌝ }
+{
+    front_measure::measure(s, n);
+    let z = front_measure::size(s, n);
+    if 512 < z {
+        return Front::Refused(27);
+    }
+    Front::Nodes(n)
+}
+
+// "25: a type, field or table that does not fit. 26: a generator its monoid may not have."
+fn typed(s: &mut [u64], n: usize) -> Front
+    requires { ⌜ n ≤ 256 ⌝ }
+    ensures { λ r. ⌜ FromTypes (now (s .entry)) (now (s .exit)) n r ⌝ }
+{
+    let a = front_typing::types_fit(s, n);
+    if !a {
+        return Front::Refused(25);
+    }
+    let b = front_typing::generators_fit(s, n);
+    if !b {
+        return Front::Refused(26);
+    }
+    sized(s, n)
+}
+
+// "24: a name out of scope or bound twice."
+fn judged(s: &mut [u64], n: usize) -> Front
+    requires { ⌜ n ≤ 256 ⌝ }
+    ensures { λ r. ⌜ FromNames (now (s .entry)) (now (s .exit)) n r ⌝ }
+{
+    let a = front_scope::names_hold(s, n);
+    if !a {
+        return Front::Refused(24);
+    }
+    front_scope::binders(s, n);
+    typed(s, n)
+}
+
+// The data, then 21 to 23, then 24 to 27: the checks but the last, in their order.
+pub fn front_end(d: &[u8], l: &[u8], s: &mut [u64]) -> Front
+    requires { ⌜ 8192 ≤ length (now s) ⌝ }
+    ensures { λ r. ⌜ Fronted (now (d .entry)) (now (l .entry)) (now (s .entry)) (now (s .exit)) r ⌝ }
+{
+    let z = base_tables::read_data(d, s);
+    if z != 0 {
+        return Front::Refused(z);
+    }
+    match front_parser::read_question(l, s) {
+        Read::Refused(k) => Front::Refused(k),
+        Read::Question(n) => judged(s, n),
+    }
+}
+
+// "28: a number in the normal form with bound over 2^62." The words of the question below the normal form are dead now.
+fn formed(s: &mut [u64], n: usize) -> Checked
+    requires { ⌜ (1 ≤ n) × Writable (now s) (n - 1) ⌝ }
+    ensures { λ r. ⌜ FromForm (now (s .entry)) (now (s .exit)) n r ⌝ }
+{
+    front_emit::write_form(s, n - 1);
+    let a = front_bounds::bound_fits(s);
+    if !a {
+        return Checked::Refused(28);
+    }
+    base_scratch::wipe(s, 16, 1296);
+    Checked::Accepted
+}
+
+// All checks, in their order.
+pub fn prepare(d: &[u8], l: &[u8], s: &mut [u64]) -> Checked
+    requires { ⌜ 8192 ≤ length (now s) ⌝ }
+    ensures { λ r. ⌜ Prepares (now (d .entry)) (now (l .entry)) (now (s .entry)) (now (s .exit)) r ⌝ }
+{
+    match front_end(d, l, s) {
+        Front::Refused(k) => Checked::Refused(k),
+        Front::Nodes(n) => formed(s, n),
+    }
+}

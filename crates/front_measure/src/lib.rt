@@ -1,0 +1,408 @@
+// How much of the normal form each node writes: one loop over the nodes, each weighed by those before it.
+ghost use mathlib.Core.Path.{_≡_};
+ghost use mathlib.Core.Bool.{true};
+ghost use Prim.Native.Nat.{_+_, _-_, min};
+ghost use Rattle.spec_calculus.specs.Lists.{pick};
+ghost use Rattle.base_monoid.specs.Word.{monoidOf};
+ghost use Rattle.front_theory.specs.Saturated.{limit};
+ghost use Rattle.spec_normal_form.specs.Normal.{idempotent, givesWay};
+ghost use Rattle.front_words.specs.Tree.{startAt};
+ghost use Rattle.front_sizes.specs.Packing.{termCount, conditionCount};
+ghost use Rattle.front_nodes.specs.Look.{binOf};
+ghost use Rattle.front_nodes.specs.Decode.{depthAt, childrenOf, nodesOf};
+ghost use Rattle.front_measure.specs.Measure.{beside, above, none, total};
+ghost use Rattle.front_measure.specs.Arranged.{qualifies};
+ghost use Rattle.front_measure.specs.Kept.{Measures};
+ghost use Rattle.front_measure.specs.Parts.{joins, bothWays, conditionWays, spliceWays, noWays, termWeight, scalarWeight, twoWeight, tableWeight, rowWays, qualifierWeight, keptWeight, formWeight, compAt, way, Comes, Weighs, SmallWeight, storing};
+use base_monoid::Monoid;
+use front_nodes::Found;
+use front_nodes::Node;
+use front_nodes::Op;
+use front_resolve::Form;
+use front_sizes::Count;
+
+// What is written where "some" stays, and where it gives way.
+pub struct Ways {
+    pub stays: Count,
+    pub yields: Count,
+}
+
+// Of a term: as a term, as a condition, as a generator's term. Of a qualifier: what it writes, as a condition; what the
+// qualifiers of its comprehension write up to it; and those before it.
+pub struct Weight {
+    pub term: Count,
+    pub condition: Ways,
+    pub splice: Ways,
+    pub before: Ways,
+}
+
+// Counted to 513.
+fn sum(a: u64, b: u64) -> u64
+    ensures { λ r. ⌜ r ≡ min (a + b) limit ⌝ }
+{
+    if 513 <= a {
+        return 513;
+    }
+    if 513 <= b {
+        return 513;
+    }
+    let c = a + b;
+    if c < 513 { c } else { 513 }
+}
+
+fn side(a: Count, b: Count) -> Count
+    ensures { λ r. ⌜ r ≡ beside a b ⌝ }
+{
+    Count {
+        size: sum(a.size, b.size),
+        gens: sum(a.gens, b.gens),
+    }
+}
+
+// One node above.
+fn raise(a: Count) -> Count
+    ensures { λ r. ⌜ r ≡ above a ⌝ }
+{
+    Count {
+        size: sum(1, a.size),
+        gens: sum(0, a.gens),
+    }
+}
+
+fn both(a: Ways, b: Ways) -> Ways
+    ensures { λ r. ⌜ r ≡ bothWays a b ⌝ }
+{
+    let c = a.stays;
+    let d = b.stays;
+    let e = a.yields;
+    let f = b.yields;
+    Ways {
+        stays: side(c, d),
+        yields: side(e, f),
+    }
+}
+
+fn nothing() -> Ways
+    ensures { λ r. ⌜ r ≡ noWays ⌝ }
+{
+    let z = Count { size: 0, gens: 0 };
+    Ways {
+        stays: z,
+        yields: z,
+    }
+}
+
+fn conditions(s: &[u64], i: usize) -> Ways
+    ensures { λ r. ⌜ r ≡ conditionWays (now (s .entry)) i ⌝ }
+{
+    Ways {
+        stays: front_sizes::condition_count(s, i, false),
+        yields: front_sizes::condition_count(s, i, true),
+    }
+}
+
+fn splices(s: &[u64], i: usize) -> Ways
+    ensures { λ r. ⌜ r ≡ spliceWays (now (s .entry)) i ⌝ }
+{
+    Ways {
+        stays: front_sizes::spliced_count(s, i, false),
+        yields: front_sizes::spliced_count(s, i, true),
+    }
+}
+
+// A term that is no collection, with its conditions.
+fn value(t: Count, c: Ways) -> Weight
+    ensures { λ r. ⌜ r ≡ termWeight t c ⌝ }
+{
+    let n = Count { size: 2, gens: 0 };
+    Weight {
+        term: t,
+        condition: c,
+        splice: Ways {
+            stays: n,
+            yields: n,
+        },
+        before: nothing(),
+    }
+}
+
+// A term that is one condition, and no collection.
+fn scalar(t: Count) -> Weight
+    ensures { λ r. ⌜ r ≡ scalarWeight t ⌝ }
+{
+    let c = raise(t);
+    value(
+        t,
+        Ways {
+            stays: c,
+            yields: c,
+        },
+    )
+}
+
+fn is_and(o: Op) -> bool
+    ensures { λ r. ⌜ r ≡ joins (binOf o) ⌝ }
+{
+    match o {
+        Op::Plus => false,
+        Op::Minus => false,
+        Op::Times => false,
+        Op::Equal => false,
+        Op::Less => false,
+        Op::And => true,
+        Op::Or => false,
+    }
+}
+
+fn two(s: &[u64], o: Op, a: usize, b: usize) -> Weight
+    ensures { λ r. ⌜ r ≡ twoWeight (now (s .entry)) (binOf o) a b ⌝ }
+{
+    let t = raise(side(front_sizes::term_count(s, a), front_sizes::term_count(s, b)));
+    if is_and(o) {
+        return value(t, both(conditions(s, a), conditions(s, b)));
+    }
+    scalar(t)
+}
+
+// The terms of the record at node i together.
+fn terms(s: &[u64], i: usize) -> Count
+    ensures { λ r. ⌜ r ≡ total (termCount (now (s .entry))) none (childrenOf (now (s .entry)) i) ⌝ }
+{
+    let mut t = Count { size: 0, gens: 0 };
+    let mut k: usize = 0;
+    loop {
+        match front_nodes::child(s, i, k) {
+            Found::At(c) => {
+                t = side(t, front_sizes::term_count(s, c));
+                k += 1;
+            }
+            Found::Nothing => return t,
+        }
+    }
+}
+
+fn is_qualifier(s: &[u64], i: usize) -> bool
+    ensures { λ r. ⌜ r ≡ qualifies (nodesOf (now (s .entry)) i) ⌝ }
+{
+    match front_nodes::look(s, i) {
+        Node::Gen(c) => true,
+        Node::Bind(c) => true,
+        Node::Cond(c) => true,
+        _ => false,
+    }
+}
+
+// What is stored for the qualifier of depth d that ends at e: once it is measured, what the qualifiers of its comprehension
+// write up to it. Nothing where none ends there.
+fn row(s: &[u64], d: usize, e: usize) -> Ways
+    ensures { λ r. ⌜ r ≡ rowWays (now (s .entry)) d e ⌝ }
+{
+    if e == 0 {
+        return nothing();
+    }
+    let c = e - 1;
+    if front_nodes::depth_at(s, c) != d {
+        return nothing();
+    }
+    if is_qualifier(s, c) {
+        return splices(s, c);
+    }
+    nothing()
+}
+
+fn gives_way(m: Monoid) -> bool
+    ensures { λ r. ⌜ r ≡ givesWay (monoidOf m) true ⌝ }
+{
+    match m {
+        Monoid::List => false,
+        Monoid::Bag => false,
+        Monoid::Set => false,
+        Monoid::Sum => false,
+        Monoid::Max => false,
+        Monoid::Some => true,
+        Monoid::All => false,
+        Monoid::Min => false,
+    }
+}
+
+// What is written where a comprehension of m is not spliced.
+fn own(m: Monoid, a: Ways) -> Count
+    ensures { λ r. ⌜ r ≡ way a (idempotent (monoidOf m)) ⌝ }
+{
+    if front_resolve::joined(false, m) {
+        return a.yields;
+    }
+    a.stays
+}
+
+// A comprehension of m as a condition, where "some" gives way: its qualifiers write a, its head h; else c.
+fn test(s: &[u64], m: Monoid, a: Count, h: usize, c: Count) -> Count
+    ensures { λ r. ⌜ r ≡ pick (givesWay (monoidOf m) true) (beside a (conditionCount (now (s .entry)) h true)) c ⌝ }
+{
+    if gives_way(m) {
+        return side(a, front_sizes::condition_count(s, h, true));
+    }
+    c
+}
+
+// A comprehension of m with head h. "A 33rd level" is refused (23).
+fn comp(s: &[u64], i: usize, m: Monoid, h: usize) -> Weight
+    ensures { λ r. ⌜ r ≡ compAt (now (s .entry)) i (monoidOf m) h ⌝ }
+{
+    if 32 <= front_nodes::depth_at(s, i) {
+        return scalar(Count { size: 1, gens: 0 });
+    }
+    let a = row(s, front_nodes::depth_at(s, h), front_words::start_at(s, h));
+    let q = own(m, a);
+    let t = raise(side(q, front_sizes::term_count(s, h)));
+    let c = raise(t);
+    let y = a.yields;
+    Weight {
+        term: t,
+        condition: Ways {
+            stays: c,
+            yields: test(s, m, y, h, c),
+        },
+        splice: Ways {
+            stays: q,
+            yields: y,
+        },
+        before: nothing(),
+    }
+}
+
+// A qualifier that writes w.
+fn qualifier(s: &[u64], i: usize, w: Ways) -> Weight
+    ensures { λ r. ⌜ r ≡ qualifierWeight (rowWays (now (s .entry)) (depthAt (now (s .entry)) i) (startAt (now (s .entry)) i)) w ⌝ }
+{
+    let b = row(s, front_nodes::depth_at(s, i), front_words::start_at(s, i));
+    Weight {
+        term: Count { size: 0, gens: 0 },
+        condition: w,
+        splice: both(b, w),
+        before: b,
+    }
+}
+
+fn table() -> Weight
+    ensures { λ r. ⌜ r ≡ tableWeight ⌝ }
+{
+    let c = Count { size: 5, gens: 1 };
+    let g = Count { size: 2, gens: 1 };
+    Weight {
+        term: Count { size: 4, gens: 1 },
+        condition: Ways {
+            stays: c,
+            yields: c,
+        },
+        splice: Ways {
+            stays: g,
+            yields: g,
+        },
+        before: nothing(),
+    }
+}
+
+// What node j keeps, but for its offsets.
+fn copy(s: &[u64], j: usize) -> Weight
+    ensures { λ r. ⌜ r ≡ keptWeight (now (s .entry)) j ⌝ }
+{
+    Weight {
+        term: front_sizes::term_count(s, j),
+        condition: conditions(s, j),
+        splice: splices(s, j),
+        before: nothing(),
+    }
+}
+
+// What a place has.
+fn form(s: &[u64], j: usize, f: Form) -> Weight
+    ensures { λ r. ⌜ r ≡ formWeight (now (s .entry)) j f ⌝ }
+{
+    match f {
+        Form::Number(z) => copy(s, j),
+        Form::Truth(b) => copy(s, j),
+        Form::Row(g) => scalar(Count { size: 1, gens: 0 }),
+        Form::Cell(k, g) => scalar(Count { size: 2, gens: 0 }),
+        Form::Record => copy(s, j),
+        Form::Two(o, a, b) => copy(s, j),
+        Form::Not(c) => copy(s, j),
+        Form::Comp(m, h) => copy(s, j),
+        Form::Table(k) => copy(s, j),
+        Form::Bad => scalar(Count { size: 1, gens: 0 }),
+    }
+}
+
+// A name or a field.
+fn followed(s: &[u64], i: usize) -> Weight
+    ensures { λ r. ⌜ Comes (now (s .entry)) i r ⌝ }
+{
+    let r = front_resolve::resolve(s, i, front_nodes::depth_at(s, i), [0; 32]);
+    let f = r.form;
+    form(s, r.node, f)
+}
+
+// Node i, from the nodes before it.
+fn weigh(s: &[u64], i: usize) -> Weight
+    ensures { λ r. ⌜ Weighs (now (s .entry)) i r ⌝ }
+{
+    match front_nodes::look(s, i) {
+        Node::Number(z) => scalar(Count { size: 1, gens: 0 }),
+        Node::Truth(b) => scalar(Count { size: 1, gens: 0 }),
+        Node::Name(x, d) => followed(s, i),
+        Node::Field(k, c) => followed(s, i),
+        Node::Record => scalar(raise(terms(s, i))),
+        Node::Two(o, a, b) => two(s, o, a, b),
+        Node::Not(c) => scalar(raise(front_sizes::term_count(s, c))),
+        Node::Comp(m, h) => comp(s, i, m, h),
+        Node::Table(k) => table(),
+        Node::Gen(c) => qualifier(s, i, splices(s, c)),
+        Node::Bind(c) => qualifier(s, i, nothing()),
+        Node::Cond(c) => qualifier(s, i, conditions(s, c)),
+        Node::Bad => scalar(Count { size: 1, gens: 0 }),
+    }
+}
+
+// The words of node i.
+fn store(s: &mut [u64], i: usize, w: Weight)
+    requires { ⌜ SmallWeight w ⌝ }
+    ensures { λ r. ⌜ now (s .exit) ≡ storing (now (s .entry)) i w ⌝ }
+{
+    let c = w.condition;
+    let p = w.splice;
+    let b = w.before;
+    let x = b.stays;
+    let y = b.yields;
+    front_sizes::put_first(s, i, w.term, c.stays, c.yields);
+    front_sizes::put_second(
+        s,
+        i,
+        p.stays,
+        p.yields,
+        Count {
+            size: x.gens,
+            gens: y.gens,
+        },
+    );
+}
+
+// Every node below n, from the first on.
+pub fn measure(s: &mut [u64], n: usize)
+    ensures { λ r. ⌜ Measures (now (s .entry)) n (now (s .exit)) ⌝ }
+{
+    let mut i: usize = 0;
+    while i < n {
+        let w = weigh(s, i);
+        store(s, i, w);
+        i += 1;
+    }
+}
+
+// The size that is stored for the last of n nodes: once `measure` has run, how many nodes the question has in its normal
+// form, counted to 513.
+pub fn size(s: &[u64], n: usize) -> u64
+    ensures { λ r. ⌜ r ≡ termCount (now (s .entry)) (n - 1) .size ⌝ }
+{
+    let c = front_sizes::term_count(s, front_nodes::prior(n));
+    c.size
+}

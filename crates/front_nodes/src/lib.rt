@@ -1,0 +1,230 @@
+// A node of the question from its words in scratch.
+ghost use mathlib.Core.Path.{_≡_};
+ghost use Prim.Native.Nat.{_-_, _<_};
+ghost use lib.ListN.{getD};
+ghost use Rattle.spec_encoding.specs.Reader.{kinds, unknown};
+ghost use Rattle.base_monoid.specs.Word.{monoidOf};
+ghost use Rattle.front_words.specs.Tree.{numberOf, monoidAt};
+ghost use Rattle.front_nodes.specs.Decode.{depthAt, binderWord};
+ghost use Rattle.front_nodes.specs.Look.{kindNamed, Looks, Named, Raised, Picks, BoundBy};
+use base_monoid::Monoid;
+use front_words::start_at;
+
+pub enum Op {
+    Plus,
+    Minus,
+    Times,
+    Equal,
+    Less,
+    And,
+    Or,
+}
+
+pub enum Kind {
+    Number,
+    Truth,
+    Name,
+    Field,
+    Record,
+    Two(Op),
+    Not,
+    Comp,
+    Table,
+    Gen,
+    Bind,
+    Cond,
+    Unknown,
+}
+
+// A name is its binder and the depth of the comprehension that the binder stands in. The terms of a record are had by
+// `child`, the qualifiers of a comprehension by walking back from its head: each ends where the next one begins (`start_at`).
+pub enum Node {
+    Number(i64),
+    Truth(bool),
+    Name(usize, usize),
+    Field(usize, usize),
+    Record,
+    Two(Op, usize, usize),
+    Not(usize),
+    Comp(Monoid, usize),
+    Table(usize),
+    Gen(usize),
+    Bind(usize),
+    Cond(usize),
+    Bad,
+}
+
+pub enum Found {
+    At(usize),
+    Nothing,
+}
+
+pub enum Binder {
+    Gen(usize),
+    Bind(usize),
+    Other,
+}
+
+// Where the binders' words begin.
+const BINDERS: usize = 272;
+
+// There are at most so many nodes, and so many words of binders.
+const MOST: usize = 256;
+
+fn kind_of(k: u64) -> Kind
+    ensures { λ r. ⌜ kindNamed r ≡ getD kinds k unknown ⌝ }
+{
+    match k {
+        1 => Kind::Number,
+        2 => Kind::Truth,
+        3 => Kind::Name,
+        4 => Kind::Field,
+        5 => Kind::Record,
+        6 => Kind::Two(Op::Plus),
+        7 => Kind::Two(Op::Minus),
+        8 => Kind::Two(Op::Times),
+        9 => Kind::Two(Op::Equal),
+        10 => Kind::Two(Op::Less),
+        11 => Kind::Two(Op::And),
+        12 => Kind::Two(Op::Or),
+        13 => Kind::Not,
+        14 => Kind::Comp,
+        15 => Kind::Table,
+        16 => Kind::Gen,
+        17 => Kind::Bind,
+        18 => Kind::Cond,
+        _ => Kind::Unknown,
+    }
+}
+
+fn monoid_at(a: u64) -> Monoid
+    ensures { λ r. ⌜ monoidOf r ≡ monoidAt a ⌝ }
+{
+    match a {
+        2 => Monoid::Bag,
+        3 => Monoid::Set,
+        4 => Monoid::Sum,
+        5 => Monoid::Max,
+        6 => Monoid::Some,
+        7 => Monoid::All,
+        8 => Monoid::Min,
+        _ => Monoid::List,
+    }
+}
+
+fn number(a: u64) -> i64
+    requires { ⌜ a < 8589934592 ⌝ }
+    ensures { λ r. ⌜ r ≡ numberOf a ⌝ }
+{
+    a as i64 - 2147483648
+}
+
+// The node before a place.
+pub fn prior(e: usize) -> usize
+    ensures { λ r. ⌜ r ≡ e - 1 ⌝ }
+{
+    if e == 0 { 0 } else { e - 1 }
+}
+
+pub fn depth_at(s: &[u64], i: usize) -> usize
+    ensures { λ r. ⌜ r ≡ depthAt (now (s .entry)) i ⌝ }
+{
+    front_words::depth(front_words::node_word(s, i)) as usize
+}
+
+// One more than the number of the node that binds name x; 0 where none does.
+fn binder_word(s: &[u64], x: u64) -> u64
+    ensures { λ r. ⌜ r ≡ binderWord (now (s .entry)) x ⌝ }
+{
+    let i = x as usize;
+    if MOST <= i {
+        return 0;
+    }
+    let j = BINDERS + i;
+    if j < s.len() { s[j] } else { 0 }
+}
+
+// The name at node i whose binder's word is w.
+fn named(s: &[u64], i: usize, w: u64) -> Node
+    ensures { λ r. ⌜ Named (now (s .entry)) i w r ⌝ }
+{
+    if w == 0 {
+        return Node::Bad;
+    }
+    let x = (w - 1) as usize;
+    if i <= x {
+        return Node::Bad;
+    }
+    let d = depth_at(s, x);
+    if d == 0 {
+        return Node::Bad;
+    }
+    Node::Name(x, d - 1)
+}
+
+// A node that has a child: there is one before it.
+fn raised(i: usize, n: Node) -> Node
+    ensures { λ r. ⌜ Raised i n r ⌝ }
+{
+    if i == 0 {
+        return Node::Bad;
+    }
+    n
+}
+
+pub fn look(s: &[u64], i: usize) -> Node
+    ensures { λ r. ⌜ Looks (now (s .entry)) i r ⌝ }
+{
+    if MOST <= i {
+        return Node::Bad;
+    }
+    let w = front_words::node_word(s, i);
+    let a = front_words::arg(w);
+    let c = prior(i);
+    match kind_of(front_words::kind(w)) {
+        Kind::Number => Node::Number(number(a)),
+        Kind::Truth => Node::Truth(a == 1),
+        Kind::Name => named(s, i, binder_word(s, a)),
+        Kind::Field => raised(i, Node::Field(a as usize, c)),
+        Kind::Record => Node::Record,
+        Kind::Two(o) => raised(i, Node::Two(o, prior(start_at(s, c)), c)),
+        Kind::Not => raised(i, Node::Not(c)),
+        Kind::Comp => raised(i, Node::Comp(monoid_at(a), c)),
+        Kind::Table => Node::Table(a as usize),
+        Kind::Gen => raised(i, Node::Gen(c)),
+        Kind::Bind => raised(i, Node::Bind(c)),
+        Kind::Cond => raised(i, Node::Cond(c)),
+        Kind::Unknown => Node::Bad,
+    }
+}
+
+// Term k of the record at node i, by walking back from its last one.
+pub fn child(s: &[u64], i: usize, k: usize) -> Found
+    ensures { λ r. ⌜ Picks (now (s .entry)) i k r ⌝ }
+{
+    let n = front_words::arg(front_words::node_word(s, i)) as usize;
+    if i == 0 {
+        return Found::Nothing;
+    }
+    if n <= k {
+        return Found::Nothing;
+    }
+    let mut left = n - 1 - k;
+    let mut e = i;
+    while 0 < left {
+        e = start_at(s, prior(e));
+        left -= 1;
+    }
+    Found::At(prior(e))
+}
+
+// What node x binds a name to.
+pub fn bound_by(s: &[u64], x: usize) -> Binder
+    ensures { λ r. ⌜ BoundBy (now (s .entry)) x r ⌝ }
+{
+    match look(s, x) {
+        Node::Gen(c) => Binder::Gen(c),
+        Node::Bind(c) => Binder::Bind(c),
+        _ => Binder::Other,
+    }
+}

@@ -1,0 +1,260 @@
+// A question's bytes become node words: "a comprehension reads qualifiers, a qualifier reads terms, and a term may be a
+// comprehension again". Each reader passes on the part of the bytes that starts behind a record's header.
+mod bytes;
+mod value;
+
+ghost use mathlib.Core.Path.{_≡_};
+ghost use Prim.Native.Nat.{_+_, _≤_, _<_};
+ghost use lib.ListN.{length};
+ghost use Rattle.front_parser.specs.Scratch.{Room};
+ghost use Rattle.front_parser.specs.Reads.{TermRead, TermsRead, CompoundRead, ContentRead, headOf, ItemRead, PartsRead, ComprehensionRead, QuestionRead};
+use bytes::Begun;
+use bytes::Header;
+use bytes::begin;
+use bytes::byte;
+use bytes::read_header;
+use value::Ahead;
+use value::Shape;
+use value::Value;
+use value::finish;
+use value::fixed;
+use value::leaf;
+use value::look_ahead;
+use value::shape_of;
+
+// Where a reader stands: how many levels may still be opened and how many records begun, the next node, and how many
+// comprehensions are around it.
+pub struct Place {
+    pub levels: usize,
+    pub left: usize,
+    pub node: usize,
+    pub depth: u64,
+}
+
+// How many terms a record's content may have, and how many bytes stand before them.
+pub struct Counts {
+    pub least: usize,
+    pub most: usize,
+    pub skip: usize,
+}
+
+// A record's content was read whole: how many records may still be begun, and the next node.
+pub enum Filled {
+    Read(usize, usize),
+    Refused(u64),
+}
+
+// The term at the front of some bytes: how many bytes it takes, and as above.
+pub enum Front {
+    Read(usize, usize, usize),
+    Refused(u64),
+}
+
+// Terms up to the end of the bytes: how many, and as above.
+pub enum Several {
+    Read(usize, usize, usize),
+    Refused(u64),
+}
+
+// A qualifier or the head at the front of some bytes, as a term.
+pub enum Item {
+    Qualifier(usize, usize, usize),
+    Head(usize, usize, usize),
+    Refused(u64),
+}
+
+// The number of nodes, or the refusal.
+pub enum Read {
+    Question(usize),
+    Refused(u64),
+}
+
+// The record at the front, where a term must stand.
+fn term(l: &[u8], s: &mut [u64], p: Place) -> Front
+    requires { ⌜ Room 0 (now s) p ⌝ }
+    ensures { λ r. ⌜ TermRead (now (l .entry)) (now (s .entry)) p (now (s .exit)) r ⌝ }
+{
+    match begin(l, p) {
+        Begun::Refused(x) => Front::Refused(x),
+        Begun::Record(k, e, b) => match content(k, &l[4..e], s, b) {
+            Filled::Refused(x) => Front::Refused(x),
+            Filled::Read(left, node) => Front::Read(e, left, node),
+        },
+    }
+}
+
+// A term's content, by its kind.
+fn content(k: u64, c: &[u8], s: &mut [u64], p: Place) -> Filled
+    requires { ⌜ Room 1 (now s) p ⌝ }
+    ensures { λ r. ⌜ ContentRead k (now (c .entry)) (now (s .entry)) p (now (s .exit)) r ⌝ }
+{
+    match shape_of(k) {
+        Shape::Value => leaf(k, c, s, p),
+        Shape::Terms(h) => compound(k, h, c, s, p),
+        Shape::Comprehension => comprehension(c, s, p),
+        Shape::Other => Filled::Refused(22),
+    }
+}
+
+// Content that is terms, behind a field's index or a name: kinds 4 to 13 and the qualifiers.
+fn compound(k: u64, h: Counts, c: &[u8], s: &mut [u64], p: Place) -> Filled
+    requires { ⌜ (k < 32) × Room 1 (now s) p ⌝ }
+    ensures { λ r. ⌜ CompoundRead k h (now (c .entry)) (now (s .entry)) p (now (s .exit)) r ⌝ }
+{
+    let skip = h.skip;
+    let Value::Is(a) = fixed(skip, c) else {
+        return Filled::Refused(22);
+    };
+    match terms(&c[skip..], s, p, h.most) {
+        Several::Refused(x) => Filled::Refused(x),
+        Several::Read(count, left, node) => {
+            if count < h.least {
+                return Filled::Refused(22);
+            }
+            if skip == 0 {
+                return finish(s, k, count as u64, p, left, node);
+            }
+            finish(s, k, a, p, left, node)
+        }
+    }
+}
+
+// Terms one behind the other, at most so many, up to the end of the bytes.
+fn terms(l: &[u8], s: &mut [u64], p: Place, most: usize) -> Several
+    requires { ⌜ Room 0 (now s) p ⌝ }
+    ensures { λ r. ⌜ TermsRead most (now (l .entry)) (now (s .entry)) p (now (s .exit)) r ⌝ }
+{
+    if l.len() == 0 {
+        return Several::Read(0, p.left, p.node);
+    }
+    if most == 0 {
+        return Several::Refused(22);
+    }
+    match term(l, s, p) {
+        Front::Refused(x) => Several::Refused(x),
+        Front::Read(used, left, node) => {
+            let next = Place {
+                levels: p.levels,
+                left,
+                node,
+                depth: p.depth,
+            };
+            match terms(&l[used..], s, next, most - 1) {
+                Several::Refused(x) => Several::Refused(x),
+                Several::Read(count, rest, end) => Several::Read(count + 1, rest, end),
+            }
+        }
+    }
+}
+
+// The content of kind 14: a monoid, qualifiers, a head.
+fn comprehension(c: &[u8], s: &mut [u64], p: Place) -> Filled
+    requires { ⌜ Room 1 (now s) p ⌝ }
+    ensures { λ r. ⌜ ComprehensionRead (now (c .entry)) (now (s .entry)) p (now (s .exit)) r ⌝ }
+{
+    if c.len() == 0 {
+        return Filled::Refused(22);
+    }
+    let m = byte(c, 0);
+    if m == 0 {
+        return Filled::Refused(22);
+    }
+    if 8 < m {
+        return Filled::Refused(22);
+    }
+    let inside = Place {
+        levels: p.levels,
+        left: p.left,
+        node: p.node,
+        depth: p.depth + 1,
+    };
+    match parts(&c[1..], s, inside) {
+        Filled::Refused(x) => Filled::Refused(x),
+        Filled::Read(left, node) => finish(s, 14, m, p, left, node),
+    }
+}
+
+// "Any count of qualifiers, then one head term", which fills the rest.
+fn parts(l: &[u8], s: &mut [u64], p: Place) -> Filled
+    requires { ⌜ Room 0 (now s) p ⌝ }
+    ensures { λ r. ⌜ PartsRead (now (l .entry)) (now (s .entry)) p (now (s .exit)) r ⌝ }
+{
+    match qualifier(l, s, p) {
+        Item::Refused(x) => Filled::Refused(x),
+        Item::Qualifier(used, left, node) => {
+            let next = Place {
+                levels: p.levels,
+                left,
+                node,
+                depth: p.depth,
+            };
+            parts(&l[used..], s, next)
+        }
+        Item::Head(used, left, node) => {
+            if used < l.len() {
+                Filled::Refused(22)
+            } else {
+                Filled::Read(left, node)
+            }
+        }
+    }
+}
+
+// The record at the front, where a qualifier may stand; what is no qualifier is the head.
+fn qualifier(l: &[u8], s: &mut [u64], p: Place) -> Item
+    requires { ⌜ Room 0 (now s) p ⌝ }
+    ensures { λ r. ⌜ ItemRead (now (l .entry)) (now (s .entry)) p (now (s .exit)) r ⌝ }
+{
+    match begin(l, p) {
+        Begun::Refused(x) => Item::Refused(x),
+        Begun::Record(k, e, b) => match look_ahead(k) {
+            Ahead::Term => as_head(term(l, s, p)),
+            Ahead::Qualifier(h) => match compound(k, h, &l[4..e], s, b) {
+                Filled::Refused(x) => Item::Refused(x),
+                Filled::Read(left, node) => Item::Qualifier(e, left, node),
+            },
+        },
+    }
+}
+
+fn as_head(r: Front) -> Item
+    ensures { λ i. ⌜ i ≡ headOf r ⌝ }
+{
+    match r {
+        Front::Read(used, left, node) => Item::Head(used, left, node),
+        Front::Refused(x) => Item::Refused(x),
+    }
+}
+
+// "A question is one record of kind 14", and nothing behind it. "23: a 33rd level (the question is level 1) or a 257th
+// record": 31 levels and 255 records more.
+pub fn read_question(l: &[u8], s: &mut [u64]) -> Read
+    requires { ⌜ 8192 ≤ length (now s) ⌝ }
+    ensures { λ r. ⌜ QuestionRead (now (l .entry)) (now (s .entry)) (now (s .exit)) r ⌝ }
+{
+    if 4096 < l.len() {
+        return Read::Refused(21);
+    }
+    let Header::Record(k, e) = read_header(l) else {
+        return Read::Refused(22);
+    };
+    if k != 14 {
+        return Read::Refused(22);
+    }
+    let first = Place {
+        levels: 31,
+        left: 255,
+        node: 0,
+        depth: 0,
+    };
+    match comprehension(&l[4..e], s, first) {
+        Filled::Refused(x) => Read::Refused(x),
+        Filled::Read(_, n) => {
+            if e < l.len() {
+                Read::Refused(22)
+            } else {
+                Read::Question(n)
+            }
+        }
+    }
+}

@@ -1,0 +1,205 @@
+// What a record's kind says of its content, and the records without records inside.
+ghost use Prim.Native.Nat.{_+_, _<_};
+ghost use lib.ListN.{getD};
+ghost use Rattle.spec_encoding.specs.Reader.{kinds, unknown, number, truthK, nameK, tableK};
+ghost use Rattle.front_parser.specs.Scratch.{Room, Finishing, Finished};
+ghost use Rattle.front_parser.specs.Kinds.{Shaped, Looks, Valued, LeafKind, Fixed};
+ghost use Rattle.front_parser.specs.Reads.{ContentRead};
+use super::bytes::byte;
+use super::bytes::two;
+use crate::Counts;
+use crate::Filled;
+use crate::Place;
+use front_words::put_node;
+
+// What a term's content is.
+pub enum Shape {
+    Value,
+    Terms(Counts),
+    Comprehension,
+    Other,
+}
+
+// Whether a qualifier stands ahead, and what its content is.
+pub enum Ahead {
+    Qualifier(Counts),
+    Term,
+}
+
+// The argument that some bytes hold.
+pub enum Value {
+    Is(u64),
+    Broken,
+}
+
+pub fn shape_of(k: u64) -> Shape
+    ensures { λ r. ⌜ Shaped k r ⌝ }
+{
+    if k == 0 {
+        return Shape::Other;
+    }
+    if k <= 3 {
+        return Shape::Value;
+    }
+    if 15 < k {
+        return Shape::Other;
+    }
+    match k {
+        4 => Shape::Terms(Counts {
+            least: 1,
+            most: 1,
+            skip: 1,
+        }),
+        5 => Shape::Terms(Counts {
+            least: 1,
+            most: 8,
+            skip: 0,
+        }),
+        13 => Shape::Terms(Counts {
+            least: 1,
+            most: 1,
+            skip: 0,
+        }),
+        14 => Shape::Comprehension,
+        15 => Shape::Value,
+        _ => Shape::Terms(Counts {
+            least: 2,
+            most: 2,
+            skip: 0,
+        }),
+    }
+}
+
+pub fn look_ahead(k: u64) -> Ahead
+    ensures { λ r. ⌜ Looks k r ⌝ }
+{
+    match k {
+        16 => Ahead::Qualifier(Counts {
+            least: 1,
+            most: 1,
+            skip: 2,
+        }),
+        17 => Ahead::Qualifier(Counts {
+            least: 1,
+            most: 1,
+            skip: 2,
+        }),
+        18 => Ahead::Qualifier(Counts {
+            least: 1,
+            most: 1,
+            skip: 0,
+        }),
+        _ => Ahead::Term,
+    }
+}
+
+// One byte: a field's index, a table's number.
+fn index(c: &[u8]) -> Value
+    ensures { λ r. ⌜ Fixed 1 (now (c .entry)) r ⌝ }
+{
+    if c.len() < 1 {
+        return Value::Broken;
+    }
+    Value::Is(byte(c, 0))
+}
+
+// "Name (2 bytes, 0 to 255)"
+fn short(c: &[u8]) -> Value
+    ensures { λ r. ⌜ Fixed 2 (now (c .entry)) r ⌝ }
+{
+    if c.len() < 2 {
+        return Value::Broken;
+    }
+    let x = two(c, 0);
+    if x <= 255 {
+        Value::Is(x)
+    } else {
+        Value::Broken
+    }
+}
+
+// The bytes before a record's terms: none, a field's index, or a name.
+pub fn fixed(skip: usize, c: &[u8]) -> Value
+    ensures { λ r. ⌜ Fixed skip (now (c .entry)) r ⌝ }
+{
+    match skip {
+        0 => Value::Is(0),
+        1 => index(c),
+        2 => short(c),
+        _ => Value::Broken,
+    }
+}
+
+fn number(c: &[u8]) -> Value
+    ensures { λ r. ⌜ Valued number (now (c .entry)) r ⌝ }
+{
+    if c.len() != 4 {
+        return Value::Broken;
+    }
+    let n = two(c, 0) + 65536 * two(c, 2);
+    if n < 2147483648 {
+        Value::Is(n + 2147483648)
+    } else {
+        Value::Is(n - 2147483648)
+    }
+}
+
+fn truth(c: &[u8]) -> Value
+    ensures { λ r. ⌜ Valued truthK (now (c .entry)) r ⌝ }
+{
+    if c.len() != 1 {
+        return Value::Broken;
+    }
+    let b = byte(c, 0);
+    if b <= 1 { Value::Is(b) } else { Value::Broken }
+}
+
+fn name(c: &[u8]) -> Value
+    ensures { λ r. ⌜ Valued nameK (now (c .entry)) r ⌝ }
+{
+    if c.len() != 2 {
+        return Value::Broken;
+    }
+    short(c)
+}
+
+fn table(c: &[u8]) -> Value
+    ensures { λ r. ⌜ Valued tableK (now (c .entry)) r ⌝ }
+{
+    if c.len() != 1 {
+        return Value::Broken;
+    }
+    index(c)
+}
+
+// Numbers, truths, names and tables.
+fn argument(k: u64, c: &[u8]) -> Value
+    requires { ⌜ LeafKind k ⌝ }
+    ensures { λ r. ⌜ Valued (getD kinds k unknown) (now (c .entry)) r ⌝ }
+{
+    match k {
+        1 => number(c),
+        2 => truth(c),
+        3 => name(c),
+        _ => table(c),
+    }
+}
+
+// A record's own node, behind the nodes inside it.
+pub fn finish(s: &mut [u64], k: u64, a: u64, p: Place, left: usize, i: usize) -> Filled
+    requires { ⌜ Finishing (now s) k a p i ⌝ }
+    ensures { λ r. ⌜ Finished (now (s .entry)) k a p left i (now (s .exit)) r ⌝ }
+{
+    put_node(s, i, k, a, p.node as u64, p.depth);
+    Filled::Read(left, i + 1)
+}
+
+pub fn leaf(k: u64, c: &[u8], s: &mut [u64], p: Place) -> Filled
+    requires { ⌜ LeafKind k × Room 1 (now s) p ⌝ }
+    ensures { λ r. ⌜ ContentRead k (now (c .entry)) (now (s .entry)) p (now (s .exit)) r ⌝ }
+{
+    match argument(k, c) {
+        Value::Broken => Filled::Refused(22),
+        Value::Is(a) => finish(s, k, a, p, p.left, p.node),
+    }
+}

@@ -1,0 +1,115 @@
+// How much each node writes, in scratch: the only readers and writers of these words.
+ghost use mathlib.Core.Path.{_≡_};
+ghost use Prim.Native.Nat.{_+_, _<_};
+ghost use lib.ListN.{set};
+ghost use Rattle.front_sizes.specs.Packing.{place, wordAt, pairOf, pack, Small, termCount, conditionCount, splicedCount, stored};
+
+// What something writes: its size and its generators. Of a qualifier's offsets: where "some" does not give way, where it does.
+pub struct Count {
+    pub size: u64,
+    pub gens: u64,
+}
+
+// Where the words begin.
+const SIZES: usize = 784;
+
+// Word k of node i; 0 where the scratch has none.
+fn word(s: &[u64], i: usize, k: usize) -> u64
+    requires { ⌜ k < 2 ⌝ }
+    ensures { λ r. ⌜ r ≡ wordAt (now (s .entry)) i k ⌝ }
+{
+    if s.len() <= i {
+        return 0;
+    }
+    let j = SIZES + 2 * i + k;
+    if j < s.len() { s[j] } else { 0 }
+}
+
+// The pair in the low 20 bits.
+fn pair(w: u64) -> Count
+    ensures { λ r. ⌜ r ≡ pairOf w ⌝ }
+{
+    Count {
+        size: w % 1024,
+        gens: w / 1024 % 1024,
+    }
+}
+
+pub fn term_count(s: &[u64], i: usize) -> Count
+    ensures { λ r. ⌜ r ≡ termCount (now (s .entry)) i ⌝ }
+{
+    pair(word(s, i, 0))
+}
+
+// `v` says whether "some" gives way.
+pub fn condition_count(s: &[u64], i: usize, v: bool) -> Count
+    ensures { λ r. ⌜ r ≡ conditionCount (now (s .entry)) i v ⌝ }
+{
+    let w = word(s, i, 0);
+    if v {
+        return pair(w / 1099511627776);
+    }
+    pair(w / 1048576)
+}
+
+pub fn spliced_count(s: &[u64], i: usize, v: bool) -> Count
+    ensures { λ r. ⌜ r ≡ splicedCount (now (s .entry)) i v ⌝ }
+{
+    let w = word(s, i, 1);
+    if v {
+        return pair(w / 1048576);
+    }
+    pair(w)
+}
+
+// The offset that is stored for node i: once `measure` has run, how many generators the qualifiers before qualifier i write.
+pub fn offset(s: &[u64], i: usize, v: bool) -> u64
+    ensures { λ r. ⌜ (r ≡ stored (now (s .entry)) i v) × (r < 1024) ⌝ }
+{
+    let w = word(s, i, 1) / 1099511627776;
+    if v {
+        return w / 1024 % 1024;
+    }
+    w % 1024
+}
+
+// Three pairs as a word.
+fn packed(a: Count, b: Count, c: Count) -> u64
+    requires { ⌜ Small a × Small b × Small c ⌝ }
+    ensures { λ r. ⌜ r ≡ pack a b c ⌝ }
+{
+    let low = a.size + 1024 * a.gens;
+    let mid = b.size + 1024 * b.gens;
+    let high = c.size + 1024 * c.gens;
+    low + 1048576 * (mid + 1048576 * high)
+}
+
+// Node i gets word k. A store outside the scratch does nothing.
+fn put(s: &mut [u64], i: usize, k: usize, w: u64)
+    requires { ⌜ k < 2 ⌝ }
+    ensures { λ r. ⌜ now (s .exit) ≡ set (now (s .entry)) (place i k) w ⌝ }
+{
+    if s.len() <= i {
+        return;
+    }
+    let j = SIZES + 2 * i + k;
+    if j < s.len() {
+        s[j] = w;
+    }
+}
+
+// Node i as a term, and as a condition where "some" does not give way and where it does.
+pub fn put_first(s: &mut [u64], i: usize, term: Count, stays: Count, yields: Count)
+    requires { ⌜ Small term × Small stays × Small yields ⌝ }
+    ensures { λ r. ⌜ now (s .exit) ≡ set (now (s .entry)) (place i 0) (pack term stays yields) ⌝ }
+{
+    put(s, i, 0, packed(term, stays, yields));
+}
+
+// Node i spliced, where "some" does not give way and where it does, and its offsets.
+pub fn put_second(s: &mut [u64], i: usize, stays: Count, yields: Count, offsets: Count)
+    requires { ⌜ Small stays × Small yields × Small offsets ⌝ }
+    ensures { λ r. ⌜ now (s .exit) ≡ set (now (s .entry)) (place i 1) (pack stays yields offsets) ⌝ }
+{
+    put(s, i, 1, packed(stays, yields, offsets));
+}

@@ -1,0 +1,76 @@
+// The nodes of a question in scratch: the only readers and writers of a node's word.
+ghost use mathlib.Core.Path.{_≡_};
+ghost use Prim.Native.Nat.{_+_, _≤_, _<_};
+ghost use lib.ListN.{set};
+ghost use Rattle.front_words.specs.Layout.{nodesAt};
+ghost use Rattle.front_words.specs.Packing.{kindOf, argOf, startOf, depthOf, pack, nodeWord};
+ghost use Rattle.front_words.specs.Tree.{startAt};
+
+// Where the node words begin.
+const NODES: usize = 16;
+
+// The word of node i; 0 where the scratch has none.
+pub fn node_word(s: &[u64], i: usize) -> u64
+    ensures { λ r. ⌜ r ≡ nodeWord (now (s .entry)) i ⌝ }
+{
+    if s.len() <= i {
+        return 0;
+    }
+    let j = NODES + i;
+    if j < s.len() { s[j] } else { 0 }
+}
+
+pub fn kind(w: u64) -> u64
+    ensures { λ r. ⌜ r ≡ kindOf w ⌝ }
+{
+    w % 32
+}
+
+pub fn arg(w: u64) -> u64
+    ensures { λ r. ⌜ r ≡ argOf w ⌝ }
+{
+    w / 32 % 8589934592
+}
+
+pub fn start(w: u64) -> u64
+    ensures { λ r. ⌜ r ≡ startOf w ⌝ }
+{
+    w / 274877906944 % 512
+}
+
+pub fn depth(w: u64) -> u64
+    ensures { λ r. ⌜ r ≡ depthOf w ⌝ }
+{
+    w / 140737488355328 % 64
+}
+
+// Where the subtree of node i begins, which is where the node before it ends; i where the word says a later node.
+pub fn start_at(s: &[u64], i: usize) -> usize
+    ensures { λ r. ⌜ (r ≡ startAt (now (s .entry)) i) × (r ≤ i) ⌝ }
+{
+    let b = start(node_word(s, i)) as usize;
+    if b < i { b } else { i }
+}
+
+// A node's word of its parts.
+pub fn packed(k: u64, a: u64, start: u64, depth: u64) -> u64
+    requires { ⌜ (k < 32) × (a < 8589934592) × (start < 512) × (depth < 64) ⌝ }
+    ensures { λ r. ⌜ r ≡ pack k a start depth ⌝ }
+{
+    k + 32 * (a + 8589934592 * (start + 512 * depth))
+}
+
+// Node i gets its word. A store outside the scratch does nothing.
+pub fn put_node(s: &mut [u64], i: usize, k: u64, a: u64, start: u64, depth: u64)
+    requires { ⌜ (k < 32) × (a < 8589934592) × (start < 512) × (depth < 64) ⌝ }
+    ensures { λ r. ⌜ now (s .exit) ≡ set (now (s .entry)) (nodesAt + i) (pack k a start depth) ⌝ }
+{
+    let w = packed(k, a, start, depth);
+    if s.len() <= i {
+        return;
+    }
+    let j = NODES + i;
+    if j < s.len() {
+        s[j] = w;
+    }
+}

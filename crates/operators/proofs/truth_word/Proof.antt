@@ -1,7 +1,0 @@
-use mathlib.Core.Path.{sym, ap}
-use Rattle.operators.specs.Sorts.{truthWord}
-use Rattle.operators.proofs.truth_word.Statement.{statement}
-use Rattle.operators.proofs.truth_word.Tie as tie
-
-pub truth-word-spec : {M : Type 1} → statement M
-truth-word-spec = tie.close (tie.spec (λ c. sym (ap truthWord (c .if1 .taken))) (λ c. sym (ap truthWord (c .if1 .left))))

@@ -1,0 +1,147 @@
+-- A value folded anew: each collection in it, the innermost first, is made again of its elements by an entry.
+use mathlib.Core.Path.{_≡_, refl, sym, ap, ap₂, _∙_, fun-ext}
+use mathlib.Core.List.{List, [], _∷_, map}
+use mathlib.Core.Bool.{_&&_, _||_}
+use Prim.Native.Nat.{ℕ, zero, suc}
+use lib.IntN.{ℤ, _+ℤ_, _-ℤ_, _*ℤ_}
+use lib.Signed.{ltZ}
+use Rattle.spec_calculus.specs.Syntax.{Collection, Monoid, of, sum, max, min, some, all, Bin, plus, minus, times, equal, less, and, or}
+use Rattle.spec_calculus.specs.Value.{Value, Values, vnil, vcons, toList, fromList, junk, asInt, asBool, elems, nth, fieldOf, eqZ, binV}
+use Rattle.spec_calculus.specs.Value as Va
+use Rattle.spec_calculus.specs.Monoid.{start, greater, lesser, against, Entry, step, total, finish, foldBy, ordered, canonical, raw}
+use Rattle.spec_calculus.proofs.Lists.{map-same}
+use Rattle.spec_calculus.proofs.Folds.{to-from, fold-of, arranged, canonical-of, raw-of}
+use Rattle.spec_checks.specs.Types.{Ty, Tys, number, truth, record′, coll, ynil, ycons, has, cells, typeAt}
+use Rattle.spec_checks.proofs.Judgement.{result, untyped, same-type}
+
+-- what r makes of a record, k of a collection; a number and a truth stay
+unfoldable pub onParts : (Values → Value) → (Values → Value) → Value → Value
+onParts r k (Va.num z) = Va.num z
+onParts r k (Va.truth b) = Va.truth b
+onParts r k (Va.rec vs) = r vs
+onParts r k (Va.coll vs) = k vs
+
+-- a value of a type, each collection in it folded anew, the innermost first
+unfoldable mutual
+  pub refold : Entry → Ty → Value → Value
+  refold E number v = v
+  refold E truth v = v
+  refold E (record′ ts) v = onParts (λ vs. Va.rec (refolds E ts vs)) Va.coll v
+  refold E (coll c t) v = onParts Va.rec (λ vs. foldBy E (of c) (map (λ w. refold E t w) (toList vs))) v
+
+  pub refolds : Entry → Tys → Values → Values
+  refolds E ynil vs = vs
+  refolds E (ycons t ts) vnil = vnil
+  refolds E (ycons t ts) (vcons v vs) = vcons (refold E t v) (refolds E ts vs)
+
+-- the type of a comprehension of m with heads of type t
+unfoldable pub gathered : Monoid → Ty → Ty
+gathered (of c) t = coll c t
+gathered sum t = number
+gathered max t = number
+gathered min t = number
+gathered some t = truth
+gathered all t = truth
+
+-- as the values of questions are: each list as it is, each bag sorted, each set sorted without repeats
+abbrev pub arrangeAs : Ty → Value → Value
+arrangeAs t v = refold ordered t v
+
+pub arrange-coll : (c : Collection) (t : Ty) (vs : Values) → arrangeAs (coll c t) (Va.coll vs) ≡ Va.coll (fromList (arranged c (map (arrangeAs t) (toList vs))))
+unfolding refold onParts canonical
+arrange-coll c t vs = canonical-of c (map (arrangeAs t) (toList vs))
+
+-- a relation that holds of each value and itself, and of what becomes of a record or collection and that
+pub by-parts : (P : Value → Value → Type 0) → ((v : Value) → P v v) → (r k : Values → Value) → ((vs : Values) → P (r vs) (Va.rec vs)) → ((vs : Values) → P (k vs) (Va.coll vs)) → (v : Value) → P (onParts r k v) v
+unfolding onParts
+by-parts P h r k p q (Va.num z) = h (Va.num z)
+by-parts P h r k p q (Va.truth b) = h (Va.truth b)
+by-parts P h r k p q (Va.rec vs) = p vs
+by-parts P h r k p q (Va.coll vs) = q vs
+
+-- the same number or truth, where they are read as one
+abbrev pub Reads : Value → Value → Type 0
+Reads v w = (asInt v ≡ asInt w) × (asBool v ≡ asBool w)
+
+module _ (E : Entry) where
+  -- What is folded anew reads as it did; so the operators give the same.
+  pub refold-reads : (t : Ty) (v : Value) → Reads (refold E t v) v
+  unfolding refold asInt asBool
+  refold-reads number v = (refl, refl)
+  refold-reads truth v = (refl, refl)
+  refold-reads (record′ ts) v = by-parts Reads (λ w. (refl, refl)) _ _ (λ vs. (refl, refl)) (λ vs. (refl, refl)) v
+  refold-reads (coll c t) v = by-parts Reads (λ w. (refl, refl)) _ _ (λ vs. (refl, refl)) (λ vs. (ap asInt (fold-of E c _), ap asBool (fold-of E c _))) v
+
+  pub bin-refold : (o : Bin) (s t : Ty) (v w : Value) → binV o (refold E s v) (refold E t w) ≡ refold E (result o) (binV o v w)
+  unfolding binV result refold
+  bin-refold plus s t v w = ap₂ (λ a b. Va.num (a +ℤ b)) (refold-reads s v .0) (refold-reads t w .0)
+  bin-refold minus s t v w = ap₂ (λ a b. Va.num (a -ℤ b)) (refold-reads s v .0) (refold-reads t w .0)
+  bin-refold times s t v w = ap₂ (λ a b. Va.num (a *ℤ b)) (refold-reads s v .0) (refold-reads t w .0)
+  bin-refold equal s t v w = ap₂ (λ a b. Va.truth (eqZ a b)) (refold-reads s v .0) (refold-reads t w .0)
+  bin-refold less s t v w = ap₂ (λ a b. Va.truth (ltZ a b)) (refold-reads s v .0) (refold-reads t w .0)
+  bin-refold and s t v w = ap₂ (λ a b. Va.truth (a && b)) (refold-reads s v .1) (refold-reads t w .1)
+  bin-refold or s t v w = ap₂ (λ a b. Va.truth (a || b)) (refold-reads s v .1) (refold-reads t w .1)
+
+  -- The total of a monoid that holds a head's number against what it has so far.
+  total-refold : (m : Monoid) (op : ℤ → ℤ → ℤ) → ((F : Entry) (v w : Value) → step F m v w ≡ Va.num (against op (asInt v) w)) → (t : Ty) (l : List Value) → total E m (map (refold E t) l) ≡ total (λ c v n. v ∷ n) m l
+  unfolding total
+  total-refold m op h t [] = refl
+  total-refold m op h t (v ∷ l) =
+      h E (refold E t v) (total E m (map (refold E t) l)) ∙ ap₂ (λ a w. Va.num (against op a w)) (refold-reads t v .0) (total-refold m op h t l)
+      ∙ sym (h (λ c u n. u ∷ n) v (total (λ c u n. u ∷ n) m l))
+
+  -- A monoid over heads folded anew is the raw one folded anew.
+  pub fold-refold : (m : Monoid) (t : Ty) (l : List Value) → foldBy E m (map (refold E t) l) ≡ refold E (gathered m t) (raw m l)
+  unfolding refold onParts gathered raw foldBy total finish step start
+  fold-refold (of c) t l = ap (λ n. foldBy E (of c) (map (refold E t) n)) (sym (to-from l)) ∙ ap (refold E (coll c t)) (sym (raw-of c l))
+  fold-refold sum t [] = refl
+  fold-refold sum t (v ∷ l) = ap₂ (λ a w. Va.num (a +ℤ asInt w)) (refold-reads t v .0) (fold-refold sum t l)
+  fold-refold max t l = ap (λ w. Va.num (asInt w)) (total-refold max greater (λ F v w. refl) t l)
+  fold-refold min t l = ap (λ w. Va.num (asInt w)) (total-refold min lesser (λ F v w. refl) t l)
+  fold-refold some t [] = refl
+  fold-refold some t (v ∷ l) = ap₂ (λ a w. Va.truth (a || asBool w)) (refold-reads t v .1) (fold-refold some t l)
+  fold-refold all t [] = refl
+  fold-refold all t (v ∷ l) = ap₂ (λ a w. Va.truth (a && asBool w)) (refold-reads t v .1) (fold-refold all t l)
+
+  -- A field is folded anew as its type says; the elements are those of the collection folded anew; a row stays as it is.
+  junk-kept : (t : Ty) → refold E t junk ≡ junk
+  unfolding refold onParts
+  junk-kept number = refl
+  junk-kept truth = refl
+  junk-kept (record′ ts) = refl
+  junk-kept (coll c t) = refl
+
+  nth-refold : (ts : Tys) (i : ℕ) (t : Ty) → typeAt i ts ≡ has t → (vs : Values) → nth i (refolds E ts vs) ≡ refold E t (nth i vs)
+  unfolding typeAt refold nth
+  nth-refold ynil i t h vs = untyped h
+  nth-refold (ycons s ts) zero t h vnil = sym (junk-kept t)
+  nth-refold (ycons s ts) zero t h (vcons v vs) = ap (λ u. refold E u v) (sym (same-type s t h))
+  nth-refold (ycons s ts) (suc i) t h vnil = sym (junk-kept t)
+  nth-refold (ycons s ts) (suc i) t h (vcons v vs) = nth-refold ts i t h vs
+
+  pub field-refold : (ts : Tys) (i : ℕ) (t : Ty) → typeAt i ts ≡ has t → (v : Value) → fieldOf i (refold E (record′ ts) v) ≡ refold E t (fieldOf i v)
+  unfolding fieldOf refold onParts
+  field-refold ts i t h (Va.num z) = sym (junk-kept t)
+  field-refold ts i t h (Va.truth b) = sym (junk-kept t)
+  field-refold ts i t h (Va.rec vs) = nth-refold ts i t h vs
+  field-refold ts i t h (Va.coll vs) = sym (junk-kept t)
+
+  pub elems-refold : (c : Collection) (t : Ty) (v : Value) → elems (foldBy E (of c) (map (refold E t) (elems v))) ≡ elems (refold E (coll c t) v)
+  unfolding elems refold onParts foldBy total finish start
+  elems-refold c t (Va.num z) = refl
+  elems-refold c t (Va.truth b) = refl
+  elems-refold c t (Va.rec vs) = refl
+  elems-refold c t (Va.coll vs) = refl
+
+  cells-kept : (n : ℕ) (vs : Values) → refolds E (cells n) vs ≡ vs
+  unfolding cells refold
+  cells-kept zero vs = refl
+  cells-kept (suc n) vnil = refl
+  cells-kept (suc n) (vcons v vs) = ap (vcons v) (cells-kept n vs)
+
+  row-kept : (n : ℕ) (v : Value) → refold E (record′ (cells n)) v ≡ v
+  unfolding refold
+  row-kept n v = by-parts (λ w u. w ≡ u) (λ w. refl) _ _ (λ vs. ap Va.rec (cells-kept n vs)) (λ vs. refl) v
+
+  pub rows-kept : (n : ℕ) (l : List Value) → map (refold E (record′ (cells n))) l ≡ l
+  rows-kept n l = ap (λ f. map f l) (fun-ext (row-kept n)) ∙ map-same l

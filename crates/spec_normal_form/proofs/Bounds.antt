@@ -1,0 +1,342 @@
+-- Theorem 8: every number of a normal form, and every sum, maximum and minimum on the way to it, is within its bound; so within
+-- 2^62 wherever 28 does not refuse.
+use mathlib.Core.Path.{_≡_, refl, sym, ap, subst, _∙_}
+use mathlib.Core.List.{List, [], _∷_, _++_, foldl}
+use mathlib.Core.Bool.{Bool, true, false, _&&_, and-eq-true-iff}
+use Prim.Native.Nat.{ℕ, suc, _+_, _*_, _^_, _≤_}
+use native.Mathlib.Nat.{le-refl, le-trans, mul-le-mul, mul-le-mul-right, mul-comm, mul-left-comm, zero-add, suc-mul, one-mul, pow-succ'}
+use native.Mathlib.Numerals.{one-add}
+use native.Mathlib.Omega.{arith}
+use borrow.Author.Tests.{leb-true}
+use lib.Dec.{eqb, leb}
+use lib.IntN.{pos, natAbs}
+use lib.ListN.{length, length-append}
+use Rattle.spec_calculus.specs.Lists.{bindL, guard, upd}
+use Rattle.spec_calculus.specs.Syntax.{Monoid, of, sum, max, min, some, all, Bin, plus, minus, times, equal, less, and, or}
+use Rattle.spec_calculus.specs.Value.{Value, junk, asInt, asBool, fieldOf, binV, notV, Tables, columnsOf, rowsOf}
+use Rattle.spec_calculus.specs.Monoid.{start, greater, lesser, Entry, step, total, finish, Fold, foldBy}
+use Rattle.spec_calculus.specs.Meaning.{Env}
+use Rattle.spec_calculus.proofs.Lists.{All, all-bind, all-front, all-behind, all-guard}
+use Rattle.spec_calculus.proofs.Magnitude.{abs-plus, abs-minus, abs-times, abs-greater, abs-lesser, abs-against}
+use Rattle.spec_calculus.proofs.WellFormed.{Row, cell-small, row-no-number, WellFormed, rows-at-most, rows-well-formed}
+use Rattle.spec_normal_form.specs.Form.{Form, Forms, Clauses, NormalForm, asForm, num, truth, row, cell, rec, bin, negate, comp, fnil, fcons, done, gen, cond, value, loops}
+use Rattle.spec_normal_form.specs.Bound.{ownGens, binBound, compBound, bound, within, withinF, withinC, numbersFit}
+
+-- ---- lists
+-- Each element gives at most n, so a list of them gives at most its length times n.
+pub bind-length : {A B : Type 0} (f : A → List B) (n : ℕ) → ((a : A) → length (f a) ≤ n) → (l : List A) → length (bindL l f) ≤ length l * n
+unfolding bindL
+bind-length f n h [] = omega arith
+bind-length f n h (a ∷ l) = omega (arith, length-append (f a) (bindL l f), h a, bind-length f n h l, suc-mul (length l) n)
+
+guard-length : {A : Type 0} (b : Bool) (l : List A) → length (guard b l) ≤ length l
+unfolding guard
+guard-length true l = le-refl (length l)
+guard-length false l = omega arith
+
+-- ---- what generators stand for
+-- no number itself, its fields within four signed bytes: a row of a well formed table, or nothing yet
+pub record Cells (v : Value) : Type 0 where
+  pub no-number : asInt v ≡ pos 0
+  pub fields : (i : ℕ) → natAbs (asInt (fieldOf i v)) ≤ 2 ^ 31
+
+abbrev pub RowsIn : Env → Type 0
+RowsIn ρ = (g : ℕ) → Cells (ρ g)
+
+row-cells : {n : ℕ} {v : Value} → Row n v → Cells v
+row-cells r = record { no-number = row-no-number r; fields = cell-small r }
+
+-- Where no generator has run yet.
+pub rows-none : RowsIn (λ g. junk)
+unfolding asInt fieldOf
+rows-none g = record { no-number = refl; fields = λ i. omega arith }
+
+-- Where one more generator stands for a row.
+pub rows-next : {n : ℕ} {v : Value} (g : ℕ) (ρ : Env) → Row n v → RowsIn ρ → RowsIn (upd g v ρ)
+unfolding upd
+rows-next {n} {v} g ρ r R x = go (eqb g x)
+  where
+    go : (b : Bool) → Cells (elim b [ true ↦ v | false ↦ ρ x ])
+    go true = row-cells r
+    go false = R x
+
+-- ---- folds over heads of a given magnitude
+-- read as a number, of magnitude at most b
+abbrev pub Small : ℕ → Value → Type 0
+Small b v = natAbs (asInt v) ≤ b
+
+-- the bound of a monoid over n heads, each within b
+unfoldable pub foldBound : Monoid → ℕ → ℕ → ℕ
+foldBound (of c) n b = 0
+foldBound sum n b = n * b
+foldBound max n b = b
+foldBound min n b = b
+foldBound some n b = 0
+foldBound all n b = 0
+
+pub fold-more : (m : Monoid) {n k : ℕ} (b : ℕ) → n ≤ k → foldBound m n b ≤ foldBound m k b
+unfolding foldBound
+fold-more (of c) b h = omega arith
+fold-more sum b h = mul-le-mul-right b h
+fold-more max b h = le-refl b
+fold-more min b h = le-refl b
+fold-more some b h = omega arith
+fold-more all b h = omega arith
+
+start-small : (m : Monoid) (b : ℕ) → Small b (start m)
+unfolding start asInt
+start-small (of c) b = omega arith
+start-small sum b = omega arith
+start-small max b = omega arith
+start-small min b = omega arith
+start-small some b = omega arith
+start-small all b = omega arith
+
+-- One more head.
+pub step-bound : (E : Entry) (m : Monoid) (b n : ℕ) (v w : Value) → Small b v → Small (foldBound m n b) w → Small (foldBound m (suc n) b) (step E m v w)
+unfolding step foldBound asInt
+step-bound E (of c) b n v w p q = omega arith
+step-bound E sum b n v w p q = omega (arith, abs-plus (asInt v) (asInt w), suc-mul n b)
+step-bound E max b n v w p q = abs-against greater abs-greater (asInt v) w b p q
+step-bound E min b n v w p q = abs-against lesser abs-lesser (asInt v) w b p q
+step-bound E some b n v w p q = omega arith
+step-bound E all b n v w p q = omega arith
+
+-- a total, and the value that it comes to
+finish-small : (m : Monoid) (w : Value) (b : ℕ) → Small b w → Small b (finish m w)
+unfolding finish asInt
+finish-small (of c) w b h = h
+finish-small sum w b h = h
+finish-small max w b h = h
+finish-small min w b h = h
+finish-small some w b h = h
+finish-small all w b h = h
+
+-- a total, and one more head, as a loop takes them
+abbrev pub taken : Entry → Monoid → Value → Value → Value
+taken E m w v = step E m v w
+
+module _ (E : Entry) (m : Monoid) (b : ℕ) where
+  -- Heads within b, folded from the right, are within the bound of their count: a sum within length times b, a max or min within b.
+  total-right : (l : List Value) → All (Small b) l → Small (foldBound m (length l) b) (total E m l)
+  unfolding total
+  total-right [] h = start-small m (foldBound m 0 b)
+  total-right (v ∷ l) h = step-bound E m b (length l) v (total E m l) (h .0) (total-right l (h .1))
+
+  pub fold-right : (l : List Value) → All (Small b) l → Small (foldBound m (length l) b) (foldBy E m l)
+  unfolding foldBy
+  fold-right l h = finish-small m (total E m l) (foldBound m (length l) b) (total-right l h)
+
+  -- The same from the left, as a loop accumulates, where w is within the bound of n heads.
+  pub fold-left : (n : ℕ) (w : Value) (l : List Value) → Small (foldBound m n b) w → All (Small b) l → Small (foldBound m (n + length l) b) (foldl (taken E m) w l)
+  fold-left n w [] p h = le-trans p (fold-more m b (omega arith))
+  fold-left n w (v ∷ l) p h = le-trans (fold-left (suc n) (taken E m w v) l (step-bound E m b n v w (h .0) p) (h .1)) (fold-more m b (omega arith))
+
+-- ---- the heads that the loops meet
+abbrev pub heads : Fold → Tables → Clauses → Form → Env → List Value
+heads F T q h ρ = loops F T q (λ σ. value F T h σ ∷ []) ρ
+
+power : (g : ℕ) → 1024 ^ (1 + g) ≡ 1024 * 1024 ^ g
+power g = ap (λ (n : ℕ). 1024 ^ n) (one-add g) ∙ pow-succ' 1024 g
+
+module _ (F : Fold) {T : Tables} (W : WellFormed T) where
+  -- What holds of the heads wherever generators stand for rows holds of all heads.
+  pub loops-all : (P : Value → Type 0) (k : Env → List Value) → ((σ : Env) → RowsIn σ → All P (k σ))
+      → (q : Clauses) (ρ : Env) → RowsIn ρ → All P (loops F T q k ρ)
+  unfolding loops
+  loops-all P k h done ρ R = h ρ R
+  loops-all P k h (gen g t q) ρ R = all-bind (Row (columnsOf T t)) P (λ v. loops F T q k (upd g v ρ)) (rowsOf T t) (rows-well-formed W t)
+      (λ v r. loops-all P k h q (upd g v ρ) (rows-next g ρ r R))
+  loops-all P k h (cond t q) ρ R = all-guard P (asBool (value F T t ρ)) (loops F T q k ρ) (loops-all P k h q ρ R)
+
+  -- The loops meet at most 1,024 heads for each generator, multiplied.
+  pub loops-length : (k : Env → List Value) (n : ℕ) → ((σ : Env) → length (k σ) ≤ n)
+      → (q : Clauses) (ρ : Env) → length (loops F T q k ρ) ≤ n * 1024 ^ ownGens q
+  unfolding loops ownGens
+  loops-length k n h done ρ = omega (arith, h ρ)
+  loops-length k n h (gen g t q) ρ = le-trans (bind-length (λ v. loops F T q k (upd g v ρ)) (n * 1024 ^ ownGens q) (λ v. loops-length k n h q (upd g v ρ)) (rowsOf T t))
+      (subst (λ (b : ℕ). length (rowsOf T t) * (n * 1024 ^ ownGens q) ≤ b) (mul-left-comm 1024 n (1024 ^ ownGens q) ∙ ap (λ (b : ℕ). n * b) (sym (power (ownGens q))))
+      (mul-le-mul-right (n * 1024 ^ ownGens q) (rows-at-most W t)))
+  loops-length k n h (cond t q) ρ = le-trans (guard-length (asBool (value F T t ρ)) (loops F T q k ρ)) (loops-length k n h q ρ)
+
+-- ---- operands
+-- Plus, minus and times of numbers within a and b are within the result's bound.
+pub bin-bound : (o : Bin) (v w : Value) (a b : ℕ) → Small a v → Small b w → Small (binBound o a b) (binV o v w)
+unfolding binV binBound asInt
+bin-bound plus v w a b p q = omega (arith, abs-plus (asInt v) (asInt w))
+bin-bound minus v w a b p q = omega (arith, abs-minus (asInt v) (asInt w))
+bin-bound times v w a b p q = le-trans (abs-times (asInt v) (asInt w)) (mul-le-mul p q)
+bin-bound equal v w a b p q = omega arith
+bin-bound less v w a b p q = omega arith
+bin-bound and v w a b p q = omega arith
+bin-bound or v w a b p q = omega arith
+
+comp-bound : (m : Monoid) (g b : ℕ) → foldBound m (1024 ^ g) b ≡ compBound m g b
+unfolding foldBound compBound
+comp-bound (of c) g b = refl
+comp-bound sum g b = mul-comm (1024 ^ g) b
+comp-bound max g b = refl
+comp-bound min g b = refl
+comp-bound some g b = refl
+comp-bound all g b = refl
+
+module _ (E : Entry) {T : Tables} (W : WellFormed T) where
+  -- The loops meet at most 1,024 heads for each generator, multiplied: the count of a collection's elements before repeats are dropped.
+  pub heads-length : (q : Clauses) (h : Form) (ρ : Env) → length (heads (foldBy E) T q h ρ) ≤ 1024 ^ ownGens q
+  heads-length q h ρ = omega (arith, loops-length (foldBy E) W (λ σ. value (foldBy E) T h σ ∷ []) 1 (λ σ. omega arith) q ρ, one-mul (1024 ^ ownGens q))
+
+  -- part of the heads, where all are within b
+  module _ (m : Monoid) (q : Clauses) (h : Form) (ρ : Env) (b : ℕ) (small : All (Small b) (heads (foldBy E) T q h ρ)) (p s : List Value) (e : p ++ s ≡ heads (foldBy E) T q h ρ) where
+    parts-length : length p + length s ≤ 1024 ^ ownGens q
+    parts-length = omega (arith, length-append p s, ap length e, heads-length q h ρ)
+
+    part-right : Small (compBound m (ownGens q) b) (foldBy E m s)
+    part-right = subst (λ (a : ℕ). Small a (foldBy E m s)) (comp-bound m (ownGens q) b)
+        (le-trans (fold-right E m b s (all-behind (Small b) p s (subst (All (Small b)) (sym e) small))) (fold-more m b (omega (arith, parts-length))))
+
+    part-left : (n : ℕ) (w : Value) → Small (foldBound m n b) w → Small (foldBound m (n + 1024 ^ ownGens q) b) (foldl (taken E m) w p)
+    part-left n w k = le-trans (fold-left E m b n w p k (all-front (Small b) p s (subst (All (Small b)) (sym e) small))) (fold-more m b (omega (arith, parts-length)))
+
+  -- where the head is within b, all heads are
+  all-heads : (h : Form) (b : ℕ) → ((σ : Env) → RowsIn σ → Small b (value (foldBy E) T h σ)) → (q : Clauses) (ρ : Env) → RowsIn ρ → All (Small b) (heads (foldBy E) T q h ρ)
+  all-heads h b k q ρ R = loops-all (foldBy E) W (Small b) (λ σ. value (foldBy E) T h σ ∷ []) (λ σ S. (k σ S, tt)) q ρ R
+
+  -- Every number of a normal form is within its bound.
+  pub value-bound : (f : Form) (ρ : Env) → RowsIn ρ → Small (bound f) (value (foldBy E) T f ρ)
+  unfolding value bound asInt notV
+  value-bound (num z) ρ R = le-refl (natAbs z)
+  value-bound (truth b) ρ R = omega arith
+  value-bound (row g) ρ R = omega (arith, ap natAbs (R g .no-number))
+  value-bound (cell i g) ρ R = R g .fields i
+  value-bound (rec ts) ρ R = omega arith
+  value-bound (bin o s t) ρ R = bin-bound o (value (foldBy E) T s ρ) (value (foldBy E) T t ρ) (bound s) (bound t) (value-bound s ρ R) (value-bound t ρ R)
+  value-bound (negate t) ρ R = omega arith
+  value-bound (comp m q h) ρ R = part-right m q h ρ (bound h) (all-heads h (bound h) (λ σ S. value-bound h σ S) q ρ R) [] (heads (foldBy E) T q h ρ) refl
+
+  -- Every head that the loops meet is within the head's bound.
+  pub heads-small : (q : Clauses) (h : Form) (ρ : Env) → RowsIn ρ → All (Small (bound h)) (heads (foldBy E) T q h ρ)
+  heads-small q h ρ R = all-heads h (bound h) (value-bound h) q ρ R
+
+  module _ (m : Monoid) (q : Clauses) (h : Form) (ρ : Env) (R : RowsIn ρ) (p s : List Value) (e : p ++ s ≡ heads (foldBy E) T q h ρ) where
+    -- A sum, maximum or minimum of the last heads is within the comprehension's bound.
+    pub partial-right : Small (bound (comp m q h)) (foldBy E m s)
+    unfolding bound
+    partial-right = part-right m q h ρ (bound h) (heads-small q h ρ R) p s e
+
+    -- A loop that had w, within the bound of n heads, and has gone over the first heads, has a number within that of n and all heads.
+    pub accumulated : (n : ℕ) (w : Value) → Small (foldBound m n (bound h)) w → Small (foldBound m (n + 1024 ^ ownGens q) (bound h)) (foldl (taken E m) w p)
+    accumulated n w k = part-left m q h ρ (bound h) (heads-small q h ρ R) p s e n w k
+
+    -- A sum, maximum or minimum of the first heads, as a loop accumulates it from the start, is within the comprehension's bound.
+    pub partial-left : Small (bound (comp m q h)) (foldl (taken E m) (start m) p)
+    unfolding bound
+    partial-left = subst (λ (b : ℕ). Small b (foldl (taken E m) (start m) p))
+        (ap (λ (n : ℕ). foldBound m n (bound h)) (zero-add (1024 ^ ownGens q)) ∙ comp-bound m (ownGens q) (bound h))
+        (accumulated 0 (start m) (start-small m (foldBound m 0 (bound h))))
+
+-- ---- 28: what `within` says of a form it says of each part of it
+both : (a b : Bool) → a && b ≡ true → (a ≡ true) × (b ≡ true)
+both a b h = and-eq-true-iff a b .0 h
+
+-- A form that 28 lets pass has a bound of at most 2^62.
+pub within-bound : (f : Form) → within f ≡ true → bound f ≤ 2 ^ 62
+unfolding within bound
+within-bound (num z) h = leb-true (natAbs z) (2 ^ 62) h
+within-bound (truth b) h = omega arith
+within-bound (row g) h = omega arith
+within-bound (cell i g) h = omega arith
+within-bound (rec ts) h = omega arith
+within-bound (bin o s t) h = leb-true (bound (bin o s t)) (2 ^ 62) (both (leb (bound (bin o s t)) (2 ^ 62)) (within s && within t) h .0)
+within-bound (negate t) h = omega arith
+within-bound (comp m q h) k = leb-true (bound (comp m q h)) (2 ^ 62) (both (leb (bound (comp m q h)) (2 ^ 62)) (withinC q && within h) k .0)
+
+pub within-operands : (o : Bin) (s t : Form) → within (bin o s t) ≡ true → (within s ≡ true) × (within t ≡ true)
+unfolding within
+within-operands o s t h = both (within s) (within t) (both (leb (bound (bin o s t)) (2 ^ 62)) (within s && within t) h .1)
+
+pub within-negated : (t : Form) → within (negate t) ≡ true → within t ≡ true
+unfolding within
+within-negated t h = h
+
+pub within-fields : (ts : Forms) → within (rec ts) ≡ true → withinF ts ≡ true
+unfolding within
+within-fields ts h = h
+
+pub within-field : (t : Form) (ts : Forms) → withinF (fcons t ts) ≡ true → (within t ≡ true) × (withinF ts ≡ true)
+unfolding within
+within-field t ts h = both (within t) (withinF ts) h
+
+pub within-comp : (m : Monoid) (q : Clauses) (h : Form) → within (comp m q h) ≡ true → (withinC q ≡ true) × (within h ≡ true)
+unfolding within
+within-comp m q h k = both (withinC q) (within h) (both (leb (bound (comp m q h)) (2 ^ 62)) (withinC q && within h) k .1)
+
+pub within-gen : (g k : ℕ) (q : Clauses) → withinC (gen g k q) ≡ true → withinC q ≡ true
+unfolding withinC
+within-gen g k q h = h
+
+pub within-cond : (t : Form) (q : Clauses) → withinC (cond t q) ≡ true → (within t ≡ true) × (withinC q ≡ true)
+unfolding withinC
+within-cond t q h = both (within t) (withinC q) h
+
+-- P of a form and of each form written in it
+abbrev mutual
+  pub Each : (Form → Type 0) → Form → Type 0
+  Each P (num z) = P (num z)
+  Each P (truth b) = P (truth b)
+  Each P (row g) = P (row g)
+  Each P (cell i g) = P (cell i g)
+  Each P (rec ts) = P (rec ts) × EachF P ts
+  Each P (bin o s t) = P (bin o s t) × Each P s × Each P t
+  Each P (negate t) = P (negate t) × Each P t
+  Each P (comp m q h) = P (comp m q h) × EachC P q × Each P h
+
+  pub EachF : (Form → Type 0) → Forms → Type 0
+  EachF P fnil = Unit {0}
+  EachF P (fcons t ts) = Each P t × EachF P ts
+
+  pub EachC : (Form → Type 0) → Clauses → Type 0
+  EachC P done = Unit {0}
+  EachC P (gen g k q) = EachC P q
+  EachC P (cond t q) = Each P t × EachC P q
+
+module _ (P : Form → Type 0) (k : (f : Form) → within f ≡ true → P f) where
+  mutual
+    pub each : (f : Form) → within f ≡ true → Each P f
+    each (num z) h = k (num z) h
+    each (truth b) h = k (truth b) h
+    each (row g) h = k (row g) h
+    each (cell i g) h = k (cell i g) h
+    each (rec ts) h = (k (rec ts) h, eachF ts (within-fields ts h))
+    each (bin o s t) h = (k (bin o s t) h, each s (within-operands o s t h .0), each t (within-operands o s t h .1))
+    each (negate t) h = (k (negate t) h, each t (within-negated t h))
+    each (comp m q f) h = (k (comp m q f) h, eachC q (within-comp m q f h .0), each f (within-comp m q f h .1))
+
+    eachF : (ts : Forms) → withinF ts ≡ true → EachF P ts
+    eachF fnil h = tt
+    eachF (fcons t ts) h = (each t (within-field t ts h .0), eachF ts (within-field t ts h .1))
+
+    eachC : (q : Clauses) → withinC q ≡ true → EachC P q
+    eachC done h = tt
+    eachC (gen g t q) h = eachC q (within-gen g t q h)
+    eachC (cond t q) h = (each t (within-cond t q h .0), eachC q (within-cond t q h .1))
+
+-- ---- theorem 8
+-- The number of a form, and every number on the way to it from either end, within b.
+pub record Bounded (E : Entry) (T : Tables) (b : ℕ) (f : Form) (ρ : Env) : Type 0 where
+  pub number : Small b (value (foldBy E) T f ρ)
+  pub first-heads : (m : Monoid) (q : Clauses) (h : Form) → f ≡ comp m q h → (p s : List Value) → p ++ s ≡ heads (foldBy E) T q h ρ → Small b (foldl (taken E m) (start m) p)
+  pub last-heads : (m : Monoid) (q : Clauses) (h : Form) → f ≡ comp m q h → (p s : List Value) → p ++ s ≡ heads (foldBy E) T q h ρ → Small b (foldBy E m s)
+
+module _ (E : Entry) {T : Tables} (W : WellFormed T) where
+  -- Every number of a normal form, and every sum, maximum and minimum on the way to it, is within its bound, so within any greater b.
+  pub bounded : (f : Form) (b : ℕ) → bound f ≤ b → (ρ : Env) → RowsIn ρ → Bounded E T b f ρ
+  bounded f b l ρ R = record {
+    number = le-trans (value-bound E W f ρ R) l;
+    first-heads = λ m q h e p s c. le-trans (partial-left E W m q h ρ R p s c) (subst (λ x. bound x ≤ b) e l);
+    last-heads = λ m q h e p s c. le-trans (partial-right E W m q h ρ R p s c) (subst (λ x. bound x ≤ b) e l);
+  }
+
+  -- Where 28 does not refuse, every number in the normal form, and every sum, maximum and minimum on the way to it, is within 2^62.
+  pub numbers-fit : (f : NormalForm) → numbersFit f ≡ true → Each (λ s. (ρ : Env) → RowsIn ρ → Bounded E T (2 ^ 62) s ρ) (asForm f)
+  unfolding numbersFit
+  numbers-fit f h = each (λ s. (ρ : Env) → RowsIn ρ → Bounded E T (2 ^ 62) s ρ) (λ s k. bounded s (2 ^ 62) (within-bound s k)) (asForm f) h
