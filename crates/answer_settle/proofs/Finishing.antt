@@ -19,7 +19,7 @@ use Rattle.spec_outcome.proofs.Checks.{form-numbered, form-nodes}
 use Rattle.form_words.specs.Packing.{next, nodeAt}
 use Rattle.form_words.specs.Tree.{formTree, left}
 use Rattle.form_prepared.specs.Prepared.{Prepared}
-use Rattle.form_prepared.specs.Gives.{Settles}
+use Rattle.spec_outcome.specs.Gives.{Settles}
 use Rattle.form_prepared.proofs.Settled.{settles-full}
 use Rattle.form_env.specs.Env.{Held}
 use Rattle.answer_types.specs.Columns.{columns}

@@ -24,8 +24,8 @@ use Rattle.form_prepared.specs.Prepared.{Prepared}
 use Rattle.form_env.specs.Env.{envOf, tablesIn, Held}
 use Rattle.form_env.proofs.Laws.{tables-in, env-empty}
 use Rattle.answer_types.proofs.Values.{SomeF, Solid, SolidF}
-use Rattle.answer_counts.specs.Filled.{filled, someF, filledF}
-use Rattle.answer_counts.proofs.Filled.{read-filled}
+use Rattle.answer_writer.specs.Filled.{filled, someF, filledF}
+use Rattle.answer_writer.proofs.Filled.{read-filled}
 
 -- no record is without fields: as the test says it, and as the layout of values asks for it
 mutual

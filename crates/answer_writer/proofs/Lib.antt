@@ -2,3 +2,5 @@
 pub mod Laying
 pub mod Leaves
 pub mod OneWord
+pub mod Filled
+pub mod Counts

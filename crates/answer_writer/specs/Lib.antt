@@ -2,3 +2,4 @@
 pub mod Laying
 pub mod Shapes
 pub mod Contract
+pub mod Filled

@@ -7,7 +7,7 @@ use Prim.Native.Nat.{ℕ, zero, suc, _+_, _≤_, _<_}
 use borrow.Author.Tests.{leb-true, le-leb, lt-leb}
 use lib.Dec.{leb}
 use lib.ListN.{length, getD, drop}
-use Rattle.base_rota.specs.Rota.{quotaFits, quotasFit, rotaFits}
+use Rattle.spec_outcome.specs.Rota.{quotaFits, quotasFit, rotaFits}
 
 -- ---- quota_fits
 pub quota-none : {q : ℕ} → q ≡ 0 → false ≡ quotaFits q

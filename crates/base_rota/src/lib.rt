@@ -1,6 +1,6 @@
 // Which rotas there are.
 ghost use mathlib.Core.Path.{_≡_};
-ghost use Rattle.base_rota.specs.Rota.{quotaFits, rotaFits};
+ghost use Rattle.spec_outcome.specs.Rota.{quotaFits, rotaFits};
 
 // "a quota of 1 to 1,000 offered rows a round"
 fn quota_fits(q: u64) -> bool

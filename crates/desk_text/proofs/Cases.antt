@@ -4,7 +4,7 @@ use mathlib.Core.List.{[], _∷_}
 use Rattle.spec_encoding.specs.Record.{Bytes}
 use lib.IntN.{pos, negsuc}
 use Rattle.spec_plan.specs.Lines.{ascii, signedDecimal}
-use Rattle.desk_text.specs.Desk.{desk}
+use Rattle.spec_desk.specs.Desk.{desk}
 use Rattle.spec_calculus.specs.Lists as Lists
 use Rattle.spec_calculus.specs.Value as Value
 use Rattle.spec_calculus.specs.Order as Order
@@ -24,8 +24,8 @@ use Rattle.spec_plan.specs.Lines as Lines
 use Rattle.spec_outcome.specs.Written as Written
 use Rattle.spec_outcome.specs.Accepted as Accepted
 use Rattle.spec_outcome.specs.Outcome as Outcome
-use Rattle.desk_text.specs.Split as Split
-use Rattle.desk_text.specs.Desk as Desk
+use Rattle.spec_desk.specs.Split as Split
+use Rattle.spec_desk.specs.Desk as Desk
 
 -- all the definitions that the cases compute with
 unfoldable definitions : Unit {0}

@@ -11,9 +11,9 @@ use Rattle.spec_calculus.specs.Lists.{pick}
 use Rattle.spec_encoding.specs.Record.{Bytes, Result, refused, got, andThen}
 use Rattle.spec_outcome.specs.Accepted.{examine}
 use Rattle.spec_outcome.specs.Outcome.{Answer, scratchWords, cleared, settled, withScratch, written, answered, looped, byLoops, printed, planLines}
-use Rattle.form_prepared.specs.Gives.{Gives}
-use Rattle.desk_text.specs.Split.{tablesEnd}
-use Rattle.desk_text.specs.Left.{wordsLeft, scratchLeft}
+use Rattle.spec_outcome.specs.Gives.{Gives}
+use Rattle.spec_desk.specs.Split.{tablesEnd}
+use Rattle.spec_desk.specs.Left.{wordsLeft, scratchLeft}
 
 -- ---- the scratch of a call that has enough
 clears : {A : Type 0} (s : List ℕ) (b : List A) (x : Result (Answer A)) → scratchWords ≤ length s → withScratch s b x .scratch ≡ cleared s

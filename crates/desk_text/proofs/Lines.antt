@@ -13,7 +13,7 @@ use Rattle.spec_plan.specs.Lines.{ascii, digits, signedDecimal}
 use Rattle.base_text.specs.Laying.{Lays, Text}
 use Rattle.base_text.proofs.Laying.{lays-two, lays-as}
 use Rattle.base_text.proofs.Numbers.{decimal-text, word-most}
-use Rattle.desk_text.specs.Desk.{spaced, answerLine, refusalLine}
+use Rattle.spec_desk.specs.Desk.{spaced, answerLine, refusalLine}
 
 spaced-one : (a : List ℤ) (z : ℤ) → spaced a ++ (ascii " " ++ signedDecimal z) ≡ spaced (a ++ (z ∷ []))
 unfolding spaced

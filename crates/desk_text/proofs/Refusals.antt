@@ -18,8 +18,8 @@ use Rattle.spec_plan.specs.Lines.{ascii, digits, decimal, lines}
 use Rattle.spec_outcome.specs.Written.{words}
 use Rattle.spec_outcome.specs.Accepted.{Accepted, examine}
 use Rattle.spec_outcome.specs.Outcome.{G, looped}
-use Rattle.desk_text.specs.Split.{tablesEnd}
-use Rattle.desk_text.specs.Desk.{answerLine, refusalLine, planAndAnswer, orRefusal, asked, desk}
+use Rattle.spec_desk.specs.Split.{tablesEnd}
+use Rattle.spec_desk.specs.Desk.{answerLine, refusalLine, planAndAnswer, orRefusal, asked, desk}
 use Rattle.desk_text.proofs.Unbroken.{split-only}
 
 -- ---- a line's number

@@ -20,13 +20,13 @@ use Rattle.spec_outcome.specs.Written.{words}
 use Rattle.spec_outcome.specs.Accepted.{Accepted, examine}
 use Rattle.spec_outcome.specs.Outcome.{Outcome, Answer, scratchWords, settled, written, answered, looped, byLoops, printed, planLines, G}
 use Rattle.spec_outcome.proofs.Checks.{numbers, examine-only}
-use Rattle.form_prepared.specs.Gives.{Gives}
+use Rattle.spec_outcome.specs.Gives.{Gives}
 use Rattle.base_text.specs.Laying.{big, Lays}
 use Rattle.base_text.proofs.Laying.{lays-behind, lays-reach}
 use Rattle.base_text.proofs.Numbers.{decimal-most}
-use Rattle.desk_text.specs.Desk.{answerLine, refusalLine, planAndAnswer, orRefusal, asked, desk, textBytes}
-use Rattle.desk_text.specs.Split.{tablesEnd}
-use Rattle.desk_text.specs.Printed.{Prints, FrontLength}
+use Rattle.spec_desk.specs.Desk.{answerLine, refusalLine, planAndAnswer, orRefusal, asked, desk, textBytes}
+use Rattle.spec_desk.specs.Split.{tablesEnd}
+use Rattle.spec_desk.specs.Printed.{Prints, FrontLength}
 use Rattle.desk_text.proofs.Room.{plan-room}
 
 -- ---- a text that was laid

@@ -20,7 +20,7 @@ use Rattle.spec_outcome.proofs.Checks.{examined}
 use Rattle.base_signed.proofs.Word.{no}
 use Rattle.front_emit.proofs.Fits.{normal-fits}
 use Rattle.front_end.proofs.Ranges.{read-ranges}
-use Rattle.desk_text.specs.Desk.{planBytes}
+use Rattle.spec_desk.specs.Desk.{planBytes}
 use Rattle.desk_text.proofs.Operators.{lines-most}
 
 -- what the checks hand on is what was read

@@ -14,7 +14,7 @@ use Rattle.base_tables.specs.declared.Header.the-variants.{Record, Bad}
 use Rattle.base_tables.specs.Reading.{headerGives, headerAt}
 use Rattle.base_tables.proofs.Records.{passes, whole}
 use Rattle.base_tables.proofs.Readers.{found, not-found}
-use Rattle.desk_text.specs.Split.{tableBytes, tablesEnd}
+use Rattle.spec_desk.specs.Split.{tableBytes, tablesEnd}
 
 -- ---- one record
 table-more : (f : ℕ) (l : Bytes) → isTable l ≡ true → tableBytes (suc f) l ≡ 4 + lengthOf l + tableBytes f (behind l)

@@ -19,7 +19,7 @@ use Rattle.spec_outcome.specs.Accepted.{examine}
 use Rattle.spec_outcome.specs.Outcome.{Outcome, Answer, scratchWords, settled, withScratch, checked}
 use Rattle.spec_outcome.proofs.Agreement.{scratch-short, scratch-long}
 use Rattle.spec_outcome.proofs.Checks.{questionNumbers, examine-behind}
-use Rattle.desk_text.specs.Split.{tablesEnd}
+use Rattle.spec_desk.specs.Split.{tablesEnd}
 use Rattle.desk_text.proofs.Split.{end-more, end-none}
 
 -- ---- a table record at the front, and k bytes behind it

@@ -11,7 +11,7 @@ use Rattle.spec_encoding.specs.Record.{Bytes, Result, got, andThen}
 use Rattle.spec_outcome.specs.Accepted.{Accepted, examine}
 use Rattle.spec_outcome.specs.Outcome.{Outcome, Answer, scratchWords, cleared, withScratch, written, answered, checked, printed, planLines}
 use Rattle.spec_outcome.proofs.Agreement.{scratch-short, scratch-long}
-use Rattle.form_prepared.specs.Gives.{Gives, Settles, Spares}
+use Rattle.spec_outcome.specs.Gives.{Gives, Settles, Spares}
 use Rattle.form_prepared.specs.Answering.{Asked, numberOf, lengthOf}
 use Rattle.form_prepared.specs.Answering as An
 use Rattle.form_prepared.specs.declared.Answer.{Answer as Ended}

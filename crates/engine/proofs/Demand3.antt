@@ -23,7 +23,7 @@ use Rattle.spec_outcome.specs.Accepted.{Accepted, examine}
 use Rattle.spec_outcome.specs.Outcome.{Answer, G, written, answered, checked, byLoops, byPlan, printed, planLines}
 use Rattle.spec_outcome.proofs.Checks.{passed, got-is, handed, examined}
 use Rattle.spec_outcome.proofs.Agreement.{same-value, wordsOf, demand-3}
-use Rattle.form_prepared.specs.Gives.{Gives}
+use Rattle.spec_outcome.specs.Gives.{Gives}
 use Rattle.engine.specs.declared.Reply.{Reply}
 use Rattle.engine.proofs.Outcomes.{refusal, answers, checks-only}
 

@@ -18,7 +18,7 @@ use Rattle.spec_calculus.specs.Value.{Tables}
 use Rattle.spec_outcome.specs.Accepted.{Accepted, judge, examine}
 use Rattle.spec_outcome.specs.Outcome.{scratchWords, cleared, checked, written, answered, planned, byPlan}
 use Rattle.spec_outcome.proofs.Checks.{got-is}
-use Rattle.form_prepared.specs.Gives.{Gives, Settles}
+use Rattle.spec_outcome.specs.Gives.{Gives, Settles}
 use Rattle.front_end.specs.Prepares.{Accepts}
 use Rattle.exec_portions.specs.Run.{begun}
 use Rattle.exec_portions.specs.Standing.{Pending, task, Asks}

@@ -23,7 +23,7 @@ use Rattle.spec_outcome.specs.Outcome.{Outcome, Answer, scratchWords, cleared, 
 use Rattle.spec_outcome.proofs.Agreement.{scratch-short, scratch-long}
 use Rattle.spec_outcome.proofs.Checks.{handed}
 use Rattle.spec_encoding.proofs.Refusals.{only-then}
-use Rattle.form_prepared.specs.Gives.{Spares}
+use Rattle.spec_outcome.specs.Gives.{Spares}
 use Rattle.base_signed.proofs.Word.{by-test}
 use Rattle.exec_state.specs.Cursors.{most}
 use Rattle.exec_portions.specs.Run.{Run, counting, begun, portion, rowsDue}

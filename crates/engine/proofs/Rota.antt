@@ -13,7 +13,7 @@ use Rattle.spec_calculus.proofs.Lists.{All}
 use Rattle.spec_encoding.specs.Record.{Bytes}
 use Rattle.spec_outcome.specs.Outcome.{Outcome}
 use Rattle.exec_state.specs.Cursors.{most}
-use Rattle.base_rota.specs.Rota.{rotaFits}
+use Rattle.spec_outcome.specs.Rota.{rotaFits}
 use Rattle.base_rota.proofs.Laws.{quota-within}
 use Rattle.engine.specs.Portions.{outside, BeginGives}
 use Rattle.engine.specs.Rota.{Seat, SeatGives}

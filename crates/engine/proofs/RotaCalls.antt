@@ -7,7 +7,7 @@ use native.Mathlib.Omega.{arith}
 use lib.ListN.{length, getD}
 use lib.IntN.{ℤ}
 use Rattle.spec_encoding.specs.Record.{Bytes}
-use Rattle.base_rota.specs.Rota.{rotaFits}
+use Rattle.spec_outcome.specs.Rota.{rotaFits}
 use Rattle.engine.specs.Portions.{Says, PortionGives}
 use Rattle.engine.specs.Rota.{Seat, seatOf, Idle, SeatGives, TwoGive, RoundGives}
 use Rattle.engine.specs.declared.Portioned.{Portioned}

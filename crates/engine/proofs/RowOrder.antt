@@ -14,7 +14,7 @@ use Rattle.spec_outcome.specs.Outcome.{Outcome, checked, byLoops, byPlan, planL
 use Rattle.spec_outcome.specs.RowOrder.{Reordered, Rereads, Way, looping, planning, by}
 use Rattle.spec_outcome.proofs.Agreement.{same-outcome, wordsOf}
 use Rattle.spec_outcome.proofs.RowOrder.{any-order, any-order-checked, any-order-lines, any-repeats}
-use Rattle.form_prepared.specs.Gives.{Gives}
+use Rattle.spec_outcome.specs.Gives.{Gives}
 use Rattle.engine.specs.declared.Reply.{Reply}
 use Rattle.engine.proofs.Demand3.{SameReply, both-ways}
 

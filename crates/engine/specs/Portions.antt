@@ -13,7 +13,7 @@ use Rattle.spec_plan.specs.Planner.{planOf}
 use Rattle.exec_machine.specs.Offers.{planOffers}
 use Rattle.spec_outcome.specs.Accepted.{Accepted, examine}
 use Rattle.spec_outcome.specs.Outcome.{scratchWords, G, checked, byPlan}
-use Rattle.form_prepared.specs.Gives.{Gives, Spares}
+use Rattle.spec_outcome.specs.Gives.{Gives, Spares}
 use Rattle.exec_state.specs.Cursors.{most}
 use Rattle.exec_portions.specs.Run.{Run, begun, portion, rowsDue}
 use Rattle.exec_portions.specs.Standing.{Pending, task}

@@ -6,7 +6,7 @@ use Prim.Native.Nat.{ℕ, _+_, _≤_, _<_}
 use lib.ListN.{length, getD}
 use lib.IntN.{ℤ}
 use Rattle.spec_encoding.specs.Record.{Bytes}
-use Rattle.base_rota.specs.Rota.{rotaFits}
+use Rattle.spec_outcome.specs.Rota.{rotaFits}
 use Rattle.engine.specs.Portions.{Says, PortionGives}
 use Rattle.engine.specs.declared.Portioned.{Portioned}
 use Rattle.engine.specs.declared.TwoSeats.{TwoSeats}

@@ -3,7 +3,7 @@ ghost use mathlib.Core.List.{[]};
 ghost use Prim.Native.Nat.{_≤_, _<_};
 ghost use lib.ListN.{length};
 ghost use Rattle.spec_outcome.specs.Outcome.{byLoops, byPlan, checked, planLines};
-ghost use Rattle.form_prepared.specs.Gives.{Gives};
+ghost use Rattle.spec_outcome.specs.Gives.{Gives};
 ghost use Rattle.engine.specs.Replies.{Admits, Replies};
 ghost use Rattle.engine.specs.Portions.{BeginGives, PortionGives, Says, EndsWith};
 ghost use Rattle.engine.specs.Rota.{seatOf, SeatGives, TwoGive, RoundGives};

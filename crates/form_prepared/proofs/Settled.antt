@@ -10,7 +10,7 @@ use Rattle.spec_encoding.specs.Record.{refused, got, require}
 use Rattle.spec_outcome.specs.Accepted.{Accepted}
 use Rattle.spec_outcome.specs.Written.{words}
 use Rattle.spec_outcome.specs.Outcome.{Answer, settled, G, written}
-use Rattle.form_prepared.specs.Gives.{Settles}
+use Rattle.spec_outcome.specs.Gives.{Settles}
 
 module _ {A : Type 0} {b b′ : List A} where
   pub settles-refused : (n : ℕ) → b′ ≡ b → Settles (refused n) b n 0 b′

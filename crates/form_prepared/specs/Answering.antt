@@ -10,7 +10,7 @@ use Rattle.spec_encoding.specs.Reader.{readQuestion}
 use Rattle.spec_outcome.specs.Accepted.{Accepted}
 use Rattle.spec_outcome.specs.Outcome.{written}
 use Rattle.form_prepared.specs.Prepared.{Prepared}
-use Rattle.form_prepared.specs.Gives.{Settles}
+use Rattle.spec_outcome.specs.Gives.{Settles}
 use Rattle.form_prepared.specs.declared.Answer.{Answer}
 use Rattle.form_prepared.specs.declared.Answer.the-variants.{Short, Length}
 

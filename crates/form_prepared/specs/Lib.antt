@@ -1,4 +1,3 @@
 -- An accepted question in scratch; what a call gives, and what a part does that answers.
 pub mod Prepared
-pub mod Gives
 pub mod Answering

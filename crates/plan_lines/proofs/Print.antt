@@ -12,7 +12,7 @@ use Rattle.spec_plan.specs.Lines.{lines}
 use Rattle.spec_outcome.specs.Accepted.{Accepted}
 use Rattle.spec_outcome.specs.Outcome.{printed}
 use Rattle.form_prepared.specs.Prepared.{Prepared}
-use Rattle.form_prepared.specs.Gives.{Settles}
+use Rattle.spec_outcome.specs.Gives.{Settles}
 use Rattle.form_prepared.proofs.Settled.{settles-refused, settles-got}
 use Rattle.plan_marks.specs.PlanIn.{planAt, planIn}
 use Rattle.plan_marks.specs.Contract.{Laid, Plans}

@@ -7,7 +7,7 @@ use Rattle.spec_encoding.specs.Record.{Bytes}
 use Rattle.spec_outcome.specs.Accepted.{Accepted}
 use Rattle.spec_outcome.specs.Outcome.{printed}
 use Rattle.form_prepared.specs.Prepared.{Prepared}
-use Rattle.form_prepared.specs.Gives.{Settles}
+use Rattle.spec_outcome.specs.Gives.{Settles}
 use Rattle.plan_lines.specs.declared.Printed.{Printed}
 use Rattle.plan_lines.specs.declared.Printed.the-variants.{Short, Length}
 

@@ -3,3 +3,5 @@ pub mod Written
 pub mod Accepted
 pub mod Outcome
 pub mod RowOrder
+pub mod Gives
+pub mod Rota

@@ -7,7 +7,7 @@ use lib.ListN.{length}
 use Rattle.spec_encoding.specs.Record.{Bytes}
 use Rattle.spec_outcome.specs.Accepted.{Accepted}
 use Rattle.spec_outcome.specs.Outcome.{scratchWords, settled}
-use Rattle.form_prepared.specs.Gives.{Gives, Settles}
+use Rattle.spec_outcome.specs.Gives.{Gives, Settles}
 use Rattle.engine.specs.Replies.{Admits, Replies}
 use Rattle.engine.specs.declared.Admitted.{Admitted}
 use Rattle.engine.specs.declared.Admitted.the-variants as Admitted

@@ -2,7 +2,7 @@
 ghost use mathlib.Core.List.{[]};
 ghost use Rattle.exec_step.specs.Contract.{Waiting};
 ghost use Rattle.form_prepared.specs.Answering.{Asked};
-ghost use Rattle.form_prepared.specs.Gives.{Gives};
+ghost use Rattle.spec_outcome.specs.Gives.{Gives};
 ghost use Rattle.test_offers.specs.Offered.{offered};
 ghost use Rattle.test_offers.specs.Contract.{Counts, Tells};
 use engine::Admitted;

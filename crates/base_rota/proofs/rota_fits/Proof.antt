@@ -3,7 +3,7 @@ use native.Mathlib.Omega.{arith}
 use mathlib.Core.Path.{_≡_}
 use Prim.Native.Nat.{_-_, _≤_}
 use lib.ListN.{length, drop}
-use Rattle.base_rota.specs.Rota.{quotasFit, rotaFits}
+use Rattle.spec_outcome.specs.Rota.{quotasFit, rotaFits}
 use Rattle.base_rota.proofs.Laws.{rota-empty, rota-long, rota-quotas, rota-stops, rota-goes, rota-ends}
 use borrow.Author.Needs.{needs}
 use Rattle.base_rota.proofs.rota_fits.Statement.{statement}

@@ -8,7 +8,7 @@ use Rattle.base_signed.proofs.Word.{fits}
 use Rattle.spec_plan.specs.Lines.{ascii, signedDecimal}
 use Rattle.base_text.specs.Laying.{Lays}
 use Rattle.base_text.proofs.Laying.{lays-nil, lays-as}
-use Rattle.desk_text.specs.Desk.{spaced}
+use Rattle.spec_desk.specs.Desk.{spaced}
 use Rattle.desk_text.proofs.Lines.{spaced-more, spaced-all, spaced-longer, spaced-most}
 use borrow.Author.Needs.{needs}
 use Rattle.desk_text.proofs.spaced_words.Statement.{statement}

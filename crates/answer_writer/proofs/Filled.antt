@@ -10,7 +10,7 @@ use Rattle.spec_encoding.specs.Reader.{readQuestion}
 use Rattle.spec_encoding.proofs.Given.{Keeps, question-kept}
 use Rattle.spec_normal_form.specs.Form.{asForm, gens, gensC}
 use Rattle.spec_normal_form.specs.Normal.{Sem, Sems, row, fields, both, nested, plain, snil, scons, nothing, quote, quotes, idempotent, ranges, nth, part, binary, before, SemEnv, norm, norms, walk, nowhere, normal}
-use Rattle.answer_counts.specs.Filled.{filled, someF, filledF}
+use Rattle.answer_writer.specs.Filled.{filled, someF, filledF}
 
 -- ---- questions
 abbrev someT : Terms → Type 0

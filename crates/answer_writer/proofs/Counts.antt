@@ -24,8 +24,8 @@ use Rattle.base_monoid.proofs.Laws.{Made, fold-made}
 use Rattle.form_env.specs.Env.{envOf, tablesIn, Held}
 use Rattle.form_env.proofs.Laws.{each-row, table-each}
 use Rattle.spec_outcome.specs.Written.{words, wordsL}
 use Rattle.answer_writer.specs.Laying.{big, cutWords, cutWordsL}
-use Rattle.answer_counts.specs.Filled.{filled, someF, filledF}
+use Rattle.answer_writer.specs.Filled.{filled, someF, filledF}
 
 -- Cutting counts changes no length.
 mutual

@@ -7,7 +7,7 @@ use lib.IntN.{ℤ}
 use Rattle.spec_calculus.specs.Lists.{pick}
 use Rattle.spec_encoding.specs.Record.{Bytes}
 use Rattle.spec_outcome.specs.Outcome.{cleared, byLoops}
-use Rattle.desk_text.specs.Split.{tablesEnd}
+use Rattle.spec_desk.specs.Split.{tablesEnd}
 
 unfoldable pub wordsLeft : Bytes → List ℕ → List ℤ → List ℤ
 wordsLeft b s w = pick (leb (length b) 65536) (byLoops (take (tablesEnd b) b) (drop (tablesEnd b) b) s w .buffer) w

@@ -11,7 +11,7 @@ use Rattle.spec_plan.specs.Lines.{ascii, decimal, signedDecimal, lines}
 use Rattle.spec_outcome.specs.Written.{words}
 use Rattle.spec_outcome.specs.Accepted.{Accepted, examine}
 use Rattle.spec_outcome.specs.Outcome.{G, looped}
-use Rattle.desk_text.specs.Split.{tablesEnd}
+use Rattle.spec_desk.specs.Split.{tablesEnd}
 
 -- "answer its words": each behind a space, and byte 10 ends the line
 unfoldable pub spaced : List ℤ → Bytes

@@ -1,2 +1,0 @@
--- Records that have fields.
-pub mod Filled

@@ -1,2 +1,0 @@
--- Which rotas there are.
-pub mod Rota

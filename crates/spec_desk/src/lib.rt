@@ -1,0 +1,1 @@
+// Definitions only: what the desk program prints. See specs/.
