@@ -21,7 +21,7 @@ const MADE: u64 = 20_000;
 const SHOWN: usize = 5;
 
 fn main() -> ExitCode {
-    let cases = match cases_in("crates/vectors") {
+    let cases = match cases_in("crates/test_vectors") {
         Ok(cases) => cases,
         Err(what) => {
             eprintln!("{what}");

@@ -12,7 +12,7 @@ const LENT: usize = 16_384;
 const SHOWN: usize = 5;
 
 fn main() -> ExitCode {
-    let mut cases = match cases_in("crates/vectors") {
+    let mut cases = match cases_in("crates/test_vectors") {
         Ok(cases) => cases,
         Err(what) => {
             eprintln!("{what}");

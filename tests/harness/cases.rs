@@ -1,4 +1,4 @@
-//! Makes the files of the program `vectors` from recorded vectors: the cases that it reads, the
+//! Makes the files of the program `test_vectors` from recorded vectors: the cases that it reads, the
 //! lines that it must print, and the cases' names. Argument: the folder of the crate; with --check
 //! behind it nothing is written, and it fails where a file is not what would be.
 

@@ -9,7 +9,7 @@ use harness::lent::SCRATCH;
 use harness::open::{Call, Reply};
 use harness::open_call;
 
-open_call!("offers", dislogha_offered_rows as offered_rows: scratch of u64);
+open_call!("test_offers", dislogha_offered_rows as offered_rows: scratch of u64);
 
 const OFFERED: Call<i64> = Call {
     name: "offered",

@@ -17,14 +17,14 @@ pub struct Recorded {
     pub words: Option<Vec<i64>>,
 }
 
-/// A case of the program `vectors`: its name, data and question.
+/// A case of the program `test_vectors`: its name, data and question.
 pub struct Case {
     pub name: String,
     pub data: Vec<u8>,
     pub question: Vec<u8>,
 }
 
-/// The cases in the folder of the program `vectors`.
+/// The cases in the folder of the program `test_vectors`.
 pub fn cases_in(folder: &str) -> Result<Vec<Case>, String> {
     let read = |name: &str| {
         let path = format!("{folder}/{name}");
