@@ -12,8 +12,7 @@ use Rattle.spec_calculus.specs.Lists.{upd}
 use Rattle.spec_calculus.proofs.Lists.{upd-hit, upd-other}
 use Rattle.spec_calculus.specs.Syntax.{Term, Terms, Quals, num, truth, name, field, rec, bin, negate, comp, table, tnil, tcons, qnil, gen, bind, cond, Question, asTerm}
 use Rattle.spec_checks.specs.Scope.{Scope, inScope, inScopes, inScopeQ, binders, bindersL, bindersQ, member, distinct, namesHold}
-use Rattle.front_scope.specs.declared.Names.{Names}
-use Rattle.front_scope.specs.Pass.{fresh, uses, binds, leaves, passTerm, passTerms, passQuals, Small, SmallL, SmallQ}
+use Rattle.front_scope.specs.Pass.{Names, fresh, uses, binds, leaves, passTerm, passTerms, passQuals, Small, SmallL, SmallQ}
 
 -- the names seen once these were bound
 unfoldable after : List ℕ → Scope → Scope

@@ -1,22 +1,21 @@
 -- Laws of the scope check's code, one for each way out of a function.
-use mathlib.Core.Path.{_≡_, refl, sym, ap, ap₂, _∙_}
+use mathlib.Core.Path.{_≡_, refl, sym, ap, ap₂, subst, _∙_}
 use mathlib.Core.List.{List, [], _∷_}
 use mathlib.Core.Bool.{Bool, true, false, _&&_, not, and-true, and-false}
 use Prim.Native.Nat.{ℕ, zero, suc, _+_, _-_, _*_, _≤_, _<_}
 use native.Mathlib.Omega.{arith}
-use lib.ListN.{length, getD, set, List·getD-eq-default}
+use lib.ListN.{length, getD, set, length-set, List·getD-eq-default}
 use lib.Seq.{set-out}
 use borrow.Author.Tests.{le-leb, lt-leb}
 use Rattle.spec_calculus.specs.Lists.{pick}
-use Rattle.spec_calculus.specs.Syntax.{Bin, Term, Terms, Quals, tnil, tcons, qnil, Question, asTerm}
+use Rattle.spec_calculus.specs.Syntax.{Bin, Term, Terms, Quals, num, truth, name, field, rec, bin, negate, comp, table, tnil, tcons, qnil, gen, bind, cond, Question, asTerm}
 use Rattle.spec_encoding.specs.Reader.{Kind, unknown, number, truthK, nameK, fieldK, record′, tableK, comprehension, generator, binding, condition, two-terms}
 use Rattle.spec_encoding.specs.Reader as Re
 use Rattle.spec_checks.specs.Scope.{namesHold}
 use Rattle.front_words.specs.Laid.{nodes, Laid}
 use Rattle.front_words.proofs.Laws.{laid-tree}
 use Rattle.front_words.specs.Tree.{kindAt, argAt, startAt, termBy, qualBy, treeAt, termsAt, qualsAt}
-use Rattle.front_scope.specs.declared.Names.{Names}
-use Rattle.front_scope.specs.Pass.{Small, fresh, uses, binds, leaves, passTerm, passTerms, passQuals}
+use Rattle.front_scope.specs.Pass.{Names, names, Full, Small, fresh, uses, binds, leaves, passTerm, passTerms, passQuals}
 use Rattle.front_scope.proofs.Accepts.{pass-is}
 use Rattle.front_scope.proofs.Codes.{code, two-code}
 use Rattle.front_scope.specs.Words.{TermPassed, LeafPassed, OperandsPassed, CompPassed, TermsPassed, QualsPassed, QualPassed, Judged}
@@ -28,16 +27,17 @@ refuse n = record { seen = n .seen; scope = n .scope; ok = false }
 names-path : {a b c d : List Bool} {e f : Bool} → a ≡ b → c ≡ d → e ≡ f → _≡_ {A = Names} (record { seen = a; scope = c; ok = e }) (record { seen = b; scope = d; ok = f })
 names-path p q r = λ i. record { seen = p i; scope = q i; ok = r i }
 
+module _ (c : List Bool) (x : ℕ) (k : Bool) where
+  pub used-holds : getD c x false ≡ true → k ≡ k && getD c x false
+  used-holds e = sym (and-true k) ∙ ap (λ b. k && b) (sym e)
+
+  pub used-not : getD c x false ≡ false → false ≡ k && getD c x false
+  used-not e = sym (and-false k) ∙ ap (λ b. k && b) (sym e)
+
+  pub used-beyond : length c ≡ 256 → 256 ≤ x → false ≡ k && getD c x false
+  used-beyond h l = used-not (List·getD-eq-default c false (omega arith))
+
 module _ (n : Names) (x : ℕ) where
-  pub used-holds : getD (n .scope) x false ≡ true → n ≡ uses x n
-  used-holds e = names-path refl refl (sym (and-true (n .ok)) ∙ ap (λ b. n .ok && b) (sym e))
-
-  pub used-not : getD (n .scope) x false ≡ false → refuse n ≡ uses x n
-  used-not e = names-path refl refl (sym (and-false (n .ok)) ∙ ap (λ b. n .ok && b) (sym e))
-
-  pub used-beyond : length (n .scope) ≡ 256 → 256 ≤ x → refuse n ≡ uses x n
-  used-beyond h l = used-not (List·getD-eq-default (n .scope) false (omega arith))
-
   pub bound-beyond : length (n .seen) ≡ 256 → length (n .scope) ≡ 256 → 256 ≤ x → refuse n ≡ binds x n
   bound-beyond h k l =
       names-path (sym (set-out (n .seen) x true (omega arith))) (sym (set-out (n .scope) x true (omega arith)))
@@ -87,13 +87,6 @@ module _ {s : List ℕ} {e : ℕ} {n r : Names} where
       go zero h = absurd (omega arith)
       go (suc g) h = rw p (q g (omega arith))
 
-  pub term-leaf : e ≤ 1 → LeafPassed s n r → TermPassed s e n r
-  term-leaf h P = record { is = λ f l. P .is f e h (omega arith) }
-
-  pub term-name : kindAt s (e - 1) ≡ nameK → {x : ℕ} → x ≡ argAt s (e - 1) → r ≡ uses x n → TermPassed s e n r
-  unfolding passTerm
-  term-name p a q = term-step p (λ g l. q ∙ ap (λ x. uses x n) a)
-
   pub term-field : 1 < e → kindAt s (e - 1) ≡ fieldK → TermPassed s (e - 1) n r → TermPassed s e n r
   unfolding passTerm
   term-field h p P = term-step p (λ g l. P .is g (omega arith))
@@ -116,6 +109,14 @@ module _ {s : List ℕ} {e : ℕ} {n r : Names} where
 
   pub term-bare : Bare (kindAt s (e - 1)) → r ≡ n → TermPassed s e n r
   term-bare b q = term-step refl (λ g l. q ∙ bare-passed s n (λ j. treeAt g s j) (λ lo j ts. termsAt g s lo j ts) (λ lo j qs. qualsAt g s lo j qs) (e - 1) (kindAt s (e - 1)) b)
+
+module _ {s : List ℕ} {e : ℕ} (b : List Bool) {c : List Bool} {k r : Bool} where
+  pub term-leaf : e ≤ 1 → LeafPassed s c k r → TermPassed s e (names b c k) (names b c r)
+  term-leaf h P = record { is = λ f l. P .is f e h (omega arith) b }
+
+  pub term-name : kindAt s (e - 1) ≡ nameK → {x : ℕ} → x ≡ argAt s (e - 1) → r ≡ k && getD c x false → TermPassed s e (names b c k) (names b c r)
+  unfolding passTerm
+  term-name p a q = term-step p (λ g l. names-path refl refl (q ∙ ap (λ x. k && getD c x false) a))
 
 -- ---- the operands, and the parts of a comprehension
 module _ {s : List ℕ} {i : ℕ} {n m r : Names} (h : 1 ≤ i) {b : ℕ} (st : b ≡ startAt s (i - 1)) where
@@ -207,13 +208,13 @@ pub qual-none : {s : List ℕ} {i : ℕ} {n : Names} → NoQualifier (kindAt s i
 qual-none {s} {i} {n} h = record { is = λ f l qs. ap (λ r. passQuals r n) (no-qual-by (λ j. treeAt f s j) s i (kindAt s i) qs h) }
 
 -- ---- node 0
-pub leaf-name : {s : List ℕ} {n r : Names} → kindAt s 0 ≡ nameK → {x : ℕ} → x ≡ argAt s 0 → r ≡ uses x n → LeafPassed s n r
+pub leaf-name : {s : List ℕ} {c : List Bool} {k r : Bool} → kindAt s 0 ≡ nameK → {x : ℕ} → x ≡ argAt s 0 → r ≡ k && getD c x false → LeafPassed s c k r
 unfolding treeAt passTerm
-leaf-name {s} {n} {r} p {x} a q = record { is = go }
+leaf-name {s} {c} {k} {r} p {x} a q = record { is = go }
   where
-    go : (f e : ℕ) → e ≤ 1 → 0 < f → r ≡ passTerm (treeAt f s e) n
-    go zero e h l = absurd (omega arith)
-    go (suc f) e h l = let z : e - 1 ≡ 0 = omega arith in rw (z, p) (q ∙ ap (λ y. uses y n) a)
+    go : (f e : ℕ) → e ≤ 1 → 0 < f → (b : List Bool) → names b c r ≡ passTerm (treeAt f s e) (names b c k)
+    go zero e h l b = absurd (omega arith)
+    go (suc f) e h l b = let z : e - 1 ≡ 0 = omega arith in rw (z, p) (names-path refl refl (q ∙ ap (λ y. k && getD c y false) a))
 
 no-terms : (f : ℕ) (s : List ℕ) (lo : ℕ) → termsAt f s lo 0 tnil ≡ tnil
 unfolding termsAt pick
@@ -254,8 +255,48 @@ module _ (s : List ℕ) (n : Names) where
         rw z
         (leaf-by (λ j. treeAt f s j) (λ lo j ts. termsAt f s lo j ts) (λ lo j qs. qualsAt f s lo j qs) (λ j l. leaf-bare f j l) (no-terms f s) (no-quals f s) (kindAt s 0) no-name)
 
-    pub leaf-other : LeafPassed s n n
-    leaf-other = record { is = λ f e h l. leaf-bare f e h }
+pub leaf-other : (s : List ℕ) (c : List Bool) (k : Bool) → (code (kindAt s 0) ≡ 3 → ⊥) → LeafPassed s c k k
+leaf-other s c k h = record { is = λ f e l m b. leaf-bare s (names b c k) h f e l }
+
+-- ---- the arrays keep their length
+full-binds : (x : ℕ) (n : Names) → Full n → Full (binds x n)
+full-binds x n F = (length-set (n .seen) x true ∙ F .0, length-set (n .scope) x true ∙ F .1)
+
+mutual
+  unfolding passTerm passTerms passQuals
+
+  full-term : (t : Term) (n : Names) → Full n → Full (passTerm t n)
+  full-term (num z) n F = F
+  full-term (truth b) n F = F
+  full-term (name x) n F = F
+  full-term (field i t) n F = full-term t n F
+  full-term (rec ts) n F = full-terms ts n F
+  full-term (bin o t u) n F = full-term u (passTerm t n) (full-term t n F)
+  full-term (negate t) n F = full-term t n F
+  full-term (comp m qs h) n F = (full-term h (passQuals qs n) (full-quals qs n F) .0, F .1)
+  full-term (table k) n F = F
+
+  full-terms : (ts : Terms) (n : Names) → Full n → Full (passTerms ts n)
+  full-terms tnil n F = F
+  full-terms (tcons t ts) n F = full-terms ts (passTerm t n) (full-term t n F)
+
+  full-quals : (qs : Quals) (n : Names) → Full n → Full (passQuals qs n)
+  full-quals qnil n F = F
+  full-quals (gen x t qs) n F = full-quals qs (binds x (passTerm t n)) (full-binds x (passTerm t n) (full-term t n F))
+  full-quals (bind x t qs) n F = full-quals qs (binds x (passTerm t n)) (full-binds x (passTerm t n) (full-term t n F))
+  full-quals (cond t qs) n F = full-quals qs (passTerm t n) (full-term t n F)
+
+module _ {s : List ℕ} {e : ℕ} {n r : Names} where
+  pub behind-term : TermPassed s e n r → Full n → Full r
+  behind-term P F = subst Full (sym (P .is (2 * e + 1) (omega arith))) (full-term (treeAt (2 * e + 1) s e) n F)
+
+  pub behind-terms : {lo : ℕ} → TermsPassed s lo e n r → Full n → Full r
+  unfolding passTerms
+  behind-terms {lo} P F = subst Full (P .is (2 * e + 2) (omega arith) tnil) (full-terms (termsAt (2 * e + 2) s lo e tnil) n F)
+
+  pub behind-quals : {lo : ℕ} → QualsPassed s lo e n r → Full n → Full r
+  unfolding passQuals
+  behind-quals {lo} P F = subst Full (P .is (2 * e + 2) (omega arith) qnil) (full-quals (qualsAt (2 * e + 2) s lo e qnil) n F)
 
 -- ---- the whole tree
 pub judged : {s : List ℕ} {e : ℕ} {r : Names} → TermPassed s e fresh r → Judged s e (r .ok)

@@ -1,12 +1,26 @@
 -- The scope check as a state that goes through the tree in written order.
-use mathlib.Core.Bool.{true, false, _&&_, not}
+use mathlib.Core.Path.{_≡_}
+use mathlib.Core.List.{List}
+use mathlib.Core.Bool.{Bool, true, false, _&&_, not}
 use Prim.Native.Nat.{ℕ, _<_}
-use lib.ListN.{getD, set, replicate}
+use lib.ListN.{length, getD, set, replicate}
 use Rattle.spec_calculus.specs.Syntax.{Term, Terms, Quals, num, truth, name, field, rec, bin, negate, comp, table, tnil, tcons, qnil, gen, bind, cond}
-use Rattle.front_scope.specs.declared.Names.{Names}
+
+-- the names seen, the names that hold here, and whether no rule is broken so far
+pub record Names : Type 0 where
+  pub seen : List Bool
+  pub scope : List Bool
+  pub ok : Bool
+
+abbrev pub names : List Bool → List Bool → Bool → Names
+names b c k = record { seen = b; scope = c; ok = k }
+
+-- the arrays have an entry for each name
+abbrev pub Full : Names → Type 0
+Full n = (length (n .seen) ≡ 256) × (length (n .scope) ≡ 256)
 
 abbrev pub fresh : Names
-fresh = record { seen = replicate 256 false; scope = replicate 256 false; ok = true }
+fresh = names (replicate 256 false) (replicate 256 false) true
 
 -- a name is used: it must hold here
 abbrev pub uses : ℕ → Names → Names

@@ -5,16 +5,15 @@ use mathlib.Core.Bool.{Bool}
 use Prim.Native.Nat.{ℕ, _+_, _-_, _*_, _≤_, _<_}
 use Rattle.spec_calculus.specs.Syntax.{Terms, Quals, qnil}
 use Rattle.front_words.specs.Tree.{kindAt, startAt, qualBy, treeAt, termsAt, qualsAt}
-use Rattle.front_scope.specs.declared.Names.{Names}
-use Rattle.front_scope.specs.Pass.{fresh, leaves, passTerm, passTerms, passQuals}
+use Rattle.front_scope.specs.Pass.{Names, names, fresh, leaves, passTerm, passTerms, passQuals}
 
 -- the term that ends at e
 pub record TermPassed (s : List ℕ) (e : ℕ) (n r : Names) : Type 0 where
   pub is : (f : ℕ) → 2 * e < f → r ≡ passTerm (treeAt f s e) n
 
 -- node 0 is a leaf whatever its kind: nothing lies before it
-pub record LeafPassed (s : List ℕ) (n r : Names) : Type 0 where
-  pub is : (f e : ℕ) → e ≤ 1 → 0 < f → r ≡ passTerm (treeAt f s e) n
+pub record LeafPassed (s : List ℕ) (scope : List Bool) (ok r : Bool) : Type 0 where
+  pub is : (f e : ℕ) → e ≤ 1 → 0 < f → (seen : List Bool) → names seen scope r ≡ passTerm (treeAt f s e) (names seen scope ok)
 
 -- both operands of node i
 pub record OperandsPassed (s : List ℕ) (i : ℕ) (n r : Names) : Type 0 where

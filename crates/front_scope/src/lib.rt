@@ -1,21 +1,14 @@
 // "24: a name out of scope or bound twice."
 ghost use mathlib.Core.Path.{_≡_};
+ghost use mathlib.Core.Bool.{false, _&&_};
 ghost use Prim.Native.Nat.{_+_, _≤_, _<_, _^_};
-ghost use lib.ListN.{set};
+ghost use lib.ListN.{length, getD, set};
 ghost use Rattle.front_words.specs.Packing.{kindOf, nodeWord};
 ghost use Rattle.front_words.specs.Tree.{argAt};
 ghost use Rattle.front_scope.specs.Binders.{cleared, noted, bindersOf};
-ghost use Rattle.front_scope.specs.Pass.{uses, binds};
+ghost use Rattle.front_scope.specs.Pass.{names, Full, binds};
 ghost use Rattle.front_scope.specs.Words.{TermPassed, LeafPassed, OperandsPassed, CompPassed, TermsPassed, QualsPassed, QualPassed, Judged};
 use front_words::start_at;
-
-// "a [false; 256] array of names seen, carried through the scope check and marked at each binder"; the names that hold
-// here; and whether no rule is broken so far.
-pub struct Names {
-    pub seen: [bool; 256],
-    pub scope: [bool; 256],
-    pub ok: bool,
-}
 
 // Where the words of the binders begin.
 const BINDERS: usize = 272;
@@ -32,127 +25,158 @@ fn arg_at(s: &[u64], i: usize) -> u64
     front_words::arg(front_words::node_word(s, i))
 }
 
+// `seen`: "a [false; 256] array of names seen, carried through the scope check and marked at each binder". `scope`: the
+// names that hold here. `ok`: whether no rule is broken so far. The arrays are lent, so that a call does not copy them.
+
 // A name is used.
-fn used(names: Names, x: u64) -> Names
-    ensures { λ r. ⌜ r ≡ uses x names ⌝ }
+fn used(scope: &[bool; 256], x: u64, ok: bool) -> bool
+    requires { ⌜ length (now scope) ≡ 256 ⌝ }
+    ensures { λ r. ⌜ r ≡ ok && getD (now (scope .entry)) x false ⌝ }
 {
-    let mut n = names;
     if x < 256 {
         let i = x as usize;
-        if n.scope[i] {
-            return n;
+        if scope[i] {
+            return ok;
         }
     }
-    n.ok = false;
-    n
+    false
 }
 
 // A name is bound.
-fn bound(names: Names, x: u64) -> Names
-    ensures { λ r. ⌜ r ≡ binds x names ⌝ }
+fn bound(seen: &mut [bool; 256], scope: &mut [bool; 256], x: u64, ok: bool) -> bool
+    requires { ⌜ Full (names (now seen) (now scope) ok) ⌝ }
+    ensures { λ r. ⌜ names (now (seen .exit)) (now (scope .exit)) r ≡ binds x (names (now (seen .entry)) (now (scope .entry)) ok) ⌝ }
 {
-    let mut n = names;
     if 256 <= x {
-        n.ok = false;
-        return n;
+        return false;
     }
     let i = x as usize;
-    let twice = n.seen[i];
-    n.seen[i] = true;
-    n.scope[i] = true;
+    let twice = seen[i];
+    seen[i] = true;
+    scope[i] = true;
     if twice {
-        n.ok = false;
-        return n;
+        return false;
     }
-    n
+    ok
 }
 
 // Node 0, which nothing lies before: a name, or nothing to check.
-fn leaf(s: &[u64], names: Names) -> Names
-    ensures { λ r. ⌜ LeafPassed (now (s .entry)) names r ⌝ }
+fn leaf(s: &[u64], scope: &[bool; 256], ok: bool) -> bool
+    requires { ⌜ length (now scope) ≡ 256 ⌝ }
+    ensures { λ r. ⌜ LeafPassed (now (s .entry)) (now (scope .entry)) ok r ⌝ }
 {
     if kind_at(s, 0) == 3 {
-        return used(names, arg_at(s, 0));
+        return used(scope, arg_at(s, 0), ok);
     }
-    names
+    ok
 }
 
 // The term that ends at e.
-fn term(s: &[u64], e: usize, names: Names) -> Names
-    ensures { λ r. ⌜ TermPassed (now (s .entry)) e names r ⌝ }
+fn term(s: &[u64], e: usize, seen: &mut [bool; 256], scope: &mut [bool; 256], ok: bool) -> bool
+    requires { ⌜ Full (names (now seen) (now scope) ok) ⌝ }
+    ensures { λ r. ⌜ TermPassed (now (s .entry)) e (names (now (seen .entry)) (now (scope .entry)) ok) (names (now (seen .exit)) (now (scope .exit)) r) ⌝ }
 {
     if e <= 1 {
-        return leaf(s, names);
+        return leaf(s, scope, ok);
     }
     let i = e - 1;
     match kind_at(s, i) {
-        3 => used(names, arg_at(s, i)),
-        4 => term(s, i, names),
-        5 => terms(s, start_at(s, i), i, names),
-        6..=12 => operands(s, i, names),
-        13 => term(s, i, names),
-        14 => comprehension(s, i, names),
-        _ => names,
+        3 => used(scope, arg_at(s, i), ok),
+        4 => term(s, i, seen, scope, ok),
+        5 => terms(s, start_at(s, i), i, seen, scope, ok),
+        6..=12 => operands(s, i, seen, scope, ok),
+        13 => term(s, i, seen, scope, ok),
+        14 => comprehension(s, i, seen, scope, ok),
+        _ => ok,
     }
 }
 
 // The two operands of node i: the second ends at i, the first where the second begins.
-fn operands(s: &[u64], i: usize, names: Names) -> Names
-    requires { ⌜ 1 ≤ i ⌝ }
-    ensures { λ r. ⌜ OperandsPassed (now (s .entry)) i names r ⌝ }
+fn operands(s: &[u64], i: usize, seen: &mut [bool; 256], scope: &mut [bool; 256], ok: bool) -> bool
+    requires { ⌜ (1 ≤ i) × Full (names (now seen) (now scope) ok) ⌝ }
+    ensures { λ r. ⌜ OperandsPassed (now (s .entry)) i (names (now (seen .entry)) (now (scope .entry)) ok) (names (now (seen .exit)) (now (scope .exit)) r) ⌝ }
 {
     let b = start_at(s, i - 1);
-    let n = term(s, b, names);
-    term(s, i, n)
+    let k = term(s, b, seen, scope, ok);
+    term(s, i, seen, scope, k)
 }
 
 // The qualifiers and the head of node i. "A name holds from the end of its qualifier to the end of its comprehension."
-fn comprehension(s: &[u64], i: usize, names: Names) -> Names
-    requires { ⌜ 1 ≤ i ⌝ }
-    ensures { λ r. ⌜ CompPassed (now (s .entry)) i names r ⌝ }
+fn comprehension(
+    s: &[u64],
+    i: usize,
+    seen: &mut [bool; 256],
+    scope: &mut [bool; 256],
+    ok: bool,
+) -> bool
+    requires { ⌜ (1 ≤ i) × Full (names (now seen) (now scope) ok) ⌝ }
+    ensures { λ r. ⌜ CompPassed (now (s .entry)) i (names (now (seen .entry)) (now (scope .entry)) ok) (names (now (seen .exit)) (now (scope .exit)) r) ⌝ }
 {
     let a = start_at(s, i);
     let b = start_at(s, i - 1);
-    let q = quals(s, a, b, names);
-    let mut h = term(s, i, q);
-    let before = names.scope;
-    h.scope = before;
+    let before = *scope;
+    let q = quals(s, a, b, seen, scope, ok);
+    let h = term(s, i, seen, scope, q);
+    *scope = before;
     h
 }
 
 // The terms between lo and e.
-fn terms(s: &[u64], lo: usize, e: usize, names: Names) -> Names
-    ensures { λ r. ⌜ TermsPassed (now (s .entry)) lo e names r ⌝ }
+fn terms(
+    s: &[u64],
+    lo: usize,
+    e: usize,
+    seen: &mut [bool; 256],
+    scope: &mut [bool; 256],
+    ok: bool,
+) -> bool
+    requires { ⌜ Full (names (now seen) (now scope) ok) ⌝ }
+    ensures { λ r. ⌜ TermsPassed (now (s .entry)) lo e (names (now (seen .entry)) (now (scope .entry)) ok) (names (now (seen .exit)) (now (scope .exit)) r) ⌝ }
 {
     if e <= lo {
-        return names;
+        return ok;
     }
     let b = start_at(s, e - 1);
-    let n = terms(s, lo, b, names);
-    term(s, e, n)
+    let k = terms(s, lo, b, seen, scope, ok);
+    term(s, e, seen, scope, k)
 }
 
 // The qualifiers between lo and e.
-fn quals(s: &[u64], lo: usize, e: usize, names: Names) -> Names
-    ensures { λ r. ⌜ QualsPassed (now (s .entry)) lo e names r ⌝ }
+fn quals(
+    s: &[u64],
+    lo: usize,
+    e: usize,
+    seen: &mut [bool; 256],
+    scope: &mut [bool; 256],
+    ok: bool,
+) -> bool
+    requires { ⌜ Full (names (now seen) (now scope) ok) ⌝ }
+    ensures { λ r. ⌜ QualsPassed (now (s .entry)) lo e (names (now (seen .entry)) (now (scope .entry)) ok) (names (now (seen .exit)) (now (scope .exit)) r) ⌝ }
 {
     if e <= lo {
-        return names;
+        return ok;
     }
     let b = start_at(s, e - 1);
-    let n = quals(s, lo, b, names);
-    qualifier(s, e - 1, n)
+    let k = quals(s, lo, b, seen, scope, ok);
+    qualifier(s, e - 1, seen, scope, k)
 }
 
 // The qualifier that is node i: its term, then the name that it binds.
-fn qualifier(s: &[u64], i: usize, names: Names) -> Names
-    ensures { λ r. ⌜ QualPassed (now (s .entry)) i names r ⌝ }
+fn qualifier(s: &[u64], i: usize, seen: &mut [bool; 256], scope: &mut [bool; 256], ok: bool) -> bool
+    requires { ⌜ Full (names (now seen) (now scope) ok) ⌝ }
+    ensures { λ r. ⌜ QualPassed (now (s .entry)) i (names (now (seen .entry)) (now (scope .entry)) ok) (names (now (seen .exit)) (now (scope .exit)) r) ⌝ }
 {
     match kind_at(s, i) {
-        16 => bound(term(s, i, names), arg_at(s, i)),
-        17 => bound(term(s, i, names), arg_at(s, i)),
-        18 => term(s, i, names),
-        _ => names,
+        16 => {
+            let k = term(s, i, seen, scope, ok);
+            bound(seen, scope, arg_at(s, i), k)
+        }
+        17 => {
+            let k = term(s, i, seen, scope, ok);
+            bound(seen, scope, arg_at(s, i), k)
+        }
+        18 => term(s, i, seen, scope, ok),
+        _ => ok,
     }
 }
 
@@ -160,14 +184,9 @@ fn qualifier(s: &[u64], i: usize, names: Names) -> Names
 pub fn names_hold(s: &[u64], n: usize) -> bool
     ensures { λ r. ⌜ Judged (now (s .entry)) n r ⌝ }
 {
-    let none = [false; 256];
-    let fresh = Names {
-        seen: none,
-        scope: none,
-        ok: true,
-    };
-    let r = term(s, n, fresh);
-    r.ok
+    let mut seen = [false; 256];
+    let mut scope = [false; 256];
+    term(s, n, &mut seen, &mut scope, true)
 }
 
 // A word of the scratch gets a value. A store outside the scratch does nothing.
