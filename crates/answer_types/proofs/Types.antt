@@ -10,13 +10,14 @@ use Rattle.spec_checks.specs.Types.{Ty, Tys, number, truth, record′, coll, yn
 use Rattle.spec_checks.proofs.Judgement.{result}
 use Rattle.spec_checks.proofs.Refold.{gathered}
 use Rattle.spec_normal_form.specs.Form.{Form}
-use Rattle.base_monoid.specs.declared.Monoid.{Monoid}
-use Rattle.base_monoid.specs.declared.Monoid.the-variants as Mo
-use Rattle.base_monoid.specs.Word.{monoidOf}
+use Rattle.base_syntax.specs.declared.Monoid.{Monoid}
+use Rattle.base_syntax.specs.declared.Monoid.the-variants as Mo
+use Rattle.base_syntax.specs.Word.{monoidOf}
+use Rattle.base_syntax.specs.Numbers.{binOf}
 use Rattle.form_words.specs.declared.Node.{Node}
 use Rattle.form_words.specs.declared.Node.the-variants.{Number, Truth, Row, Cell, Record, Binary, Negation, Comprehension, Generator, Condition, Nothing}
 use Rattle.form_words.specs.Packing.{places, next}
-use Rattle.form_words.specs.Tree.{binOf, formTree, headTree, left}
+use Rattle.form_words.specs.Tree.{formTree, headTree, left}
 use Rattle.form_words.specs.declared.Clause.the-variants as Cl
 use Rattle.form_words.specs.Look.{Looks, LooksC}
 use Rattle.form_words.specs.Head.{headNode}

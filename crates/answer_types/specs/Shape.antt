@@ -9,8 +9,8 @@ use Rattle.spec_checks.proofs.Judgement.{result}
 use Rattle.spec_checks.proofs.Refold.{gathered}
 use Rattle.spec_normal_form.specs.Form.{Form, Forms, row, cell, rec, bin, negate, comp, fnil, fcons}
 use Rattle.spec_normal_form.specs.Form as Fo
-use Rattle.base_monoid.specs.declared.Monoid.{Monoid}
-use Rattle.base_monoid.specs.declared.Monoid.the-variants as Mo
+use Rattle.base_syntax.specs.declared.Monoid.{Monoid}
+use Rattle.base_syntax.specs.declared.Monoid.the-variants as Mo
 use Rattle.form_words.specs.declared.Node.{Node}
 use Rattle.form_words.specs.declared.Node.the-variants.{Number, Truth, Row, Cell, Record, Binary, Negation, Comprehension, Generator, Condition, Nothing}
 use Rattle.form_words.specs.declared.Clause.{Clause}

@@ -20,7 +20,7 @@ use Rattle.spec_calculus.proofs.WellFormed.{Row, row-field}
 use Rattle.spec_encoding.specs.Record.{Bytes}
 use Rattle.spec_normal_form.specs.Form.{Form, Forms, Clauses, row, cell, bin, negate, comp, fnil, fcons, done, gen, cond, value, values, loops}
 use Rattle.spec_normal_form.specs.Form as Fo
-use Rattle.base_monoid.proofs.Laws.{Made, fold-made}
+use Rattle.base_syntax.proofs.Laws.{Made, fold-made}
 use Rattle.form_env.specs.Env.{envOf, tablesIn, Held}
 use Rattle.form_env.proofs.Laws.{each-row, table-each}
 use Rattle.spec_outcome.specs.Written.{words, wordsL}

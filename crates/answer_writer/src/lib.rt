@@ -3,7 +3,8 @@ ghost use mathlib.Core.Path.{_≡_};
 ghost use Rattle.answer_writer.specs.Laying.{bump, laid, Puts};
 ghost use Rattle.answer_writer.specs.Shapes.{comprehensionShape, ShapeAt};
 ghost use Rattle.answer_writer.specs.Contract.{Rows};
-use base_monoid::Monoid;
+use base_syntax::Monoid;
+use base_syntax::Op;
 use base_tables::cell;
 use base_tables::columns;
 use base_tables::rows;
@@ -11,10 +12,10 @@ use form_arith::Sort;
 use form_arith::result;
 use form_env::description;
 use form_env::slot;
+use form_words::arg;
+use form_words::kind;
 use form_words::low;
-use form_words::monoid_of;
 use form_words::next;
-use form_words::operator;
 use form_words::word;
 
 // How a form's value is written: one word, a row's columns, a record's fields up to a place, a collection.
@@ -73,14 +74,14 @@ pub fn shape_at(s: &[u64], i: usize) -> Shape
         return Shape::Word(Sort::Number);
     }
     let w = word(s, i);
-    let a = w / 16384;
-    match w % 16 {
-        2 => Shape::Word(Sort::Truth),
-        3 => Shape::Row(low(a)),
-        5 => Shape::Record(next(s, i)),
-        6 => Shape::Word(result(operator(a))),
-        7 => Shape::Word(Sort::Truth),
-        8 => comprehension_shape(monoid_of(a % 8)),
+    let a = arg(w);
+    match kind(w) {
+        form_words::TRUTH => Shape::Word(Sort::Truth),
+        form_words::ROW => Shape::Row(low(a)),
+        form_words::RECORD => Shape::Record(next(s, i)),
+        form_words::BINARY => Shape::Word(result(Op::from_number(a))),
+        form_words::NEGATION => Shape::Word(Sort::Truth),
+        form_words::COMPREHENSION => comprehension_shape(Monoid::from_bits(a)),
         _ => Shape::Word(Sort::Number),
     }
 }

@@ -74,7 +74,7 @@ pub fn read_header(s: &[u8]) -> Header
     if s.len() - 4 < n {
         return Header::Bad;
     }
-    if two_at(s, 2) != 20 {
+    if two_at(s, 2) != base_syntax::KIND_ROWS {
         return Header::Bad;
     }
     Header::Record(n)
@@ -123,14 +123,14 @@ fn table_at(data: &[u8], p: usize) -> TableRead
     ensures { λ r. ⌜ r ≡ tableAt (now («data» .entry)) p ⌝ }
 {
     let Header::Record(n) = read_header(&data[p..]) else {
-        return TableRead::Refused(11);
+        return TableRead::Refused(base_refusals::NOT_A_TABLE);
     };
     let from = p + 4;
     let next = from + n;
     if well_formed(&data[from..next]) {
         TableRead::Is(describe(&data[from..next], p + 8), next)
     } else {
-        TableRead::Refused(12)
+        TableRead::Refused(base_refusals::TABLE_OUT_OF_RANGE)
     }
 }
 
@@ -198,7 +198,7 @@ pub fn read_data(data: &[u8], scratch: &mut [u64]) -> u64
     let mut n = 0;
     while p < data.len() {
         if n == 8 {
-            return 13;
+            return base_refusals::TOO_MANY_TABLES;
         }
         match table_at(data, p) {
             TableRead::Refused(x) => {

@@ -13,6 +13,9 @@ use form_prepared::Answer;
 use front_end::Checked;
 use plan_lines::Printed;
 
+// "47: a portion of 0 rows or above 65,535."
+const MOST_ROWS: u64 = 65535;
+
 // "An answer is 0 and its length ..; a refusal its number and length 0."
 #[repr(C)]
 pub struct Reply {
@@ -31,7 +34,7 @@ pub enum Admitted {
 pub fn admit(tables: &[u8], question: &[u8], scratch: &mut [u64]) -> Admitted
     ensures { λ r. ⌜ Admits (now (tables .entry)) (now (question .entry)) (now (scratch .entry)) (now (scratch .exit)) r ⌝ }
 {
-    if scratch.len() < 8192 {
+    if scratch.len() < base_scratch::WORDS {
         return Admitted::Scant;
     }
     match front_end::prepare(tables, question, scratch) {
@@ -59,7 +62,7 @@ pub extern "C" fn dislogha_check(tables: &[u8], question: &[u8], scratch: &mut [
 {
     match admit(tables, question, scratch) {
         Admitted::Scant => Reply {
-            number: 31,
+            number: base_refusals::SCRATCH_TOO_SHORT,
             length: 0,
         },
         Admitted::Refused(k) => finish(scratch, k, 0),
@@ -79,12 +82,12 @@ pub extern "C" fn dislogha_answer_by_loops(
 {
     match admit(tables, question, scratch) {
         Admitted::Scant => Reply {
-            number: 31,
+            number: base_refusals::SCRATCH_TOO_SHORT,
             length: 0,
         },
         Admitted::Refused(k) => finish(scratch, k, 0),
         Admitted::Accepted => match loop_answer::answer(scratch, tables, answer) {
-            Answer::Short => finish(scratch, 32, 0),
+            Answer::Short => finish(scratch, base_refusals::ANSWER_TOO_SHORT, 0),
             Answer::Length(n) => finish(scratch, 0, n as u64),
         },
     }
@@ -102,12 +105,12 @@ pub extern "C" fn dislogha_answer_by_plan(
 {
     match admit(tables, question, scratch) {
         Admitted::Scant => Reply {
-            number: 31,
+            number: base_refusals::SCRATCH_TOO_SHORT,
             length: 0,
         },
         Admitted::Refused(k) => finish(scratch, k, 0),
         Admitted::Accepted => match exec_answer::answer(scratch, tables, answer) {
-            Answer::Short => finish(scratch, 32, 0),
+            Answer::Short => finish(scratch, base_refusals::ANSWER_TOO_SHORT, 0),
             Answer::Length(n) => finish(scratch, 0, n as u64),
         },
     }
@@ -125,12 +128,12 @@ pub extern "C" fn dislogha_plan_lines(
 {
     match admit(tables, question, scratch) {
         Admitted::Scant => Reply {
-            number: 31,
+            number: base_refusals::SCRATCH_TOO_SHORT,
             length: 0,
         },
         Admitted::Refused(k) => finish(scratch, k, 0),
         Admitted::Accepted => match plan_lines::plan_lines(scratch, text) {
-            Printed::Short => finish(scratch, 33, 0),
+            Printed::Short => finish(scratch, base_refusals::LINES_TOO_SHORT, 0),
             Printed::Length(n) => finish(scratch, 0, n as u64),
         },
     }
@@ -153,7 +156,7 @@ pub extern "C" fn dislogha_begin(tables: &[u8], question: &[u8], scratch: &mut [
 {
     match admit(tables, question, scratch) {
         Admitted::Scant => Reply {
-            number: 31,
+            number: base_refusals::SCRATCH_TOO_SHORT,
             length: 0,
         },
         Admitted::Refused(k) => finish(scratch, k, 0),
@@ -205,23 +208,23 @@ pub extern "C" fn dislogha_portion(
     ensures { λ r. ⌜ PortionGives (now (tables .entry)) rows (now (scratch .entry)) (now (answer .entry)) (now (scratch .exit)) (now (answer .exit)) r ⌝ }
 {
     if rows == 0 {
-        return declined(47);
+        return declined(base_refusals::ROWS_OUT_OF_RANGE);
     }
-    if 65535 < rows {
-        return declined(47);
+    if MOST_ROWS < rows {
+        return declined(base_refusals::ROWS_OUT_OF_RANGE);
     }
     if scratch.len() < base_scratch::WORDS {
-        return declined(31);
+        return declined(base_refusals::SCRATCH_TOO_SHORT);
     }
     match exec_portions::advance(scratch, tables, answer, rows as usize) {
-        Progress::Nothing => declined(48),
+        Progress::Nothing => declined(base_refusals::NOTHING_UNFINISHED),
         Progress::Unfinished => Portioned {
             finished: 0,
             offered: rows,
             number: 0,
             length: 0,
         },
-        Progress::Short(k) => ended(scratch, k as u64, 32, 0),
+        Progress::Short(k) => ended(scratch, k as u64, base_refusals::ANSWER_TOO_SHORT, 0),
         Progress::Length(k, n) => ended(scratch, k as u64, 0, n as u64),
     }
 }
@@ -291,7 +294,7 @@ pub extern "C" fn dislogha_round(
     if !fits {
         let idle = declined(0);
         return Round {
-            number: 49,
+            number: base_refusals::ROTA_OUT_OF_RANGE,
             first: idle,
             second: idle,
             third: idle,

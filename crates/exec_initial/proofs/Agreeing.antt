@@ -12,7 +12,7 @@ use Rattle.spec_normal_form.specs.Form.{Form, Forms, Clauses, num, truth, row, 
 use Rattle.form_words.specs.Packing.{places, wordAt, nodeAt}
 use Rattle.form_words.specs.Tree.{formTree}
 use Rattle.form_words.specs.Flat.{size, sizeF, sizeC}
-use Rattle.form_words.proofs.ReadBack.{monoid-back}
+use Rattle.base_syntax.proofs.Numbers.{monoid-back}
 use Rattle.spec_plan.specs.Operators.{Row, valueOf, at, evalP}
 use Rattle.plan_marks.specs.Marks.{markOf, markAt, slotBy}
 use Rattle.plan_marks.specs.PlanIn.{monoidBy}

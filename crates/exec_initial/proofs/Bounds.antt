@@ -20,7 +20,8 @@ use Rattle.form_words.specs.declared.Clause.the-variants as Cl
 use Rattle.form_words.specs.Packing.{places, nodeAt}
 use Rattle.form_words.specs.Tree.{clauseOf, formTree, clausesTree, left}
 use Rattle.form_words.specs.Flat.{size, sizeF, sizeC}
-use Rattle.form_words.proofs.ReadBack.{monoid-back, size-some}
+use Rattle.base_syntax.proofs.Numbers.{monoid-back}
+use Rattle.form_words.proofs.ReadBack.{size-some}
 use Rattle.spec_plan.specs.Plan.{PTerm}
 use Rattle.plan_marks.specs.PlanIn.{monoidBy, termIn, headIn}
 use Rattle.plan_marks.proofs.Lies.{Lies, LiesF, LiesC}

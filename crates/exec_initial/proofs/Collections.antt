@@ -3,13 +3,12 @@ use mathlib.Core.Path.{_≡_, refl, sym, ap, subst, _∙_}
 use mathlib.Core.Bool.{true}
 use Rattle.spec_calculus.specs.Syntax.{list, bag, set, of, sum, max, some, all}
 use Rattle.spec_calculus.specs.Syntax as Sy
-use Rattle.base_monoid.specs.declared.Monoid.{Monoid}
-use Rattle.base_monoid.specs.declared.Monoid.the-variants as Mo
+use Rattle.base_syntax.specs.declared.Monoid.{Monoid}
+use Rattle.base_syntax.specs.declared.Monoid.the-variants as Mo
+use Rattle.base_syntax.specs.Numbers.{monoidArg, monoidAt}
 use Rattle.form_words.specs.declared.Node.{Node}
 use Rattle.form_words.specs.declared.Node.the-variants as N
-use Rattle.form_words.specs.Packing.{monoidAt}
-use Rattle.form_words.specs.Flat.{monoidArg}
-use Rattle.form_words.proofs.ReadBack.{monoid-back}
+use Rattle.base_syntax.proofs.Numbers.{monoid-back}
 use Rattle.answer_writer.specs.declared.Shape.{Shape}
 use Rattle.answer_writer.specs.declared.Shape.the-variants as Sh
 use Rattle.answer_writer.specs.Shapes.{comprehensionShape, shapeOf}

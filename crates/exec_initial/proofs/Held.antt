@@ -14,14 +14,14 @@ use Rattle.spec_calculus.specs.Syntax as Sy
 use Rattle.spec_calculus.specs.Syntax.{Monoid, of, sum, max, some, all}
 use Rattle.spec_calculus.specs.Value.{Value, Tables, junk, asInt, rowsOf}
 use Rattle.spec_calculus.specs.Monoid.{finish}
-use Rattle.base_monoid.specs.Word.{finishWord}
+use Rattle.base_syntax.specs.Word.{finishWord}
 use Rattle.spec_encoding.specs.Record.{Bytes}
 use Rattle.spec_normal_form.specs.Form.{Form}
 use Rattle.form_words.specs.declared.Node.the-variants as N
 use Rattle.form_words.specs.declared.Clause.the-variants as Cl
 use Rattle.form_words.specs.Packing.{nodeAt}
 use Rattle.form_words.specs.Tree.{clauseOf, formTree}
-use Rattle.form_words.proofs.ReadBack.{monoid-back}
+use Rattle.base_syntax.proofs.Numbers.{monoid-back}
 use Rattle.base_signed.proofs.Word.{by-test}
 use Rattle.spec_plan.specs.Plan.{PTerm, Source, table, unit}
 use Rattle.spec_plan.specs.Operators.{Place, val, Row, valueOf, at, sourceRows, numbered}

@@ -9,7 +9,7 @@ use lib.ListN.{length, length-append, List·getD-append}
 use lib.Seq.{getD-append-seam}
 use Rattle.spec_normal_form.specs.Form.{Form, Forms, num, truth, row, cell, rec, bin, negate, comp, fnil, fcons, gens}
 use Rattle.spec_normal_form.specs.NoRule.{Ordered, OrderedF}
-use Rattle.base_monoid.specs.declared.Monoid.{Monoid}
+use Rattle.base_syntax.specs.declared.Monoid.{Monoid}
 use Rattle.form_words.specs.declared.Node.the-variants.{Comprehension, Generator}
 use Rattle.form_words.specs.Packing.{nodeAt}
 use Rattle.form_words.specs.Flat.{size}

@@ -11,7 +11,7 @@ use Rattle.spec_calculus.specs.Monoid.{start}
 use Rattle.spec_normal_form.specs.Form.{Form}
 use Rattle.form_words.specs.Packing.{nodeAt}
 use Rattle.form_words.specs.Tree.{clauseOf, formTree}
-use Rattle.form_words.proofs.ReadBack.{monoid-back}
+use Rattle.base_syntax.proofs.Numbers.{monoid-back}
 use Rattle.spec_plan.specs.Plan.{Source, table, unit}
 use Rattle.spec_plan.specs.Operators.{sourceRows}
 use Rattle.plan_marks.specs.PlanIn.{monoidBy}

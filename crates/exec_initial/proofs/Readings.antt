@@ -6,9 +6,9 @@ use Prim.Native.Nat.{ℕ, zero, suc, _+_, _≤_}
 use native.Mathlib.Nat.{le-refl}
 use Rattle.spec_encoding.specs.Record.{Bytes}
 use Rattle.spec_normal_form.specs.Bound.{within, withinC}
-use Rattle.form_words.specs.Packing.{wordAt, monoidAt}
-use Rattle.form_words.specs.Flat.{monoidArg}
-use Rattle.form_words.proofs.ReadBack.{monoid-back}
+use Rattle.base_syntax.specs.Numbers.{monoidArg, monoidAt}
+use Rattle.form_words.specs.Packing.{wordAt}
+use Rattle.base_syntax.proofs.Numbers.{monoid-back}
 use Rattle.form_words.specs.Tree.{clauseOf, formTree}
 use Rattle.form_words.specs.Head.{headBy, headNode}
 use Rattle.spec_plan.specs.Plan.{PTerm, Source}

@@ -11,7 +11,8 @@ use Rattle.spec_normal_form.specs.Bound.{within}
 use Rattle.form_words.specs.Packing.{places, next, wordAt}
 use Rattle.form_words.specs.Tree.{formTree}
 use Rattle.form_words.specs.Flat.{size, sizeC}
-use Rattle.form_words.proofs.ReadBack.{size-some, monoid-back}
+use Rattle.base_syntax.proofs.Numbers.{monoid-back}
+use Rattle.form_words.proofs.ReadBack.{size-some}
 use Rattle.spec_plan.specs.Plan.{PTerm, Source}
 use Rattle.spec_plan.specs.Operators.{Row}
 use Rattle.plan_marks.specs.Marks.{markAt}

@@ -7,7 +7,7 @@ use Prim.Native.Nat.{ℕ, suc, pred, _+_, _≤_, _<_}
 use native.Mathlib.Omega.{arith}
 use borrow.Author.Tests.{eq-eqb}
 use Rattle.spec_normal_form.specs.Form.{Form, Forms, num, truth, row, cell, rec, bin, negate, comp, fnil, fcons}
-use Rattle.base_monoid.specs.declared.Monoid.{Monoid}
+use Rattle.base_syntax.specs.declared.Monoid.{Monoid}
 use Rattle.spec_plan.specs.Plan.{PTerm}
 use Rattle.form_words.specs.declared.Node.the-variants as N
 use Rattle.form_words.specs.Packing.{places, next, nodeAt}

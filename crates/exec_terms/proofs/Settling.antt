@@ -10,9 +10,10 @@ use Rattle.spec_calculus.proofs.Lists.{bind-append}
 use Rattle.spec_normal_form.specs.Form.{Form, Forms, num, truth, row, cell, rec, bin, negate, comp, fnil, fcons}
 use Rattle.spec_plan.specs.Plan.{PTerm}
 use Rattle.spec_plan.specs.Operators.{Row, evalP}
-use Rattle.form_words.specs.Packing.{places, next, opAt, monoidAt, nodeAt}
-use Rattle.form_words.specs.Tree.{binOf, left}
-use Rattle.form_words.specs.Flat.{size, sizeF, opArg, monoidArg}
+use Rattle.base_syntax.specs.Numbers.{binOf, opArg, opAt, monoidArg, monoidAt}
+use Rattle.form_words.specs.Packing.{places, next, nodeAt}
+use Rattle.form_words.specs.Tree.{left}
+use Rattle.form_words.specs.Flat.{size, sizeF}
 use Rattle.form_words.proofs.ReadBack.{size-some}
 use Rattle.form_arith.specs.declared.Sort.the-variants as So
 use Rattle.form_arith.specs.Sorts.{resultSort}

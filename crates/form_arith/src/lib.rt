@@ -2,11 +2,11 @@
 ghost use mathlib.Core.Path.{_≡_};
 ghost use Prim.Native.Nat.{_≤_, _^_};
 ghost use lib.IntN.{natAbs};
-ghost use Rattle.form_words.specs.Tree.{binOf};
-ghost use Rattle.base_monoid.specs.Word.{monoidOf};
+ghost use Rattle.base_syntax.specs.Word.{monoidOf};
+ghost use Rattle.base_syntax.specs.Numbers.{binOf};
 ghost use Rattle.form_arith.specs.Sorts.{codeOf, readWord, sortOf, operandSort, resultSort, truthWord, negateWord, operateWord, operateBound};
-use base_monoid::Monoid;
-use form_words::Op;
+use base_syntax::Monoid;
+use base_syntax::Op;
 
 // How a value is read as a word: as a number, as a truth, or not at all.
 pub enum Sort {

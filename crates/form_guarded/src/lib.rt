@@ -5,12 +5,12 @@ ghost use Prim.Native.Nat.{_+_, _*_, _<_, _^_};
 ghost use lib.Dec.{leb};
 ghost use lib.IntN.{pos, natAbs};
 ghost use lib.Signed.{mag, _<ℤ_, _≤ℤ_};
-ghost use Rattle.form_words.specs.Tree.{binOf};
-ghost use Rattle.base_monoid.specs.Word.{monoidOf};
+ghost use Rattle.base_syntax.specs.Word.{monoidOf};
+ghost use Rattle.base_syntax.specs.Numbers.{binOf};
 ghost use Rattle.form_arith.specs.Sorts.{operateBound};
 ghost use Rattle.form_guarded.specs.Guarded.{mergeRoom, Operates, Merges};
-use base_monoid::Monoid;
-use form_words::Op;
+use base_syntax::Monoid;
+use base_syntax::Op;
 
 // A number that is not negative.
 fn natural(x: i64) -> u64

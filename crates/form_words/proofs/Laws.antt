@@ -1,31 +1,30 @@
 -- Laws of the words of a normal form: what is packed is unpacked, where the next place lies, what each node is, and how a
 -- tree is read from its node.
-use mathlib.Core.Path.{_≡_, refl, sym, ap, subst, _∙_}
+use mathlib.Core.Path.{_≡_, refl, sym, ap, ap₂, subst, _∙_}
 use mathlib.Core.Bool.{Bool, true, false, cond}
 use mathlib.Core.List.{List, [], _∷_}
 use Prim.Native.Nat.{ℕ, zero, suc, _+_, _-_, _/_, _%_, _^_, _≤_, _<_}
 use native.Mathlib.Omega.{arith}
 use borrow.Author.Tests.{le-leb, lt-leb}
 use lib.Dec.{ltb, leb, eqb}
-use lib.ListN.{getD, List·getD-eq-default}
+use lib.ListN.{getD}
 use lib.IntN.{ℤ, pos, negsuc, natAbs, _-ℤ_}
 use mir.Syntax.{w64}
 use mir.Val.{SFits, toZ, ofZ}
 use mir.Facts.{toZ-ofZ}
 use Rattle.spec_calculus.specs.Lists.{pick}
 use Rattle.spec_normal_form.specs.Form.{Form, Clauses, fnil, fcons}
-use Rattle.base_monoid.specs.declared.Monoid.{Monoid}
-use Rattle.base_monoid.specs.declared.Monoid.the-variants as Mo
+use Rattle.base_syntax.specs.declared.Monoid.{Monoid}
 use Rattle.base_signed.proofs.Word.{fits, up, mag-sub}
-use Rattle.form_words.specs.declared.Op.{Op}
-use Rattle.form_words.specs.declared.Op.the-variants.{Plus}
+use Rattle.base_syntax.specs.declared.Op.{Op}
+use Rattle.base_syntax.specs.Numbers.{opAt, monoidAt}
 use Rattle.form_words.specs.declared.Node.{Node}
 use Rattle.form_words.specs.declared.Node.the-variants.{Number, Truth, Row, Cell, Record, Binary, Negation, Comprehension, Generator, Condition, Nothing}
 use Rattle.form_words.specs.declared.Leaf.{Leaf}
 use Rattle.form_words.specs.declared.Leaf.the-variants as Le
 use Rattle.form_words.specs.declared.Clause.{Clause}
 use Rattle.form_words.specs.declared.Clause.the-variants as Cl
-use Rattle.form_words.specs.Packing.{places, wordAt, kindOf, belowOf, argOf, pack, next, numberOf, operators, opAt, monoids, monoidAt, kinds, nodeOf, nodeAt}
+use Rattle.form_words.specs.Packing.{places, wordAt, kindOf, belowOf, argOf, pack, next, numberOf, kinds, nodeOf, nodeAt}
 use Rattle.form_words.specs.Tree.{formBy, clauseOf, clausesBy, headBy, formTree, formsTree, clausesTree, headTree}
 use Rattle.form_words.specs.Head as Hd
 use Rattle.form_words.specs.Look.{Inside, Looks, leafOf, LeafAt, LooksC}
@@ -55,14 +54,14 @@ module _ (s : List ℕ) (i : ℕ) where
   unfolding next
   next-out p = omega arith
 
-  module _ {w : ℕ} (e : w ≡ wordAt s i) where
-    pub next-in : i + 1 + belowOf w < places → i + 1 + belowOf w ≡ next s i
+  module _ {w n : ℕ} (e : w ≡ wordAt s i) (b : (n ≡ belowOf w) × (n < 1024)) where
+    pub next-in : i + 1 + n < places → i + 1 + n ≡ next s i
     unfolding next
-    next-in p = omega (arith, ap belowOf e)
+    next-in p = omega (arith, b .0, ap belowOf e)
 
-    pub next-cut : places ≤ i + 1 + belowOf w → places ≡ next s i
+    pub next-cut : places ≤ i + 1 + n → places ≡ next s i
     unfolding next
-    next-cut p = omega (arith, ap belowOf e)
+    next-cut p = omega (arith, b .0, ap belowOf e)
 
 -- ---- arguments
 distance : (a : ℕ) → pos a -ℤ pos 0x80000000 ≡ numberOf a
@@ -85,18 +84,6 @@ module _ {a : ℕ} (p : a < 2 ^ 50) where
       go : (t : Bool) → natAbs (elim t [ true ↦ negsuc (0x7fffffff - a) | false ↦ pos (a - 0x80000000) ]) < 2 ^ 50
       go true = omega arith
       go false = omega arith
-
-pub op-rest : (a : ℕ) → (a ≡ 1 → ⊥) → (a ≡ 2 → ⊥) → (a ≡ 3 → ⊥) → (a ≡ 4 → ⊥) → (a ≡ 5 → ⊥) → (a ≡ 6 → ⊥) → Plus ≡ opAt a
-op-rest zero n1 n2 n3 n4 n5 n6 = refl
-op-rest (suc a) n1 n2 n3 n4 n5 n6 = sym (List·getD-eq-default operators Plus {n = suc a} (omega arith))
-
-monoid-far : (a : ℕ) → (suc (suc a) ≡ 2 → ⊥) → (suc (suc a) ≡ 3 → ⊥) → (suc (suc a) ≡ 4 → ⊥) → (suc (suc a) ≡ 5 → ⊥) → (suc (suc a) ≡ 6 → ⊥) → (suc (suc a) ≡ 7 → ⊥) → Mo.List ≡ monoidAt (suc (suc a))
-monoid-far a n2 n3 n4 n5 n6 n7 = sym (List·getD-eq-default monoids Mo.List {n = suc (suc a)} (omega arith))
-
-pub monoid-rest : (a : ℕ) → (a ≡ 0 → ⊥) → (a ≡ 2 → ⊥) → (a ≡ 3 → ⊥) → (a ≡ 4 → ⊥) → (a ≡ 5 → ⊥) → (a ≡ 6 → ⊥) → (a ≡ 7 → ⊥) → Mo.List ≡ monoidAt a
-monoid-rest zero n0 n2 n3 n4 n5 n6 n7 = absurd (n0 refl)
-monoid-rest (suc zero) n0 n2 n3 n4 n5 n6 n7 = refl
-monoid-rest (suc (suc a)) n0 n2 n3 n4 n5 n6 n7 = monoid-far a n2 n3 n4 n5 n6 n7
 
 -- ---- nodes
 -- P of each node of a list whose place, counted from j on, may be k
@@ -127,57 +114,58 @@ pub look-out : {s : List ℕ} {i : ℕ} → places ≤ i → Looks s i Nothing
 unfolding nodeAt pick
 look-out {s} {i} p = record { is = rw (le-leb places i p); inside = tt }
 
-module _ {s : List ℕ} {i w : ℕ} (p : i < places) (e : w ≡ wordAt s i) where
-  look-by : {n : Node} → Inside i n → n ≡ nodeOf s i (kindOf w) (argOf w) → Looks s i n
+-- w: the word; a and k: its argument and its kind, as they were read
+module _ {s : List ℕ} {i w a k : ℕ} (p : i < places) (e : w ≡ wordAt s i) (A : (a ≡ argOf w) × (a < 2 ^ 50)) (K : k ≡ kindOf w) where
+  look-by : {n : Node} → Inside i n → n ≡ nodeOf s i k a → Looks s i n
   unfolding nodeAt pick
-  look-by q h = record { is = rw (lt-leb places i p) (h ∙ ap (λ x. nodeOf s i (kindOf x) (argOf x)) e); inside = q }
+  look-by q h = record { is = rw (lt-leb places i p) (h ∙ ap₂ (nodeOf s i) K (A .0) ∙ ap (λ x. nodeOf s i (kindOf x) (argOf x)) e); inside = q }
 
-  pub look-number : {z : ℤ} → w < 2 ^ 64 → kindOf w ≡ 1 → z ≡ numberOf (argOf w) → Looks s i (Number z)
+  pub look-number : {z : ℤ} → k ≡ 1 → z ≡ numberOf (a) → Looks s i (Number z)
   unfolding nodeOf
-  look-number l k q = look-by (rw q (number-small {a = argOf w} (omega arith))) (rw (k, q))
+  look-number l q = look-by (rw q (number-small (A .1))) (rw (l, q))
 
-  pub look-truth : {b : Bool} → kindOf w ≡ 2 → b ≡ eqb (argOf w) 1 → Looks s i (Truth b)
+  pub look-truth : {b : Bool} → k ≡ 2 → b ≡ eqb (a) 1 → Looks s i (Truth b)
   unfolding nodeOf
-  look-truth k q = look-by tt (rw (k, q))
+  look-truth l q = look-by tt (rw (l, q))
 
-  pub look-row : {g : ℕ} → kindOf w ≡ 3 → (g ≡ argOf w % 1024) × (g < 1024) → Looks s i (Row g)
+  pub look-row : {g : ℕ} → k ≡ 3 → (g ≡ a % 1024) × (g < 1024) → Looks s i (Row g)
   unfolding nodeOf
-  look-row k q = look-by (q .1) (rw (k, q .0))
+  look-row l q = look-by (q .1) (rw (l, q .0))
 
-  pub look-cell : {c g : ℕ} → kindOf w ≡ 4 → (c ≡ argOf w / 1024 % 1024) × (c < 1024) → (g ≡ argOf w % 1024) × (g < 1024) → Looks s i (Cell c g)
+  pub look-cell : {c g : ℕ} → k ≡ 4 → (c ≡ a / 1024 % 1024) × (c < 1024) → (g ≡ a % 1024) × (g < 1024) → Looks s i (Cell c g)
   unfolding nodeOf
-  look-cell k q r = look-by (q .1, r .1) (rw (k, q .0, r .0))
+  look-cell l q r = look-by (q .1, r .1) (rw (l, q .0, r .0))
 
-  pub look-record : {j : ℕ} → kindOf w ≡ 5 → j ≡ next s i → Looks s i (Record j)
+  pub look-record : {j : ℕ} → k ≡ 5 → j ≡ next s i → Looks s i (Record j)
   unfolding nodeOf
-  look-record k q = look-by (rw q (next-past s i p), rw q (next-most s i)) (rw (k, q))
+  look-record l q = look-by (rw q (next-past s i p), rw q (next-most s i)) (rw (l, q))
 
-  pub look-binary : {o : Op} {j : ℕ} → kindOf w ≡ 6 → o ≡ opAt (argOf w) → j ≡ next s (i + 1) → Looks s i (Binary o j)
+  pub look-binary : {o : Op} {j : ℕ} → k ≡ 6 → o ≡ opAt (a) → j ≡ next s (i + 1) → Looks s i (Binary o j)
   unfolding nodeOf next
-  look-binary k q r = look-by (omega arith, omega arith) (rw (k, q, r))
+  look-binary l q r = look-by (omega arith, omega arith) (rw (l, q, r))
 
-  pub look-negation : kindOf w ≡ 7 → Looks s i Negation
+  pub look-negation : k ≡ 7 → Looks s i Negation
   unfolding nodeOf
-  look-negation k = look-by p (rw k)
+  look-negation l = look-by p (rw l)
 
-  pub look-comprehension : {m : Monoid} → kindOf w ≡ 8 → m ≡ monoidAt (argOf w % 8) → Looks s i (Comprehension m)
+  pub look-comprehension : {m : Monoid} → k ≡ 8 → m ≡ monoidAt (a % 8) → Looks s i (Comprehension m)
   unfolding nodeOf
-  look-comprehension k q = look-by p (rw (k, q))
+  look-comprehension l q = look-by p (rw (l, q))
 
-  pub look-generator : {g t : ℕ} → kindOf w ≡ 9 → (g ≡ argOf w / 1024 % 1024) × (g < 1024) → (t ≡ argOf w % 1024) × (t < 1024) → Looks s i (Generator g t)
+  pub look-generator : {g t : ℕ} → k ≡ 9 → (g ≡ a / 1024 % 1024) × (g < 1024) → (t ≡ a % 1024) × (t < 1024) → Looks s i (Generator g t)
   unfolding nodeOf
-  look-generator k q r = look-by (p, q .1, r .1) (rw (k, q .0, r .0))
+  look-generator l q r = look-by (p, q .1, r .1) (rw (l, q .0, r .0))
 
-  pub look-condition : {j : ℕ} → kindOf w ≡ 10 → j ≡ next s i → Looks s i (Condition j)
+  pub look-condition : {j : ℕ} → k ≡ 10 → j ≡ next s i → Looks s i (Condition j)
   unfolding nodeOf
-  look-condition k q = look-by (rw q (next-past s i p), rw q (next-most s i)) (rw (k, q))
+  look-condition l q = look-by (rw q (next-past s i p), rw q (next-most s i)) (rw (l, q))
 
 -- a kind that is none of the ten
-pub look-rest : {s : List ℕ} {i w : ℕ} → w ≡ wordAt s i →
-    (kindOf w ≡ 1 → ⊥) → (kindOf w ≡ 2 → ⊥) → (kindOf w ≡ 3 → ⊥) → (kindOf w ≡ 4 → ⊥) → (kindOf w ≡ 5 → ⊥) → (kindOf w ≡ 6 → ⊥) →
-    (kindOf w ≡ 7 → ⊥) → (kindOf w ≡ 8 → ⊥) → (kindOf w ≡ 9 → ⊥) → (kindOf w ≡ 10 → ⊥) → Looks s i Nothing
-look-rest {s} {i} e n1 n2 n3 n4 n5 n6 n7 n8 n9 n10 = record {
-  is = node-by (λ n. Nothing ≡ n) s i e refl (λ q. absurd (n1 q)) (λ q. absurd (n2 q)) (λ q. absurd (n3 q)) (λ q. absurd (n4 q)) (λ q. absurd (n5 q)) (λ q. absurd (n6 q)) (λ q. absurd (n7 q)) (λ q. absurd (n8 q)) (λ q. absurd (n9 q)) (λ q. absurd (n10 q));
+pub look-rest : {s : List ℕ} {i w k : ℕ} → w ≡ wordAt s i → k ≡ kindOf w →
+    (k ≡ 1 → ⊥) → (k ≡ 2 → ⊥) → (k ≡ 3 → ⊥) → (k ≡ 4 → ⊥) → (k ≡ 5 → ⊥) → (k ≡ 6 → ⊥) →
+    (k ≡ 7 → ⊥) → (k ≡ 8 → ⊥) → (k ≡ 9 → ⊥) → (k ≡ 10 → ⊥) → Looks s i Nothing
+look-rest {s} {i} e K n1 n2 n3 n4 n5 n6 n7 n8 n9 n10 = record {
+  is = node-by (λ n. Nothing ≡ n) s i e refl (λ q. absurd (n1 (K ∙ q))) (λ q. absurd (n2 (K ∙ q))) (λ q. absurd (n3 (K ∙ q))) (λ q. absurd (n4 (K ∙ q))) (λ q. absurd (n5 (K ∙ q))) (λ q. absurd (n6 (K ∙ q))) (λ q. absurd (n7 (K ∙ q))) (λ q. absurd (n8 (K ∙ q))) (λ q. absurd (n9 (K ∙ q))) (λ q. absurd (n10 (K ∙ q)));
   inside = tt;
 }
 
@@ -189,17 +177,17 @@ monoid-word s i {w} {m} e = node-by (λ n. n ≡ Comprehension m → monoidAt (a
 pub leaf-out : {s : List ℕ} {i : ℕ} → places ≤ i → LeafAt s i Le.Other
 leaf-out p = record { is = ap leafOf (look-out p .is) }
 
-module _ {s : List ℕ} {i w : ℕ} (p : i < places) (e : w ≡ wordAt s i) where
-  pub leaf-number : {z : ℤ} → w < 2 ^ 64 → kindOf w ≡ 1 → z ≡ numberOf (argOf w) → LeafAt s i (Le.Number z)
-  leaf-number l k q = record { is = ap leafOf (look-number p e l k q .is) }
+module _ {s : List ℕ} {i w a k : ℕ} (p : i < places) (e : w ≡ wordAt s i) (A : (a ≡ argOf w) × (a < 2 ^ 50)) (K : k ≡ kindOf w) where
+  pub leaf-number : {z : ℤ} → k ≡ 1 → z ≡ numberOf a → LeafAt s i (Le.Number z)
+  leaf-number l q = record { is = ap leafOf (look-number p e A K l q .is) }
 
-  pub leaf-cell : {c g : ℕ} → kindOf w ≡ 4 → (c ≡ argOf w / 1024 % 1024) × (c < 1024) → (g ≡ argOf w % 1024) × (g < 1024) → LeafAt s i (Le.Cell c g)
-  leaf-cell k q r = record { is = ap leafOf (look-cell p e k q r .is) }
+  pub leaf-cell : {c g : ℕ} → k ≡ 4 → (c ≡ a / 1024 % 1024) × (c < 1024) → (g ≡ a % 1024) × (g < 1024) → LeafAt s i (Le.Cell c g)
+  leaf-cell l q r = record { is = ap leafOf (look-cell p e A K l q r .is) }
 
 -- a kind that is neither a number's nor a cell's
-pub leaf-rest : {s : List ℕ} {i w : ℕ} → w ≡ wordAt s i → (kindOf w ≡ 1 → ⊥) → (kindOf w ≡ 4 → ⊥) → LeafAt s i Le.Other
-leaf-rest {s} {i} e n1 n4 = record {
-  is = node-by (λ n. Le.Other ≡ leafOf n) s i e refl (λ q. absurd (n1 q)) (λ q. refl) (λ q. refl) (λ q. absurd (n4 q)) (λ q. refl) (λ q. refl) (λ q. refl) (λ q. refl) (λ q. refl) (λ q. refl);
+pub leaf-rest : {s : List ℕ} {i w k : ℕ} → w ≡ wordAt s i → k ≡ kindOf w → (k ≡ 1 → ⊥) → (k ≡ 4 → ⊥) → LeafAt s i Le.Other
+leaf-rest {s} {i} e K n1 n4 = record {
+  is = node-by (λ n. Le.Other ≡ leafOf n) s i e refl (λ q. absurd (n1 (K ∙ q))) (λ q. refl) (λ q. refl) (λ q. absurd (n4 (K ∙ q))) (λ q. refl) (λ q. refl) (λ q. refl) (λ q. refl) (λ q. refl) (λ q. refl);
 }
 
 -- the node that a leaf was read from
@@ -232,17 +220,17 @@ pub clause-out : {s : List ℕ} {i : ℕ} → places ≤ i → LooksC s i Cl.Hea
 unfolding nodeAt pick
 clause-out {s} {i} p = record { is = rw (le-leb places i p); inside = tt }
 
-module _ {s : List ℕ} {i w : ℕ} (p : i < places) (e : w ≡ wordAt s i) where
-  pub clause-generator : {g t : ℕ} → kindOf w ≡ 9 → (g ≡ argOf w / 1024 % 1024) × (g < 1024) → (t ≡ argOf w % 1024) × (t < 1024) → LooksC s i (Cl.Generator g t)
-  clause-generator k q r = let L = look-generator p e k q r in record { is = ap clauseOf (L .is); inside = L .inside }
+module _ {s : List ℕ} {i w a k : ℕ} (p : i < places) (e : w ≡ wordAt s i) (A : (a ≡ argOf w) × (a < 2 ^ 50)) (K : k ≡ kindOf w) where
+  pub clause-generator : {g t : ℕ} → k ≡ 9 → (g ≡ a / 1024 % 1024) × (g < 1024) → (t ≡ a % 1024) × (t < 1024) → LooksC s i (Cl.Generator g t)
+  clause-generator l q r = let L = look-generator p e A K l q r in record { is = ap clauseOf (L .is); inside = L .inside }
 
-  pub clause-condition : {j : ℕ} → kindOf w ≡ 10 → j ≡ next s i → LooksC s i (Cl.Condition j)
-  clause-condition k q = let L = look-condition p e k q in record { is = ap clauseOf (L .is); inside = L .inside }
+  pub clause-condition : {j : ℕ} → k ≡ 10 → j ≡ next s i → LooksC s i (Cl.Condition j)
+  clause-condition l q = let L = look-condition p e A K l q in record { is = ap clauseOf (L .is); inside = L .inside }
 
 -- a kind that is neither a generator's nor a condition's
-pub clause-head : {s : List ℕ} {i w : ℕ} → w ≡ wordAt s i → (kindOf w ≡ 9 → ⊥) → (kindOf w ≡ 10 → ⊥) → LooksC s i Cl.Head
-clause-head {s} {i} e n9 n10 = record {
-  is = node-by (λ n. Cl.Head ≡ clauseOf n) s i e refl (λ q. refl) (λ q. refl) (λ q. refl) (λ q. refl) (λ q. refl) (λ q. refl) (λ q. refl) (λ q. refl) (λ q. absurd (n9 q)) (λ q. absurd (n10 q));
+pub clause-head : {s : List ℕ} {i w k : ℕ} → w ≡ wordAt s i → k ≡ kindOf w → (k ≡ 9 → ⊥) → (k ≡ 10 → ⊥) → LooksC s i Cl.Head
+clause-head {s} {i} e K n9 n10 = record {
+  is = node-by (λ n. Cl.Head ≡ clauseOf n) s i e refl (λ q. refl) (λ q. refl) (λ q. refl) (λ q. refl) (λ q. refl) (λ q. refl) (λ q. refl) (λ q. refl) (λ q. absurd (n9 (K ∙ q))) (λ q. absurd (n10 (K ∙ q)));
   inside = tt;
 }
 

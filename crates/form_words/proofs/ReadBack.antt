@@ -15,13 +15,14 @@ use Rattle.spec_calculus.specs.Syntax as Sy
 use Rattle.spec_calculus.specs.Syntax.{list, bag, set, Monoid, of, sum, max, some, all, Bin, plus, minus, times, equal, less, and, or}
 use Rattle.spec_normal_form.specs.Form.{Form, Forms, Clauses, num, truth, row, cell, rec, bin, negate, comp, fnil, fcons, done, gen, cond}
 use Rattle.spec_normal_form.specs.Size.{nodes, nodesF, nodesC}
-use Rattle.base_monoid.specs.Word as Mw
+use Rattle.base_syntax.proofs.Numbers.{op-back, monoid-back}
+use Rattle.base_syntax.specs.Numbers.{binOf, opArg, opAt, monoidArg, monoidAt}
 use Rattle.form_words.specs.declared.Node.{Node}
 use Rattle.form_words.specs.declared.Node.the-variants.{Number, Truth, Row, Cell, Record, Binary, Negation, Comprehension, Generator, Condition}
 use Rattle.form_words.specs.declared.Clause.the-variants as Cl
-use Rattle.form_words.specs.Packing.{places, wordAt, kindOf, belowOf, argOf, pack, next, numberOf, opAt, monoidAt, nodeOf, nodeAt}
-use Rattle.form_words.specs.Tree.{binOf, clauseOf, formTree, formsTree, clausesTree, headTree, left}
-use Rattle.form_words.specs.Flat.{size, sizeF, sizeC, numberArg, opArg, monoidArg, flat, flatF, flatC, Fits, FitsF, FitsC, Holds}
+use Rattle.form_words.specs.Packing.{places, wordAt, kindOf, belowOf, argOf, pack, next, numberOf, nodeOf, nodeAt}
+use Rattle.form_words.specs.Tree.{clauseOf, formTree, formsTree, clausesTree, headTree, left}
+use Rattle.form_words.specs.Flat.{size, sizeF, sizeC, numberArg, flat, flatF, flatC, Fits, FitsF, FitsC, Holds}
 use Rattle.form_words.proofs.Laws.{kind-pack, below-pack, arg-pack, formNode, clausesNode, headNode}
 
 -- ---- how many words
@@ -113,34 +114,8 @@ unfolding pick
 truth-back true = refl
 truth-back false = refl
 
-pub op-back : (o : Bin) → binOf (opAt (opArg o)) ≡ o
-op-back plus = refl
-op-back minus = refl
-op-back times = refl
-op-back equal = refl
-op-back less = refl
-op-back and = refl
-op-back or = refl
-
 monoid-low : (m : Monoid) → monoidArg m % 8 ≡ monoidArg m
-monoid-low (of list) = refl
-monoid-low (of bag) = refl
-monoid-low (of set) = refl
-monoid-low sum = refl
-monoid-low max = refl
-monoid-low Sy.min = refl
-monoid-low some = refl
-monoid-low all = refl
-
-pub monoid-back : (m : Monoid) → Mw.monoidOf (monoidAt (monoidArg m)) ≡ m
-monoid-back (of list) = refl
-monoid-back (of bag) = refl
-monoid-back (of set) = refl
-monoid-back sum = refl
-monoid-back max = refl
-monoid-back Sy.min = refl
-monoid-back some = refl
-monoid-back all = refl
+monoid-low m = omega arith
 
 -- ---- nodes read back
 -- the node of a form at i

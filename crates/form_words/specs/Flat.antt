@@ -6,8 +6,8 @@ use Prim.Native.Nat.{ℕ, suc, _+_, _-_, _*_, _^_, _<_}
 use lib.IntN.{ℤ, pos, negsuc}
 use lib.Signed.{mag}
 use Rattle.spec_calculus.specs.Lists.{pick}
-use Rattle.spec_calculus.specs.Syntax.{list, bag, set, Monoid, of, sum, max, min, some, all, Bin, plus, minus, times, equal, less, and, or}
 use Rattle.spec_normal_form.specs.Form.{Form, Forms, Clauses, num, truth, row, cell, rec, bin, negate, comp, fnil, fcons, done, gen, cond}
+use Rattle.base_syntax.specs.Numbers.{opArg, monoidArg}
 use Rattle.form_words.specs.Packing.{wordAt, pack}
 
 -- how many words it has
@@ -31,29 +31,10 @@ unfoldable mutual
   sizeC (gen g k q) = suc (sizeC q)
   sizeC (cond t q) = suc (size t + sizeC q)
 
--- arguments: a number's distance from -2^31, an operator's and a monoid's number; that of min is 0, as 8 takes a fourth bit
+-- a number's argument is its distance from -2^31
 abbrev pub numberArg : ℤ → ℕ
 numberArg (pos n) = 0x80000000 + n
 numberArg (negsuc n) = 0x7fffffff - n
-
-abbrev pub opArg : Bin → ℕ
-opArg plus = 0
-opArg minus = 1
-opArg times = 2
-opArg equal = 3
-opArg less = 4
-opArg and = 5
-opArg or = 6
-
-abbrev pub monoidArg : Monoid → ℕ
-monoidArg (of list) = 1
-monoidArg (of bag) = 2
-monoidArg (of set) = 3
-monoidArg sum = 4
-monoidArg max = 5
-monoidArg min = 0
-monoidArg some = 6
-monoidArg all = 7
 
 unfoldable mutual
   pub flat : Form → List ℕ

@@ -8,10 +8,7 @@ use lib.Dec.{ltb, leb, eqb}
 use lib.ListN.{getD}
 use lib.IntN.{ℤ, pos, negsuc}
 use Rattle.spec_calculus.specs.Lists.{pick}
-use Rattle.base_monoid.specs.declared.Monoid.{Monoid}
-use Rattle.base_monoid.specs.declared.Monoid.the-variants as Mo
-use Rattle.form_words.specs.declared.Op.{Op}
-use Rattle.form_words.specs.declared.Op.the-variants.{Plus, Minus, Times, Equal, Less, And, Or}
+use Rattle.base_syntax.specs.Numbers.{opAt, monoidAt}
 use Rattle.form_words.specs.declared.Node.{Node}
 use Rattle.form_words.specs.declared.Node.the-variants.{Number, Truth, Row, Cell, Record, Binary, Negation, Comprehension, Generator, Condition, Nothing}
 
@@ -44,19 +41,6 @@ next s i = min (i + 1 + belowOf (wordAt s i)) places
 -- a number is kept as its distance from -2^31
 abbrev pub numberOf : ℕ → ℤ
 numberOf a = elim (ltb a 0x80000000) [ true ↦ negsuc (0x7fffffff - a) | false ↦ pos (a - 0x80000000) ]
-
-abbrev pub operators : List Op
-operators = Plus ∷ Minus ∷ Times ∷ Equal ∷ Less ∷ And ∷ Or ∷ []
-
-abbrev pub opAt : ℕ → Op
-opAt a = getD operators a Plus
-
--- "1 list, 2 bag, 3 set ..; 4 sum ..; 5 max ..; 6 some ..; 7 all"; min is 0 here, as 8 takes a fourth bit
-abbrev pub monoids : List Monoid
-monoids = Mo.Min ∷ Mo.List ∷ Mo.Bag ∷ Mo.Set ∷ Mo.Sum ∷ Mo.Max ∷ Mo.Some ∷ Mo.All ∷ []
-
-abbrev pub monoidAt : ℕ → Monoid
-monoidAt a = getD monoids a Mo.List
 
 -- The node with argument a at place i, for each kind from 0 on. The places in it are behind the record, of the second
 -- operand, behind the condition. A cell is column and generator, a generator its number and its table, all below 1,024. The

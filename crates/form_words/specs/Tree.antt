@@ -4,26 +4,14 @@ use Prim.Native.Nat.{ℕ, zero, suc, _+_, _-_, _*_}
 use lib.Dec.{leb}
 use lib.IntN.{pos}
 use Rattle.spec_calculus.specs.Lists.{pick}
-use Rattle.spec_calculus.specs.Syntax.{Bin, plus, minus, times, equal, less, and, or}
 use Rattle.spec_normal_form.specs.Form.{Form, Forms, Clauses, num, truth, row, cell, rec, bin, negate, comp, fnil, fcons, done, gen, cond}
-use Rattle.base_monoid.specs.Word.{monoidOf}
-use Rattle.form_words.specs.declared.Op.{Op}
-use Rattle.form_words.specs.declared.Op.the-variants.{Plus, Minus, Times, Equal, Less, And, Or}
+use Rattle.base_syntax.specs.Word.{monoidOf}
+use Rattle.base_syntax.specs.Numbers.{binOf}
 use Rattle.form_words.specs.declared.Node.{Node}
 use Rattle.form_words.specs.declared.Node.the-variants.{Number, Truth, Row, Cell, Record, Binary, Negation, Comprehension, Generator, Condition, Nothing}
 use Rattle.form_words.specs.declared.Clause.{Clause}
 use Rattle.form_words.specs.declared.Clause.the-variants as Cl
 use Rattle.form_words.specs.Packing.{places, next, nodeAt}
-
--- the operator that each case of the enum is
-abbrev pub binOf : Op → Bin
-binOf Plus = plus
-binOf Minus = minus
-binOf Times = times
-binOf Equal = equal
-binOf Less = less
-binOf And = and
-binOf Or = or
 
 -- a form by its node: X reads the form at a place, L the forms between two places, Q the clauses from a place on, H the head
 -- behind the clauses from a place on

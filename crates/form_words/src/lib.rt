@@ -3,24 +3,45 @@
 ghost use mathlib.Core.Path.{_≡_};
 ghost use Prim.Native.Nat.{_+_, _%_, _<_, _^_};
 ghost use lib.ListN.{set};
-ghost use Rattle.form_words.specs.Packing.{formAt, wordAt, pack, next, numberOf, opAt, monoidAt};
+ghost use Rattle.form_words.specs.Packing.{formAt, wordAt, kindOf, belowOf, argOf, pack, next, numberOf};
 ghost use Rattle.form_words.specs.Look.{Looks, LeafAt, LooksC};
-use base_monoid::Monoid;
+use base_syntax::Monoid;
+use base_syntax::OFFSET;
+use base_syntax::Op;
 
 // The words of the normal form stand from word 1,296 on, at most 512 of them.
 const FORM_AT: usize = 1296;
 
 const PLACES: usize = 512;
 
-pub enum Op {
-    Plus,
-    Minus,
-    Times,
-    Equal,
-    Less,
-    And,
-    Or,
-}
+// The kinds of nodes.
+pub const NUMBER: u64 = 1;
+
+pub const TRUTH: u64 = 2;
+
+pub const ROW: u64 = 3;
+
+pub const CELL: u64 = 4;
+
+pub const RECORD: u64 = 5;
+
+pub const BINARY: u64 = 6;
+
+pub const NEGATION: u64 = 7;
+
+pub const COMPREHENSION: u64 = 8;
+
+pub const GENERATOR: u64 = 9;
+
+pub const CONDITION: u64 = 10;
+
+// A word is its kind in four bits, how many words are below it in ten, and its argument in fifty.
+const KINDS: u64 = 16;
+
+const BELOWS: u64 = 1024;
+
+// An argument that is two numbers has the second in its low ten bits.
+pub const PAIR: u64 = 1024;
 
 // A node, with the places that are not the one behind it: the end of a record, the second operand, the end of a condition.
 // A cell is column and generator, a generator its number and its table.
@@ -66,6 +87,25 @@ pub fn word(s: &[u64], i: usize) -> u64
     }
 }
 
+// The fields of a word.
+pub fn kind(w: u64) -> u64
+    ensures { λ r. ⌜ r ≡ kindOf w ⌝ }
+{
+    w % KINDS
+}
+
+pub fn below(w: u64) -> u64
+    ensures { λ r. ⌜ (r ≡ belowOf w) × (r < 1024) ⌝ }
+{
+    w / KINDS % BELOWS
+}
+
+pub fn arg(w: u64) -> u64
+    ensures { λ r. ⌜ (r ≡ argOf w) × (r < 2 ^ 50) ⌝ }
+{
+    w / (KINDS * BELOWS)
+}
+
 // Writes a word: kind, how many words are below it, argument. No store outside.
 pub fn put_word(s: &mut [u64], i: usize, k: u64, below: u64, a: u64)
     requires { ⌜ (k < 16) × (below < 1024) × (a < 2 ^ 50) ⌝ }
@@ -73,7 +113,7 @@ pub fn put_word(s: &mut [u64], i: usize, k: u64, below: u64, a: u64)
 {
     if FORM_AT < s.len() {
         if i < s.len() - FORM_AT {
-            s[FORM_AT + i] = k + 16 * (below + 1024 * a);
+            s[FORM_AT + i] = k + KINDS * (below + BELOWS * a);
         }
     }
 }
@@ -85,53 +125,23 @@ pub fn next(s: &[u64], i: usize) -> usize
     if PLACES <= i {
         return PLACES;
     }
-    let below = word(s, i) / 16 % 1024;
-    let e = i + 1 + below as usize;
+    let n = below(word(s, i));
+    let e = i + 1 + n as usize;
     if e < PLACES { e } else { PLACES }
 }
 
-// A number is kept as its distance from -2^31.
 pub fn number(a: u64) -> i64
     requires { ⌜ a < 2 ^ 50 ⌝ }
     ensures { λ r. ⌜ r ≡ numberOf a ⌝ }
 {
-    a as i64 - 2147483648
-}
-
-pub fn operator(a: u64) -> Op
-    ensures { λ r. ⌜ r ≡ opAt a ⌝ }
-{
-    match a {
-        1 => Op::Minus,
-        2 => Op::Times,
-        3 => Op::Equal,
-        4 => Op::Less,
-        5 => Op::And,
-        6 => Op::Or,
-        _ => Op::Plus,
-    }
-}
-
-pub fn monoid_of(a: u64) -> Monoid
-    ensures { λ r. ⌜ r ≡ monoidAt a ⌝ }
-{
-    match a {
-        0 => Monoid::Min,
-        2 => Monoid::Bag,
-        3 => Monoid::Set,
-        4 => Monoid::Sum,
-        5 => Monoid::Max,
-        6 => Monoid::Some,
-        7 => Monoid::All,
-        _ => Monoid::List,
-    }
+    a as i64 - OFFSET
 }
 
 // The low ten bits.
 pub fn low(a: u64) -> usize
     ensures { λ r. ⌜ (r ≡ a % 1024) × (r < 1024) ⌝ }
 {
-    (a % 1024) as usize
+    (a % PAIR) as usize
 }
 
 pub fn look(s: &[u64], i: usize) -> Node
@@ -141,18 +151,18 @@ pub fn look(s: &[u64], i: usize) -> Node
         return Node::Nothing;
     }
     let w = word(s, i);
-    let a = w / 16384;
-    match w % 16 {
-        1 => Node::Number(number(a)),
-        2 => Node::Truth(a == 1),
-        3 => Node::Row(low(a)),
-        4 => Node::Cell(low(a / 1024), low(a)),
-        5 => Node::Record(next(s, i)),
-        6 => Node::Binary(operator(a), next(s, i + 1)),
-        7 => Node::Negation,
-        8 => Node::Comprehension(monoid_of(a % 8)),
-        9 => Node::Generator(low(a / 1024), low(a)),
-        10 => Node::Condition(next(s, i)),
+    let a = arg(w);
+    match kind(w) {
+        NUMBER => Node::Number(number(a)),
+        TRUTH => Node::Truth(a == 1),
+        ROW => Node::Row(low(a)),
+        CELL => Node::Cell(low(a / PAIR), low(a)),
+        RECORD => Node::Record(next(s, i)),
+        BINARY => Node::Binary(Op::from_number(a), next(s, i + 1)),
+        NEGATION => Node::Negation,
+        COMPREHENSION => Node::Comprehension(Monoid::from_bits(a)),
+        GENERATOR => Node::Generator(low(a / PAIR), low(a)),
+        CONDITION => Node::Condition(next(s, i)),
         _ => Node::Nothing,
     }
 }
@@ -165,10 +175,10 @@ pub fn leaf_at(s: &[u64], i: usize) -> Leaf
         return Leaf::Other;
     }
     let w = word(s, i);
-    let a = w / 16384;
-    match w % 16 {
-        1 => Leaf::Number(number(a)),
-        4 => Leaf::Cell(low(a / 1024), low(a)),
+    let a = arg(w);
+    match kind(w) {
+        NUMBER => Leaf::Number(number(a)),
+        CELL => Leaf::Cell(low(a / PAIR), low(a)),
         _ => Leaf::Other,
     }
 }
@@ -181,10 +191,10 @@ pub fn look_clause(s: &[u64], i: usize) -> Clause
         return Clause::Head;
     }
     let w = word(s, i);
-    let a = w / 16384;
-    match w % 16 {
-        9 => Clause::Generator(low(a / 1024), low(a)),
-        10 => Clause::Condition(next(s, i)),
+    let a = arg(w);
+    match kind(w) {
+        GENERATOR => Clause::Generator(low(a / PAIR), low(a)),
+        CONDITION => Clause::Condition(next(s, i)),
         _ => Clause::Head,
     }
 }

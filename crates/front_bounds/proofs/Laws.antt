@@ -16,15 +16,16 @@ use Rattle.spec_calculus.specs.Syntax as Sy
 use Rattle.spec_normal_form.specs.Form.{Form, Clauses, NormalForm, asForm}
 use Rattle.spec_normal_form.specs.Bound.{ownGens, binBound, compBound, bound, small, within, withinF, withinC, numbersFit}
 use Rattle.base_signed.proofs.Word.{by-test}
-use Rattle.base_monoid.specs.declared.Monoid.{Monoid}
-use Rattle.base_monoid.specs.Word.{monoidOf}
-use Rattle.form_words.specs.declared.Op.{Op}
+use Rattle.base_syntax.specs.declared.Monoid.{Monoid}
+use Rattle.base_syntax.specs.Word.{monoidOf}
+use Rattle.base_syntax.specs.declared.Op.{Op}
+use Rattle.base_syntax.specs.Numbers.{binOf}
 use Rattle.form_words.specs.declared.Node.{Node}
 use Rattle.form_words.specs.declared.Node.the-variants.{Number, Truth, Row, Cell, Record, Binary, Negation, Comprehension, Generator, Condition, Nothing}
 use Rattle.form_words.specs.declared.Clause.{Clause}
 use Rattle.form_words.specs.declared.Clause.the-variants as Cl
 use Rattle.form_words.specs.Packing.{places, next}
-use Rattle.form_words.specs.Tree.{binOf, formTree, formsTree, clausesTree, headTree, left}
+use Rattle.form_words.specs.Tree.{formTree, formsTree, clausesTree, headTree, left}
 use Rattle.form_words.specs.Look.{Looks, LooksC}
 use Rattle.form_words.specs.Flat.{flat, Holds}
 use Rattle.form_words.specs.Flat as Fl

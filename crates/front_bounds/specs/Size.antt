@@ -8,8 +8,8 @@ use Rattle.spec_calculus.specs.Syntax.{of, sum, max, some, all}
 use Rattle.spec_calculus.specs.Syntax as Sy
 use Rattle.spec_normal_form.specs.Form.{Form, Clauses}
 use Rattle.spec_normal_form.specs.Bound.{ownGens, compBound, bound, within, withinF, withinC}
-use Rattle.base_monoid.specs.declared.Monoid.{Monoid}
-use Rattle.base_monoid.specs.Word.{monoidOf}
+use Rattle.base_syntax.specs.declared.Monoid.{Monoid}
+use Rattle.base_syntax.specs.Word.{monoidOf}
 use Rattle.form_words.specs.Tree.{formTree, formsTree, clausesTree, headTree, left}
 use Rattle.front_bounds.specs.declared.Size.{Size}
 

@@ -13,13 +13,13 @@ use Rattle.spec_normal_form.specs.NoRule.{NotAnd}
 use Rattle.front_theory.specs.Flat.{Env, At}
 use Rattle.front_theory.specs.Word.{words, wordsC}
 use Rattle.front_theory.proofs.Emit.{Whole, condition-whole, binary-whole, Never, ranges-never}
-use Rattle.base_monoid.specs.declared.Monoid.{Monoid}
-use Rattle.base_monoid.specs.declared.Monoid.the-variants as Mo
-use Rattle.base_monoid.specs.Word.{monoidOf}
+use Rattle.base_syntax.specs.declared.Monoid.{Monoid}
+use Rattle.base_syntax.specs.declared.Monoid.the-variants as Mo
+use Rattle.base_syntax.specs.Word.{monoidOf}
 use Rattle.front_nodes.specs.Decode.{nodesOf, qualifiersOf}
-use Rattle.front_nodes.specs.Look.{binOf}
-use Rattle.front_nodes.specs.declared.Op.{Op}
-use Rattle.front_nodes.specs.declared.Op.the-variants as Op
+use Rattle.base_syntax.specs.declared.Op.{Op}
+use Rattle.base_syntax.specs.declared.Op.the-variants as Op
+use Rattle.base_syntax.specs.Numbers.{binOf}
 use Rattle.front_resolve.specs.Place.{envOf}
 use Rattle.front_resolve.specs.declared.Form.{Form}
 use Rattle.front_resolve.specs.declared.Form.the-variants.{Number, Truth, Row, Cell, Record, Two, Not, Comp, Table, Bad}

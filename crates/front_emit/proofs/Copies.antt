@@ -17,9 +17,9 @@ use Rattle.front_theory.specs.Word.{words, wordsC}
 use Rattle.front_theory.specs.Emit.{tellC}
 use Rattle.front_theory.proofs.Counts.{Counts, counts-append}
 use Rattle.front_theory.proofs.Emit.{clauses-append}
-use Rattle.base_monoid.specs.declared.Monoid.{Monoid}
-use Rattle.base_monoid.specs.Word.{monoidOf}
-use Rattle.form_words.specs.Flat.{monoidArg}
+use Rattle.base_syntax.specs.declared.Monoid.{Monoid}
+use Rattle.base_syntax.specs.Word.{monoidOf}
+use Rattle.base_syntax.specs.Numbers.{monoidArg}
 use Rattle.front_words.specs.Tree.{startAt}
 use Rattle.front_sizes.specs.declared.Count.{Count}
 use Rattle.front_sizes.specs.Packing.{conditionCount}

@@ -20,7 +20,8 @@ use Rattle.front_theory.specs.Emit as No
 use Rattle.front_theory.proofs.Counts.{sizes, sizesF, sizesC, flat-length, flat-lengthF, flat-lengthC}
 use Rattle.front_theory.proofs.Emit as Em
 use Rattle.form_words.specs.Packing.{pack}
-use Rattle.form_words.specs.Flat.{numberArg, opArg, monoidArg}
+use Rattle.base_syntax.specs.Numbers.{opArg, monoidArg}
+use Rattle.form_words.specs.Flat.{numberArg}
 use Rattle.front_emit.specs.declared.State.{State}
 use Rattle.front_emit.specs.Start.{Room}
 use Rattle.front_emit.specs.Wrote.{kindIn, argIn, packed, Buffer, buffer, put, stateOf, behind, numbered, Leaves, Closes, Generates, Emitted, EmittedF, EmittedC, EmittedG, EmittedN, EmittedQ, EmittedOne, Never}

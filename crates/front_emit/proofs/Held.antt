@@ -17,7 +17,8 @@ use Rattle.front_theory.specs.Emit as No
 use Rattle.front_theory.proofs.Counts.{sizes, flat-length}
 use Rattle.front_theory.proofs.Local.{sem-local}
 use Rattle.form_words.specs.Packing.{formAt, places, pack}
-use Rattle.form_words.specs.Flat.{size, sizeF, sizeC, flat, flatF, flatC, opArg, monoidArg, Holds}
+use Rattle.base_syntax.specs.Numbers.{opArg, monoidArg}
+use Rattle.form_words.specs.Flat.{size, sizeF, sizeC, flat, flatF, flatC, Holds}
 use Rattle.front_nodes.specs.Decode.{nodesOf}
 use Rattle.front_nodes.proofs.PostOrder.{post-order}
 use Rattle.front_resolve.specs.Place.{envOf, offsets}

@@ -27,7 +27,7 @@ use Rattle.front_nodes.proofs.PostOrder.{post-order}
 use Rattle.front_nodes.proofs.Depths.{level-same}
 use Rattle.front_nodes.proofs.Same.{depth-same, children-same, qualifiers-same, nodes-same}
 use Rattle.front_words.specs.Tree.{kindAt}
-use Rattle.base_monoid.specs.Word.{monoidOf}
+use Rattle.base_syntax.specs.Word.{monoidOf}
 use Rattle.front_resolve.specs.Place.{offsets, FormAt, Fine}
 use Rattle.front_resolve.specs.declared.Form.{Form}
 use Rattle.front_resolve.specs.declared.Form.the-variants.{Number, Truth, Row, Cell, Record, Two, Not, Comp, Table, Bad}

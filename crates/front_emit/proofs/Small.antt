@@ -15,14 +15,14 @@ use Rattle.spec_calculus.specs.Syntax as Sy
 use Rattle.base_tables.specs.Description.{collectionIn}
 use Rattle.spec_normal_form.specs.Normal.{givesWay}
 use Rattle.front_theory.specs.Flat.{enter}
-use Rattle.base_monoid.specs.declared.Monoid.{Monoid}
-use Rattle.base_monoid.specs.declared.Monoid.the-variants as Mo
-use Rattle.base_monoid.specs.Word.{monoidOf}
-use Rattle.base_monoid.proofs.Monoid as monoid
-use Rattle.form_words.specs.Flat.{monoidArg}
-use Rattle.front_nodes.specs.declared.Op.{Op}
-use Rattle.front_nodes.specs.declared.Op.the-variants as Op
-use Rattle.front_nodes.proofs.Op as op
+use Rattle.base_syntax.specs.declared.Monoid.{Monoid}
+use Rattle.base_syntax.specs.declared.Monoid.the-variants as Mo
+use Rattle.base_syntax.specs.Word.{monoidOf}
+use Rattle.base_syntax.proofs.Monoid as monoid
+use Rattle.base_syntax.specs.declared.Op.{Op}
+use Rattle.base_syntax.specs.declared.Op.the-variants as Op
+use Rattle.base_syntax.specs.Numbers.{monoidArg}
+use Rattle.base_syntax.proofs.Op as op
 use Rattle.front_resolve.specs.Place.{bit, envOf}
 use Rattle.front_resolve.specs.declared.Form.{Form}
 use Rattle.front_resolve.specs.declared.Form.the-variants.{Number, Truth, Row, Cell, Record, Two, Not, Comp, Table, Bad}

@@ -13,13 +13,13 @@ use Rattle.front_theory.specs.Node.{Node, Inside}
 use Rattle.front_theory.specs.Flat.{Env, At, semsOf, levels}
 use Rattle.front_theory.specs.Word.{words, wordsF, wordsC}
 use Rattle.spec_normal_form.proofs.Fixed.{quote-binary}
-use Rattle.base_monoid.specs.declared.Monoid.{Monoid}
+use Rattle.base_syntax.specs.declared.Monoid.{Monoid}
 use Rattle.form_words.specs.Packing.{places}
-use Rattle.form_words.specs.Flat.{opArg}
 use Rattle.front_nodes.specs.Decode.{most, depthAt, childrenOf, nodesOf}
-use Rattle.front_nodes.specs.Look.{binOf, nth, Picks}
+use Rattle.front_nodes.specs.Look.{nth, Picks}
 use Rattle.front_nodes.specs.Levels.{AllAt, Level}
-use Rattle.front_nodes.specs.declared.Op.{Op}
+use Rattle.base_syntax.specs.declared.Op.{Op}
+use Rattle.base_syntax.specs.Numbers.{binOf, opArg}
 use Rattle.front_nodes.specs.declared.Found.the-variants as Fd
 use Rattle.front_nodes.proofs.PostOrder.{post-order}
 use Rattle.front_resolve.specs.Place.{envOf, formSem, FormAt, Heads}

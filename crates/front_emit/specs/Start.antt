@@ -15,8 +15,8 @@ use Rattle.spec_normal_form.specs.Normal.{Sem, Sems, row, nested, plain, nothin
 use Rattle.spec_normal_form.specs.Size.{nodesC}
 use Rattle.front_theory.specs.Flat.{Env, enter, At, qualOf, clausesOf, semsOf}
 use Rattle.front_theory.specs.Word.{words, wordsF, wordsC}
-use Rattle.base_monoid.specs.declared.Monoid.{Monoid}
-use Rattle.base_monoid.specs.Word.{monoidOf}
+use Rattle.base_syntax.specs.declared.Monoid.{Monoid}
+use Rattle.base_syntax.specs.Word.{monoidOf}
 use Rattle.form_words.specs.Packing.{places}
 use Rattle.front_sizes.specs.Packing.{conditionCount}
 use Rattle.front_nodes.specs.Decode.{most, depthAt, childrenOf, chain, qualifiersOf, nodesOf}

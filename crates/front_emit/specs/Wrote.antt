@@ -13,7 +13,8 @@ use Rattle.front_theory.specs.Word.{Label, Word, wnum, wtruth, wrow, wcell, wre
 use Rattle.front_theory.specs.Emit.{state, tellC, Emits, EmitsF, EmitsC, EmitsG, EmitsN, EmitsQ}
 use Rattle.front_theory.specs.Emit as No
 use Rattle.form_words.specs.Packing.{formAt, pack}
-use Rattle.form_words.specs.Flat.{numberArg, opArg, monoidArg}
+use Rattle.base_syntax.specs.Numbers.{opArg, monoidArg}
+use Rattle.form_words.specs.Flat.{numberArg}
 use Rattle.front_emit.specs.declared.State.{State}
 
 -- a word in scratch: kind, how many words are below it, argument

@@ -6,23 +6,21 @@ ghost use Rattle.spec_calculus.specs.Lists.{pick};
 ghost use Rattle.spec_calculus.specs.Syntax.{of};
 ghost use Rattle.front_theory.specs.Flat.{levels};
 ghost use Rattle.front_theory.specs.Saturated.{limit};
-ghost use Rattle.base_monoid.specs.Word.{monoidOf};
-ghost use Rattle.base_monoid.specs.declared.Monoid.the-variants as Monoid;
+ghost use Rattle.base_syntax.specs.declared.Monoid.the-variants as Monoid;
 ghost use Rattle.form_words.specs.Packing.{places};
-ghost use Rattle.form_words.specs.Flat.{opArg, monoidArg};
 ghost use Rattle.front_nodes.specs.Decode.{chain, nodesOf, qualifiersOf};
-ghost use Rattle.front_nodes.specs.Look.{binOf};
-ghost use Rattle.front_nodes.specs.declared.Op.the-variants as Op;
+ghost use Rattle.base_syntax.specs.declared.Op.the-variants as Op;
+ghost use Rattle.base_syntax.specs.Numbers.{monoidArg};
 ghost use Rattle.front_resolve.specs.Place.{envOf};
 ghost use Rattle.front_resolve.specs.declared.Form.the-variants.{Record, Two, Not, Comp};
 ghost use Rattle.front_emit.specs.Shape.{IsComp, Splits};
 ghost use Rattle.front_emit.specs.Start.{collections, semS, placeS, tableS, simpleS, fieldsS, flagIn, copyEnv, Copies, Room, TermAt, ConditionAt, SourceAt, QualifierAt, QualifiersAt, TermOf, FieldsOf, ConditionOf, WholeOf, SimpleAt, CopyOf};
 ghost use Rattle.front_emit.specs.Wrote.{behind, Leaves, Closes, Generates, Emitted, EmittedF, EmittedC, EmittedG, EmittedN, EmittedQ, EmittedOne, Never};
 ghost use Rattle.front_emit.specs.Whole.{Writable, WritesForm};
-use base_monoid::Monoid;
+use base_syntax::Monoid;
+use base_syntax::Op;
 use front_nodes::Found;
 use front_nodes::Node;
-use front_nodes::Op;
 use front_resolve::Form;
 use front_resolve::Place;
 
@@ -37,35 +35,6 @@ pub enum Split {
     And(usize, usize),
     Some(usize),
     One,
-}
-
-fn op_number(o: Op) -> u64
-    ensures { λ r. ⌜ (r ≡ opArg (binOf o)) × (r < 8) ⌝ }
-{
-    match o {
-        Op::Plus => 0,
-        Op::Minus => 1,
-        Op::Times => 2,
-        Op::Equal => 3,
-        Op::Less => 4,
-        Op::And => 5,
-        Op::Or => 6,
-    }
-}
-
-fn monoid_number(m: Monoid) -> u64
-    ensures { λ r. ⌜ (r ≡ monoidArg (monoidOf m)) × (r < 8) ⌝ }
-{
-    match m {
-        Monoid::List => 1,
-        Monoid::Bag => 2,
-        Monoid::Set => 3,
-        Monoid::Sum => 4,
-        Monoid::Max => 5,
-        Monoid::Some => 6,
-        Monoid::All => 7,
-        Monoid::Min => 0,
-    }
 }
 
 // The number of table k's collection, a list where there is no such table.
@@ -130,7 +99,13 @@ fn generator(s: &mut [u64], k: usize, st: State) -> State
     ensures { λ r. ⌜ Generates k (now (s .entry)) st (now (s .exit)) r ⌝ }
 {
     let p = st.place;
-    form_words::put_word(s, p, 9, 0, 1024 * st.next + k as u64);
+    form_words::put_word(
+        s,
+        p,
+        form_words::GENERATOR,
+        0,
+        form_words::PAIR * st.next + k as u64,
+    );
     State {
         place: st.place + 1,
         next: st.next + 1,
@@ -143,8 +118,8 @@ fn never(s: &mut [u64], st: State) -> State
     ensures { λ r. ⌜ Never (now (s .entry)) st (now (s .exit)) r ⌝ }
 {
     let p = st.place;
-    let r = leaf(s, 2, 0, below(st));
-    close(s, p, r.place, 10, 0);
+    let r = leaf(s, form_words::TRUTH, 0, below(st));
+    close(s, p, r.place, form_words::CONDITION, 0);
     r
 }
 
@@ -157,8 +132,8 @@ fn table(s: &mut [u64], k: usize, st: State) -> State
     let p = st.place;
     let g = st.next;
     let q = generator(s, k, below(st));
-    let r = leaf(s, 3, g, q);
-    close(s, p, r.place, 8, c);
+    let r = leaf(s, form_words::ROW, g, q);
+    close(s, p, r.place, form_words::COMPREHENSION, c);
     r
 }
 
@@ -168,12 +143,17 @@ fn simple(s: &mut [u64], f: Form, i: usize, st: State) -> State
     ensures { λ r. ⌜ Emitted (simpleS (now (s .entry)) f) (now (s .entry)) st (now (s .exit)) r ⌝ }
 {
     match f {
-        Form::Number(z) => leaf(s, 1, front_words::arg(front_words::node_word(s, i)), st),
-        Form::Truth(b) => leaf(s, 2, truth_number(b), st),
-        Form::Row(g) => leaf(s, 3, g, st),
-        Form::Cell(k, g) => leaf(s, 4, 1024 * (k as u64) + g, st),
+        Form::Number(z) => leaf(
+            s,
+            form_words::NUMBER,
+            front_words::arg(front_words::node_word(s, i)),
+            st,
+        ),
+        Form::Truth(b) => leaf(s, form_words::TRUTH, truth_number(b), st),
+        Form::Row(g) => leaf(s, form_words::ROW, g, st),
+        Form::Cell(k, g) => leaf(s, form_words::CELL, form_words::PAIR * (k as u64) + g, st),
         Form::Table(k) => table(s, k, st),
-        _ => leaf(s, 1, 2147483648, st),
+        _ => leaf(s, form_words::NUMBER, base_syntax::ZERO, st),
     }
 }
 
@@ -236,7 +216,7 @@ fn recorded(s: &mut [u64], h: Place, st: State) -> State
 {
     let p = st.place;
     let r = fields(s, h, 0, below(st));
-    close(s, p, r.place, 5, 0);
+    close(s, p, r.place, form_words::RECORD, 0);
     r
 }
 
@@ -263,7 +243,7 @@ fn binary(s: &mut [u64], h: Place, o: Op, a: usize, b: usize, st: State) -> Stat
     let e = h.env;
     let q = emit(s, a, h.depth, e, below(st));
     let r = emit(s, b, h.depth, e, q);
-    close(s, p, r.place, 6, op_number(o));
+    close(s, p, r.place, form_words::BINARY, o.number());
     r
 }
 
@@ -274,7 +254,7 @@ fn negated(s: &mut [u64], h: Place, c: usize, st: State) -> State
     let p = st.place;
     let e = h.env;
     let r = emit(s, c, h.depth, e, below(st));
-    close(s, p, r.place, 7, 0);
+    close(s, p, r.place, form_words::NEGATION, 0);
     r
 }
 
@@ -285,7 +265,7 @@ fn comprehension(s: &mut [u64], h: Place, m: Monoid, k: usize, st: State) -> Sta
     let p = st.place;
     let q = copied(s, h, m, false, below(st));
     let r = emit(s, k, h.depth + 1, copy(h, m, false, st.next), q);
-    close(s, p, r.place, 8, monoid_number(m));
+    close(s, p, r.place, form_words::COMPREHENSION, m.bits());
     r
 }
 
@@ -405,7 +385,7 @@ fn single(s: &mut [u64], h: Place, st: State) -> State
 {
     let p = st.place;
     let r = placed(s, h, below(st));
-    close(s, p, r.place, 10, 0);
+    close(s, p, r.place, form_words::CONDITION, 0);
     r
 }
 

@@ -26,7 +26,7 @@ fn sized(s: &mut [u64], n: usize) -> Front
     front_measure::measure(s, n);
     let z = front_measure::size(s, n);
     if 512 < z {
-        return Front::Refused(27);
+        return Front::Refused(base_refusals::NORMAL_FORM_TOO_LARGE);
     }
     Front::Nodes(n)
 }
@@ -38,11 +38,11 @@ fn typed(s: &mut [u64], n: usize) -> Front
 {
     let a = front_typing::types_fit(s, n);
     if !a {
-        return Front::Refused(25);
+        return Front::Refused(base_refusals::TYPE_DOES_NOT_FIT);
     }
     let b = front_typing::generators_fit(s, n);
     if !b {
-        return Front::Refused(26);
+        return Front::Refused(base_refusals::GENERATOR_NOT_ALLOWED);
     }
     sized(s, n)
 }
@@ -54,7 +54,7 @@ fn judged(s: &mut [u64], n: usize) -> Front
 {
     let a = front_scope::names_hold(s, n);
     if !a {
-        return Front::Refused(24);
+        return Front::Refused(base_refusals::NAME_DOES_NOT_HOLD);
     }
     front_scope::binders(s, n);
     typed(s, n)
@@ -83,7 +83,7 @@ fn formed(s: &mut [u64], n: usize) -> Checked
     front_emit::write_form(s, n - 1);
     let a = front_bounds::bound_fits(s);
     if !a {
-        return Checked::Refused(28);
+        return Checked::Refused(base_refusals::NUMBER_OUT_OF_BOUNDS);
     }
     base_scratch::wipe(s, 16, 1296);
     Checked::Accepted

@@ -10,8 +10,8 @@ use borrow.Author.Tests.{ltb-true, ltb-false, lt-ltb, eqb-true}
 use Rattle.spec_calculus.specs.Lists.{pick}
 use Rattle.spec_calculus.specs.Syntax.{Collection}
 use Rattle.spec_calculus.specs.Syntax as Sy
-use Rattle.base_monoid.specs.declared.Monoid.{Monoid}
-use Rattle.base_monoid.specs.Word.{monoidOf}
+use Rattle.base_syntax.specs.declared.Monoid.{Monoid}
+use Rattle.base_syntax.specs.Word.{monoidOf}
 use Rattle.spec_normal_form.specs.Normal.{Sem, nothing, idempotent, givesWay}
 use Rattle.front_theory.specs.Node as No
 use Rattle.front_theory.specs.Node.{Below, Inside}
@@ -20,12 +20,13 @@ use Rattle.front_theory.proofs.Local.{sem-is}
 use Rattle.front_words.specs.Tree.{startAt}
 use Rattle.front_sizes.specs.declared.Count.{Count}
 use Rattle.front_sizes.specs.Packing.{Small, termCount, conditionCount, splicedCount}
-use Rattle.front_nodes.specs.declared.Op.{Op}
+use Rattle.base_syntax.specs.declared.Op.{Op}
+use Rattle.base_syntax.specs.Numbers.{binOf}
 use Rattle.front_nodes.specs.declared.Node.{Node}
 use Rattle.front_nodes.specs.declared.Node.the-variants.{Number, Truth, Name, Field, Record, Two, Not, Comp, Table, Gen, Bind, Cond, Bad}
 use Rattle.front_nodes.specs.Decode.{depthAt, childrenOf, qualifiersOf, nodesOf}
 use Rattle.front_nodes.specs.Levels.{AllAt, Level}
-use Rattle.front_nodes.specs.Look.{binOf, nodeNamed, Looks}
+use Rattle.front_nodes.specs.Look.{nodeNamed, Looks}
 use Rattle.front_nodes.proofs.PostOrder.{by-pick, post-order}
 use Rattle.front_resolve.specs.declared.Form.{Form}
 use Rattle.front_resolve.specs.declared.Form.the-variants as Fo

@@ -21,21 +21,22 @@ use Rattle.spec_calculus.specs.Syntax.{list, bag, set, of, sum, max, some, all}
 use Rattle.base_signed.proofs.Word.{by-test, fits}
 use Rattle.spec_encoding.specs.Reader.{kinds, unknown}
 use Rattle.spec_encoding.specs.Reader as Re
-use Rattle.base_monoid.specs.declared.Monoid.{Monoid}
-use Rattle.base_monoid.specs.Word.{monoidOf}
+use Rattle.base_syntax.specs.declared.Monoid.{Monoid}
+use Rattle.base_syntax.specs.Word.{monoidOf}
 use Rattle.front_words.specs.Layout.{bindersAt}
 use Rattle.front_words.specs.Packing.{kindOf, argOf, nodeWord}
 use Rattle.front_words.specs.Tree.{numberOf, monoidAt, kindAt, argAt, startAt}
 use Rattle.front_theory.specs.Node as No
 use Rattle.front_theory.specs.Node.{Inside}
-use Rattle.front_nodes.specs.declared.Op.{Op}
+use Rattle.base_syntax.specs.declared.Op.{Op}
+use Rattle.base_syntax.specs.Numbers.{binOf}
 use Rattle.front_nodes.specs.declared.Kind.{Kind}
 use Rattle.front_nodes.specs.declared.Node.{Node}
 use Rattle.front_nodes.specs.declared.Node.the-variants.{Number, Truth, Name, Field, Record, Two, Not, Comp, Table, Gen, Bind, Cond, Bad}
 use Rattle.front_nodes.specs.declared.Found.the-variants.{At, Nothing}
 use Rattle.front_nodes.specs.declared.Binder.the-variants as Bi
 use Rattle.front_nodes.specs.Decode.{most, depthAt, binderWord, siblings, qualifiersOf, above, nameBy, nodeBy, nodesOf}
-use Rattle.front_nodes.specs.Look.{binOf, kindNamed, nodeNamed, Small, Looks, Named, Raised, nth, Picks, Unbinding, BoundBy}
+use Rattle.front_nodes.specs.Look.{kindNamed, nodeNamed, Small, Looks, Named, Raised, nth, Picks, Unbinding, BoundBy}
 use Rattle.front_nodes.proofs.PostOrder.{by-pick, post-order}
 
 -- ---- kinds, monoids, numbers
@@ -54,14 +55,6 @@ past-all b k (suc n) h m = let q = past-all b k n h (m .0) in let r = m .1 in om
 pub no-kind : (k : ℕ) → Missed 0 k 18 → unknown ≡ getD kinds k unknown
 no-kind zero m = refl
 no-kind (suc k) m = let h : 19 ≤ suc k = omega (arith, past-all 0 (suc k) 18 (omega arith) m) in sym (List·getD-eq-default kinds unknown h)
-
-pub no-monoid : (a : ℕ) → Missed 1 a 7 → of list ≡ monoidAt a
-no-monoid zero m = refl
-no-monoid (suc zero) m = refl
-no-monoid (suc (suc a)) m = let h : 9 ≤ suc (suc a) = omega (arith, past-all 1 (suc (suc a)) 7 (omega arith) m) in sym (far a h)
-  where
-    far : (x : ℕ) → 9 ≤ suc (suc x) → monoidAt (suc (suc x)) ≡ of list
-    far x h = List·getD-eq-default (of list ∷ of list ∷ of bag ∷ of set ∷ sum ∷ max ∷ some ∷ all ∷ Sy.min ∷ []) (of list) h
 
 pub far-binder : (s : List ℕ) (x : ℕ) → most ≤ x → 0 ≡ binderWord s x
 unfolding binderWord pick

@@ -5,12 +5,10 @@ use Prim.Native.Nat.{ℕ, zero, suc, _^_, _<_}
 use lib.Dec.{ltb}
 use lib.Signed.{mag}
 use Rattle.spec_calculus.specs.Lists.{pick}
-use Rattle.spec_calculus.specs.Syntax.{Bin, plus, minus, times, equal, less, and, or}
 use Rattle.spec_encoding.specs.Reader as Re
-use Rattle.base_monoid.specs.Word.{monoidOf}
+use Rattle.base_syntax.specs.Word.{monoidOf}
+use Rattle.base_syntax.specs.Numbers.{binOf}
 use Rattle.front_theory.specs.Node as No
-use Rattle.front_nodes.specs.declared.Op.{Op}
-use Rattle.front_nodes.specs.declared.Op.the-variants.{Plus, Minus, Times, Equal, Less, And, Or}
 use Rattle.front_nodes.specs.declared.Kind.{Kind}
 use Rattle.front_nodes.specs.declared.Kind.the-variants as Ki
 use Rattle.front_nodes.specs.declared.Node.{Node}
@@ -20,16 +18,6 @@ use Rattle.front_nodes.specs.declared.Found.the-variants.{At, Nothing}
 use Rattle.front_nodes.specs.declared.Binder.{Binder}
 use Rattle.front_nodes.specs.declared.Binder.the-variants as Bi
 use Rattle.front_nodes.specs.Decode.{childrenOf, qualifiersOf, nameBy, nodesOf}
-
--- the operator that each case of the enum is
-abbrev pub binOf : Op → Bin
-binOf Plus = plus
-binOf Minus = minus
-binOf Times = times
-binOf Equal = equal
-binOf Less = less
-binOf And = and
-binOf Or = or
 
 -- the kind that each case is
 abbrev pub kindNamed : Kind → Re.Kind

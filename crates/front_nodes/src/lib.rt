@@ -3,22 +3,13 @@ ghost use mathlib.Core.Path.{_≡_};
 ghost use Prim.Native.Nat.{_-_, _<_};
 ghost use lib.ListN.{getD};
 ghost use Rattle.spec_encoding.specs.Reader.{kinds, unknown};
-ghost use Rattle.base_monoid.specs.Word.{monoidOf};
-ghost use Rattle.front_words.specs.Tree.{numberOf, monoidAt};
+ghost use Rattle.front_words.specs.Tree.{numberOf};
 ghost use Rattle.front_nodes.specs.Decode.{depthAt, binderWord};
 ghost use Rattle.front_nodes.specs.Look.{kindNamed, Looks, Named, Raised, Picks, BoundBy};
-use base_monoid::Monoid;
+use base_syntax::Monoid;
+use base_syntax::OFFSET;
+use base_syntax::Op;
 use front_words::start_at;
-
-pub enum Op {
-    Plus,
-    Minus,
-    Times,
-    Equal,
-    Less,
-    And,
-    Or,
-}
 
 pub enum Kind {
     Number,
@@ -75,40 +66,25 @@ fn kind_of(k: u64) -> Kind
     ensures { λ r. ⌜ kindNamed r ≡ getD kinds k unknown ⌝ }
 {
     match k {
-        1 => Kind::Number,
-        2 => Kind::Truth,
-        3 => Kind::Name,
-        4 => Kind::Field,
-        5 => Kind::Record,
-        6 => Kind::Two(Op::Plus),
-        7 => Kind::Two(Op::Minus),
-        8 => Kind::Two(Op::Times),
-        9 => Kind::Two(Op::Equal),
-        10 => Kind::Two(Op::Less),
-        11 => Kind::Two(Op::And),
-        12 => Kind::Two(Op::Or),
-        13 => Kind::Not,
-        14 => Kind::Comp,
-        15 => Kind::Table,
-        16 => Kind::Gen,
-        17 => Kind::Bind,
-        18 => Kind::Cond,
+        base_syntax::KIND_NUMBER => Kind::Number,
+        base_syntax::KIND_TRUTH => Kind::Truth,
+        base_syntax::KIND_NAME => Kind::Name,
+        base_syntax::KIND_FIELD => Kind::Field,
+        base_syntax::KIND_RECORD => Kind::Record,
+        base_syntax::KIND_PLUS => Kind::Two(Op::Plus),
+        base_syntax::KIND_MINUS => Kind::Two(Op::Minus),
+        base_syntax::KIND_TIMES => Kind::Two(Op::Times),
+        base_syntax::KIND_EQUAL => Kind::Two(Op::Equal),
+        base_syntax::KIND_LESS => Kind::Two(Op::Less),
+        base_syntax::KIND_AND => Kind::Two(Op::And),
+        base_syntax::KIND_OR => Kind::Two(Op::Or),
+        base_syntax::KIND_NOT => Kind::Not,
+        base_syntax::KIND_COMPREHENSION => Kind::Comp,
+        base_syntax::KIND_TABLE => Kind::Table,
+        base_syntax::KIND_GENERATOR => Kind::Gen,
+        base_syntax::KIND_BINDING => Kind::Bind,
+        base_syntax::KIND_CONDITION => Kind::Cond,
         _ => Kind::Unknown,
-    }
-}
-
-fn monoid_at(a: u64) -> Monoid
-    ensures { λ r. ⌜ monoidOf r ≡ monoidAt a ⌝ }
-{
-    match a {
-        2 => Monoid::Bag,
-        3 => Monoid::Set,
-        4 => Monoid::Sum,
-        5 => Monoid::Max,
-        6 => Monoid::Some,
-        7 => Monoid::All,
-        8 => Monoid::Min,
-        _ => Monoid::List,
     }
 }
 
@@ -116,7 +92,7 @@ fn number(a: u64) -> i64
     requires { ⌜ a < 8589934592 ⌝ }
     ensures { λ r. ⌜ r ≡ numberOf a ⌝ }
 {
-    a as i64 - 2147483648
+    a as i64 - OFFSET
 }
 
 // The node before a place.
@@ -189,7 +165,7 @@ pub fn look(s: &[u64], i: usize) -> Node
         Kind::Record => Node::Record,
         Kind::Two(o) => raised(i, Node::Two(o, prior(start_at(s, c)), c)),
         Kind::Not => raised(i, Node::Not(c)),
-        Kind::Comp => raised(i, Node::Comp(monoid_at(a), c)),
+        Kind::Comp => raised(i, Node::Comp(Monoid::from_number(a), c)),
         Kind::Table => Node::Table(a as usize),
         Kind::Gen => raised(i, Node::Gen(c)),
         Kind::Bind => raised(i, Node::Bind(c)),

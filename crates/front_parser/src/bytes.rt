@@ -2,6 +2,8 @@
 ghost use Prim.Native.Nat.{_+_, _<_};
 ghost use Rattle.front_parser.specs.Front.{ByteAt, TwoAt, Headed, Begins};
 use crate::Place;
+use base_refusals::BROKEN_RECORD;
+use base_refusals::TOO_DEEP_OR_TOO_MANY_RECORDS;
 
 // A whole record: its kind and where it ends.
 pub enum Header {
@@ -51,16 +53,16 @@ pub fn begin(l: &[u8], p: Place) -> Begun
     ensures { λ r. ⌜ Begins (now (l .entry)) p r ⌝ }
 {
     if l.len() == 0 {
-        return Begun::Refused(22);
+        return Begun::Refused(BROKEN_RECORD);
     }
     if p.levels == 0 {
-        return Begun::Refused(23);
+        return Begun::Refused(TOO_DEEP_OR_TOO_MANY_RECORDS);
     }
     if p.left == 0 {
-        return Begun::Refused(23);
+        return Begun::Refused(TOO_DEEP_OR_TOO_MANY_RECORDS);
     }
     match read_header(l) {
-        Header::Short => Begun::Refused(22),
+        Header::Short => Begun::Refused(BROKEN_RECORD),
         Header::Record(k, e) => {
             let b = Place {
                 levels: p.levels - 1,

@@ -8,6 +8,10 @@ ghost use Prim.Native.Nat.{_+_, _≤_, _<_};
 ghost use lib.ListN.{length};
 ghost use Rattle.front_parser.specs.Scratch.{Room};
 ghost use Rattle.front_parser.specs.Reads.{TermRead, TermsRead, CompoundRead, ContentRead, headOf, ItemRead, PartsRead, ComprehensionRead, QuestionRead};
+use base_refusals::BROKEN_RECORD;
+use base_refusals::QUESTION_TOO_LONG;
+use base_syntax::KIND_COMPREHENSION;
+use base_syntax::MONOIDS;
 use bytes::Begun;
 use bytes::Header;
 use bytes::begin;
@@ -21,6 +25,14 @@ use value::fixed;
 use value::leaf;
 use value::look_ahead;
 use value::shape_of;
+
+// "21: over 4,096 bytes."
+const QUESTION_BYTES: usize = 4096;
+
+// "23: a 33rd level (the question is level 1) or a 257th record": so many more than the question's own.
+const LEVELS: usize = 31;
+
+const RECORDS: usize = 255;
 
 // Where a reader stands: how many levels may still be opened and how many records begun, the next node, and how many
 // comprehensions are around it.
@@ -92,7 +104,7 @@ fn content(k: u64, c: &[u8], s: &mut [u64], p: Place) -> Filled
         Shape::Value => leaf(k, c, s, p),
         Shape::Terms(h) => compound(k, h, c, s, p),
         Shape::Comprehension => comprehension(c, s, p),
-        Shape::Other => Filled::Refused(22),
+        Shape::Other => Filled::Refused(BROKEN_RECORD),
     }
 }
 
@@ -103,13 +115,13 @@ fn compound(k: u64, h: Counts, c: &[u8], s: &mut [u64], p: Place) -> Filled
 {
     let skip = h.skip;
     let Value::Is(a) = fixed(skip, c) else {
-        return Filled::Refused(22);
+        return Filled::Refused(BROKEN_RECORD);
     };
     match terms(&c[skip..], s, p, h.most) {
         Several::Refused(x) => Filled::Refused(x),
         Several::Read(count, left, node) => {
             if count < h.least {
-                return Filled::Refused(22);
+                return Filled::Refused(BROKEN_RECORD);
             }
             if skip == 0 {
                 return finish(s, k, count as u64, p, left, node);
@@ -128,7 +140,7 @@ fn terms(l: &[u8], s: &mut [u64], p: Place, most: usize) -> Several
         return Several::Read(0, p.left, p.node);
     }
     if most == 0 {
-        return Several::Refused(22);
+        return Several::Refused(BROKEN_RECORD);
     }
     match term(l, s, p) {
         Front::Refused(x) => Several::Refused(x),
@@ -153,14 +165,14 @@ fn comprehension(c: &[u8], s: &mut [u64], p: Place) -> Filled
     ensures { λ r. ⌜ ComprehensionRead (now (c .entry)) (now (s .entry)) p (now (s .exit)) r ⌝ }
 {
     if c.len() == 0 {
-        return Filled::Refused(22);
+        return Filled::Refused(BROKEN_RECORD);
     }
     let m = byte(c, 0);
     if m == 0 {
-        return Filled::Refused(22);
+        return Filled::Refused(BROKEN_RECORD);
     }
-    if 8 < m {
-        return Filled::Refused(22);
+    if MONOIDS < m {
+        return Filled::Refused(BROKEN_RECORD);
     }
     let inside = Place {
         levels: p.levels,
@@ -170,7 +182,7 @@ fn comprehension(c: &[u8], s: &mut [u64], p: Place) -> Filled
     };
     match parts(&c[1..], s, inside) {
         Filled::Refused(x) => Filled::Refused(x),
-        Filled::Read(left, node) => finish(s, 14, m, p, left, node),
+        Filled::Read(left, node) => finish(s, KIND_COMPREHENSION, m, p, left, node),
     }
 }
 
@@ -192,7 +204,7 @@ fn parts(l: &[u8], s: &mut [u64], p: Place) -> Filled
         }
         Item::Head(used, left, node) => {
             if used < l.len() {
-                Filled::Refused(22)
+                Filled::Refused(BROKEN_RECORD)
             } else {
                 Filled::Read(left, node)
             }
@@ -226,24 +238,23 @@ fn as_head(r: Front) -> Item
     }
 }
 
-// "A question is one record of kind 14", and nothing behind it. "23: a 33rd level (the question is level 1) or a 257th
-// record": 31 levels and 255 records more.
+// "A question is one record of kind 14", and nothing behind it.
 pub fn read_question(l: &[u8], s: &mut [u64]) -> Read
     requires { ⌜ 8192 ≤ length (now s) ⌝ }
     ensures { λ r. ⌜ QuestionRead (now (l .entry)) (now (s .entry)) (now (s .exit)) r ⌝ }
 {
-    if 4096 < l.len() {
-        return Read::Refused(21);
+    if QUESTION_BYTES < l.len() {
+        return Read::Refused(QUESTION_TOO_LONG);
     }
     let Header::Record(k, e) = read_header(l) else {
-        return Read::Refused(22);
+        return Read::Refused(BROKEN_RECORD);
     };
-    if k != 14 {
-        return Read::Refused(22);
+    if k != KIND_COMPREHENSION {
+        return Read::Refused(BROKEN_RECORD);
     }
     let first = Place {
-        levels: 31,
-        left: 255,
+        levels: LEVELS,
+        left: RECORDS,
         node: 0,
         depth: 0,
     };
@@ -251,7 +262,7 @@ pub fn read_question(l: &[u8], s: &mut [u64]) -> Read
         Filled::Refused(x) => Read::Refused(x),
         Filled::Read(_, n) => {
             if e < l.len() {
-                Read::Refused(22)
+                Read::Refused(BROKEN_RECORD)
             } else {
                 Read::Question(n)
             }

@@ -10,7 +10,23 @@ use super::bytes::two;
 use crate::Counts;
 use crate::Filled;
 use crate::Place;
+use base_refusals::BROKEN_RECORD;
+use base_syntax::KIND_BINDING;
+use base_syntax::KIND_COMPREHENSION;
+use base_syntax::KIND_CONDITION;
+use base_syntax::KIND_FIELD;
+use base_syntax::KIND_GENERATOR;
+use base_syntax::KIND_NAME;
+use base_syntax::KIND_NOT;
+use base_syntax::KIND_NUMBER;
+use base_syntax::KIND_RECORD;
+use base_syntax::KIND_TABLE;
+use base_syntax::KIND_TRUTH;
+use base_syntax::ZERO;
 use front_words::put_node;
+
+// "Name (2 bytes, 0 to 255)"
+const LAST_NAME: u64 = 255;
 
 // What a term's content is.
 pub enum Shape {
@@ -38,30 +54,30 @@ pub fn shape_of(k: u64) -> Shape
     if k == 0 {
         return Shape::Other;
     }
-    if k <= 3 {
+    if k <= KIND_NAME {
         return Shape::Value;
     }
-    if 15 < k {
+    if KIND_TABLE < k {
         return Shape::Other;
     }
     match k {
-        4 => Shape::Terms(Counts {
+        KIND_FIELD => Shape::Terms(Counts {
             least: 1,
             most: 1,
             skip: 1,
         }),
-        5 => Shape::Terms(Counts {
+        KIND_RECORD => Shape::Terms(Counts {
             least: 1,
             most: 8,
             skip: 0,
         }),
-        13 => Shape::Terms(Counts {
+        KIND_NOT => Shape::Terms(Counts {
             least: 1,
             most: 1,
             skip: 0,
         }),
-        14 => Shape::Comprehension,
-        15 => Shape::Value,
+        KIND_COMPREHENSION => Shape::Comprehension,
+        KIND_TABLE => Shape::Value,
         _ => Shape::Terms(Counts {
             least: 2,
             most: 2,
@@ -74,17 +90,17 @@ pub fn look_ahead(k: u64) -> Ahead
     ensures { λ r. ⌜ Looks k r ⌝ }
 {
     match k {
-        16 => Ahead::Qualifier(Counts {
+        KIND_GENERATOR => Ahead::Qualifier(Counts {
             least: 1,
             most: 1,
             skip: 2,
         }),
-        17 => Ahead::Qualifier(Counts {
+        KIND_BINDING => Ahead::Qualifier(Counts {
             least: 1,
             most: 1,
             skip: 2,
         }),
-        18 => Ahead::Qualifier(Counts {
+        KIND_CONDITION => Ahead::Qualifier(Counts {
             least: 1,
             most: 1,
             skip: 0,
@@ -103,7 +119,6 @@ fn index(c: &[u8]) -> Value
     Value::Is(byte(c, 0))
 }
 
-// "Name (2 bytes, 0 to 255)"
 fn short(c: &[u8]) -> Value
     ensures { λ r. ⌜ Fixed 2 (now (c .entry)) r ⌝ }
 {
@@ -111,7 +126,7 @@ fn short(c: &[u8]) -> Value
         return Value::Broken;
     }
     let x = two(c, 0);
-    if x <= 255 {
+    if x <= LAST_NAME {
         Value::Is(x)
     } else {
         Value::Broken
@@ -137,10 +152,10 @@ fn number(c: &[u8]) -> Value
         return Value::Broken;
     }
     let n = two(c, 0) + 65536 * two(c, 2);
-    if n < 2147483648 {
-        Value::Is(n + 2147483648)
+    if n < ZERO {
+        Value::Is(n + ZERO)
     } else {
-        Value::Is(n - 2147483648)
+        Value::Is(n - ZERO)
     }
 }
 
@@ -178,9 +193,9 @@ fn argument(k: u64, c: &[u8]) -> Value
     ensures { λ r. ⌜ Valued (getD kinds k unknown) (now (c .entry)) r ⌝ }
 {
     match k {
-        1 => number(c),
-        2 => truth(c),
-        3 => name(c),
+        KIND_NUMBER => number(c),
+        KIND_TRUTH => truth(c),
+        KIND_NAME => name(c),
         _ => table(c),
     }
 }
@@ -199,7 +214,7 @@ pub fn leaf(k: u64, c: &[u8], s: &mut [u64], p: Place) -> Filled
     ensures { λ r. ⌜ ContentRead k (now (c .entry)) (now (s .entry)) p (now (s .exit)) r ⌝ }
 {
     match argument(k, c) {
-        Value::Broken => Filled::Refused(22),
+        Value::Broken => Filled::Refused(BROKEN_RECORD),
         Value::Is(a) => finish(s, k, a, p, p.left, p.node),
     }
 }

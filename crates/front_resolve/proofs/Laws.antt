@@ -19,10 +19,11 @@ use Rattle.front_theory.specs.Node.{Inside}
 use Rattle.front_theory.specs.Flat.{Env, Entry, enter, Offsets, At, boundOf, semsOf, compOf, levels, semOf}
 use Rattle.front_theory.specs.Saturated.{limit}
 use Rattle.front_theory.proofs.Local.{sem-is}
-use Rattle.base_monoid.specs.Word.{monoidOf}
-use Rattle.base_monoid.specs.declared.Monoid.{Monoid}
+use Rattle.base_syntax.specs.Word.{monoidOf}
+use Rattle.base_syntax.specs.declared.Monoid.{Monoid}
+use Rattle.base_syntax.specs.Numbers.{binOf}
 use Rattle.front_nodes.specs.Decode.{depthAt, childrenOf, qualifiersOf, nodesOf}
-use Rattle.front_nodes.specs.Look.{binOf, nodeNamed, Looks, nth, Picks, Unbinding, BoundBy}
+use Rattle.front_nodes.specs.Look.{nodeNamed, Looks, nth, Picks, Unbinding, BoundBy}
 use Rattle.front_nodes.specs.Levels.{AllAt, Level, Levelled}
 use Rattle.front_nodes.specs.declared.Node.{Node}
 use Rattle.front_nodes.specs.declared.Node.the-variants as Nd

@@ -14,10 +14,10 @@ use Rattle.spec_normal_form.specs.Normal.{Sem, row, fields, nested, plain, noth
 use Rattle.front_theory.specs.Node.{nnum, ntruth, nrec, nbin, nnegate, ncomp, ntable}
 use Rattle.front_theory.specs.Flat.{Env, Offsets, boundOf, semsOf, compOf, levels, sem}
 use Rattle.front_theory.specs.Saturated.{limit, saturated}
-use Rattle.base_monoid.specs.Word.{monoidOf}
+use Rattle.base_syntax.specs.Word.{monoidOf}
+use Rattle.base_syntax.specs.Numbers.{binOf}
 use Rattle.front_sizes.specs.Packing.{stored}
 use Rattle.front_nodes.specs.Decode.{depthAt, childrenOf, qualifiersOf, nodesOf}
-use Rattle.front_nodes.specs.Look.{binOf}
 use Rattle.front_nodes.specs.Levels.{Levelled}
 use Rattle.front_nodes.specs.declared.Node.{Node}
 use Rattle.front_nodes.specs.declared.Node.the-variants as No

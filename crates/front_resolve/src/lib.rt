@@ -6,13 +6,13 @@ ghost use lib.ListN.{getD, set};
 ghost use Rattle.spec_normal_form.specs.Normal.{idempotent};
 ghost use Rattle.front_theory.specs.Flat.{levels};
 ghost use Rattle.front_theory.specs.Saturated.{limit};
-ghost use Rattle.base_monoid.specs.Word.{monoidOf};
+ghost use Rattle.base_syntax.specs.Word.{monoidOf};
 ghost use Rattle.front_resolve.specs.Place.{odd, bit, offsets, Fine, Heads, Follows, Spliced, Projected, formFor};
-use base_monoid::Monoid;
+use base_syntax::Monoid;
+use base_syntax::Op;
 use front_nodes::Binder;
 use front_nodes::Found;
 use front_nodes::Node;
-use front_nodes::Op;
 
 // What is left of a node: no name, no field. A row is its generator's number, a cell a field of a row.
 pub enum Form {

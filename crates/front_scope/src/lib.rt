@@ -8,6 +8,16 @@ ghost use Rattle.front_words.specs.Tree.{argAt};
 ghost use Rattle.front_scope.specs.Binders.{cleared, noted, bindersOf};
 ghost use Rattle.front_scope.specs.Pass.{names, Full, binds};
 ghost use Rattle.front_scope.specs.Words.{TermPassed, LeafPassed, OperandsPassed, CompPassed, TermsPassed, QualsPassed, QualPassed, Judged};
+use base_syntax::KIND_BINDING;
+use base_syntax::KIND_COMPREHENSION;
+use base_syntax::KIND_CONDITION;
+use base_syntax::KIND_FIELD;
+use base_syntax::KIND_GENERATOR;
+use base_syntax::KIND_NAME;
+use base_syntax::KIND_NOT;
+use base_syntax::KIND_OR;
+use base_syntax::KIND_PLUS;
+use base_syntax::KIND_RECORD;
 use front_words::start_at;
 
 // Where the words of the binders begin.
@@ -65,7 +75,7 @@ fn leaf(s: &[u64], scope: &[bool; 256], ok: bool) -> bool
     requires { ⌜ length (now scope) ≡ 256 ⌝ }
     ensures { λ r. ⌜ LeafPassed (now (s .entry)) (now (scope .entry)) ok r ⌝ }
 {
-    if kind_at(s, 0) == 3 {
+    if kind_at(s, 0) == KIND_NAME {
         return used(scope, arg_at(s, 0), ok);
     }
     ok
@@ -81,12 +91,12 @@ fn term(s: &[u64], e: usize, seen: &mut [bool; 256], scope: &mut [bool; 256], ok
     }
     let i = e - 1;
     match kind_at(s, i) {
-        3 => used(scope, arg_at(s, i), ok),
-        4 => term(s, i, seen, scope, ok),
-        5 => terms(s, start_at(s, i), i, seen, scope, ok),
-        6..=12 => operands(s, i, seen, scope, ok),
-        13 => term(s, i, seen, scope, ok),
-        14 => comprehension(s, i, seen, scope, ok),
+        KIND_NAME => used(scope, arg_at(s, i), ok),
+        KIND_FIELD => term(s, i, seen, scope, ok),
+        KIND_RECORD => terms(s, start_at(s, i), i, seen, scope, ok),
+        KIND_PLUS..=KIND_OR => operands(s, i, seen, scope, ok),
+        KIND_NOT => term(s, i, seen, scope, ok),
+        KIND_COMPREHENSION => comprehension(s, i, seen, scope, ok),
         _ => ok,
     }
 }
@@ -167,15 +177,15 @@ fn qualifier(s: &[u64], i: usize, seen: &mut [bool; 256], scope: &mut [bool; 256
     ensures { λ r. ⌜ QualPassed (now (s .entry)) i (names (now (seen .entry)) (now (scope .entry)) ok) (names (now (seen .exit)) (now (scope .exit)) r) ⌝ }
 {
     match kind_at(s, i) {
-        16 => {
+        KIND_GENERATOR => {
             let k = term(s, i, seen, scope, ok);
             bound(seen, scope, arg_at(s, i), k)
         }
-        17 => {
+        KIND_BINDING => {
             let k = term(s, i, seen, scope, ok);
             bound(seen, scope, arg_at(s, i), k)
         }
-        18 => term(s, i, seen, scope, ok),
+        KIND_CONDITION => term(s, i, seen, scope, ok),
         _ => ok,
     }
 }
@@ -216,10 +226,10 @@ fn note(s: &mut [u64], i: usize)
 {
     let k = kind_at(s, i);
     let x = arg_at(s, i);
-    if k < 16 {
+    if k < KIND_GENERATOR {
         return;
     }
-    if 17 < k {
+    if KIND_BINDING < k {
         return;
     }
     if x < 256 {

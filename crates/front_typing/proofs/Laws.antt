@@ -22,9 +22,10 @@ use Rattle.front_nodes.specs.declared.Found.{Found}
 use Rattle.front_nodes.specs.declared.Found.the-variants.{At, Nothing}
 use Rattle.front_nodes.specs.Decode.{siblings, childrenOf, chainUpto, chain, qualifiersOf, nodesOf}
 use Rattle.front_nodes.specs.Look.{nodeNamed, Looks, nth, Picks}
-use Rattle.base_monoid.specs.declared.Monoid.{Monoid}
-use Rattle.base_monoid.specs.declared.Monoid.the-variants as Mo
-use Rattle.base_monoid.specs.Word.{monoidOf, numberOf}
+use Rattle.base_syntax.specs.declared.Monoid.{Monoid}
+use Rattle.base_syntax.specs.declared.Monoid.the-variants as Mo
+use Rattle.base_syntax.specs.Word.{monoidOf}
+use Rattle.base_syntax.specs.Numbers.{numberOf}
 use Rattle.front_theory.specs.Node.{Nodes}
 use Rattle.front_theory.specs.Node as Nd
 use Rattle.front_words.specs.Layout.{shapesAt}

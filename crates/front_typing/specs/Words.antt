@@ -10,7 +10,7 @@ use Rattle.spec_calculus.specs.Syntax.{Collection, Monoid}
 use Rattle.spec_encoding.specs.Data as Data
 use Rattle.spec_checks.specs.Types.{mayStand}
 use Rattle.front_nodes.specs.Decode.{childrenOf, qualifiersOf, nodesOf}
-use Rattle.base_monoid.specs.Word.{monoidOf}
+use Rattle.base_syntax.specs.Word.{monoidOf}
 use Rattle.front_theory.specs.Node.{Node, nnum, ntruth, nname, nfield, nrec, nbin, nnegate, ncomp, ntable, ngen, nbind, ncond, nbad}
 use Rattle.front_words.specs.Layout.{shapesAt}
 use Rattle.base_tables.specs.Description.{collectionIn, columnsIn}

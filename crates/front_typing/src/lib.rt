@@ -5,15 +5,15 @@ ghost use Prim.Native.Nat.{_+_, _≤_, _<_};
 ghost use lib.ListN.{getD};
 ghost use Rattle.spec_checks.specs.Types.{mayStand};
 ghost use Rattle.front_nodes.specs.Decode.{nodesOf};
-ghost use Rattle.front_nodes.specs.Look.{binOf};
-ghost use Rattle.base_monoid.specs.Word.{monoidOf};
+ghost use Rattle.base_syntax.specs.Word.{monoidOf};
+ghost use Rattle.base_syntax.specs.Numbers.{binOf};
 ghost use Rattle.base_tables.specs.Description.{collectionNumber};
 ghost use Rattle.front_typing.specs.Shapes.{classOf, fits, isNumber, isTruth, collects, collectionOf, headOf, cellShape, numberShape, truthShape, gathersShape, twoNumbers, twoTruths, binShape, compShape};
 ghost use Rattle.front_typing.specs.Words.{numbered as numberedWord, shapeWord, shapeIn, shapesIn, collectionBy, rules, Makes, tableAt, partAt, fieldAt, elementAt, partsFit, mayRange, qualFitsAt, qualsFitAt, recordAt, compAt, shapeOf, shapedUpTo, Judges};
-use base_monoid::Monoid;
+use base_syntax::Monoid;
+use base_syntax::Op;
 use front_nodes::Found;
 use front_nodes::Node;
-use front_nodes::Op;
 
 // What a node's type is at its head. A type can be exponentially large, so none is ever built: a record and a collection
 // are told by the node that makes them, a row and a table by the table's number.

@@ -1,16 +1,17 @@
 -- The tree that the words hold. Nodes stand in post-order: a node's last child is the node before it, and the child before
 -- a child c ends where c's subtree begins. Every word is read as something, so this is total; `e` is the place behind a
 -- node. Where a tree lies in the words (Laid), fuel of twice e is enough.
-use mathlib.Core.List.{List, [], _∷_}
+use mathlib.Core.List.{List}
 use mathlib.Core.Bool.{true, false}
 use Prim.Native.Nat.{ℕ, zero, suc, _-_, min}
 use lib.Dec.{leb, ltb, eqb}
 use lib.ListN.{getD}
 use lib.IntN.{ℤ, pos, negsuc}
 use Rattle.spec_calculus.specs.Lists.{pick}
-use Rattle.spec_calculus.specs.Syntax as Sy
-use Rattle.spec_calculus.specs.Syntax.{Monoid, of, list, bag, set, sum, max, some, all, Term, Terms, Quals, num, truth, name, field, rec, bin, negate, comp, table, tnil, tcons, qnil, gen, bind, cond}
+use Rattle.spec_calculus.specs.Syntax.{Monoid, Term, Terms, Quals, num, truth, name, field, rec, bin, negate, comp, table, tnil, tcons, qnil, gen, bind, cond}
 use Rattle.spec_encoding.specs.Reader.{Kind, kinds, unknown, number, truthK, nameK, fieldK, record′, not, tableK, comprehension, generator, binding, condition, two-terms}
+use Rattle.base_syntax.specs.Word.{monoidOf}
+use Rattle.base_syntax.specs.Numbers.{monoidNumbered}
 use Rattle.front_words.specs.Packing.{kindOf, argOf, startOf, nodeWord}
 
 -- a number is kept as its distance from -2^31
@@ -19,7 +20,7 @@ numberOf a = elim (ltb a 0x80000000) [ true ↦ negsuc (0x7fffffff - a) | false 
 
 -- monoids 1 to 8
 abbrev pub monoidAt : ℕ → Monoid
-monoidAt k = getD (of list ∷ of list ∷ of bag ∷ of set ∷ sum ∷ max ∷ some ∷ all ∷ Sy.min ∷ []) k (of list)
+monoidAt k = monoidOf (monoidNumbered k)
 
 -- the kind and the argument of node i, and where the subtree of the node that ends at e begins, below e in any case
 abbrev pub kindAt : List ℕ → ℕ → Kind

@@ -10,15 +10,16 @@ use lib.IntN.{ℤ, pos}
 use Rattle.spec_calculus.specs.Lists.{pick}
 use Rattle.spec_calculus.specs.Syntax.{and}
 use Rattle.spec_calculus.specs.Syntax as Sy
-use Rattle.base_monoid.specs.declared.Monoid.{Monoid}
-use Rattle.base_monoid.specs.Word.{monoidOf}
-use Rattle.form_words.specs.declared.Op.{Op}
+use Rattle.base_syntax.specs.declared.Monoid.{Monoid}
+use Rattle.base_syntax.specs.Word.{monoidOf}
+use Rattle.base_syntax.specs.declared.Op.{Op}
+use Rattle.base_syntax.specs.Numbers.{binOf}
 use Rattle.form_words.specs.declared.Node.{Node}
 use Rattle.form_words.specs.declared.Node.the-variants as N
 use Rattle.form_words.specs.declared.Clause.{Clause}
 use Rattle.form_words.specs.declared.Clause.the-variants as Cl
 use Rattle.form_words.specs.Packing.{places, next}
-use Rattle.form_words.specs.Tree.{left, binOf}
+use Rattle.form_words.specs.Tree.{left}
 use Rattle.form_words.specs.Look.{Looks, LooksC}
 use Rattle.form_words.proofs.Laws.{next-past}
 use Rattle.spec_plan.specs.Plan.{PTerm, ptruth, Source, table, unit, nest}

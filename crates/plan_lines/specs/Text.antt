@@ -4,11 +4,12 @@ use mathlib.Core.List.{List, [], _∷_, _++_}
 use mathlib.Core.Bool.{Bool, true, false}
 use Prim.Native.Nat.{ℕ, pred, _+_, _<_}
 use Rattle.spec_calculus.specs.Lists.{pick}
-use Rattle.base_monoid.specs.declared.Monoid.{Monoid}
-use Rattle.base_monoid.specs.Word.{monoidOf}
-use Rattle.form_words.specs.declared.Op.{Op}
+use Rattle.base_syntax.specs.declared.Monoid.{Monoid}
+use Rattle.base_syntax.specs.Word.{monoidOf}
+use Rattle.base_syntax.specs.declared.Op.{Op}
+use Rattle.base_syntax.specs.Numbers.{binOf}
 use Rattle.form_words.specs.Packing.{nodeAt}
-use Rattle.form_words.specs.Tree.{binOf, left}
+use Rattle.form_words.specs.Tree.{left}
 use Rattle.spec_plan.specs.Plan.{PTerm, pfield, Source, join, outer, nest}
 use Rattle.spec_plan.specs.Plan as Pl
 use Rattle.spec_plan.specs.Planner.{conj}

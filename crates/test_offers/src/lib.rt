@@ -56,7 +56,7 @@ pub extern "C" fn dislogha_offered_rows(
 {
     match admit(tables, question, scratch) {
         Admitted::Scant => Reply {
-            number: 31,
+            number: base_refusals::SCRATCH_TOO_SHORT,
             length: 0,
         },
         Admitted::Refused(k) => finish(scratch, k, 0),

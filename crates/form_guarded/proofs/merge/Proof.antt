@@ -8,7 +8,7 @@ use Rattle.form_guarded.proofs.merge.Reads as reads
 use Rattle.form_guarded.proofs.merge.Lts as lts
 use Rattle.form_guarded.proofs.magnitude.Reads as magnitude-reads
 use Rattle.form_guarded.proofs.mergeable.Reads as mergeable-reads
-use Rattle.base_monoid.proofs.Monoid.merge.Reads as merge-reads
+use Rattle.base_syntax.proofs.Monoid.merge.Reads as merge-reads
 
 merge-requires : tie.Need-merge-requires
 merge-requires c κs = merge-ready (c .before .before .before .before .fits .a) (c .before .before .before .before .fits .b) (c .before .before .before .magnitude .ensures) (c .before .before .magnitude2 .ensures) (c .before .before .before .before .args .m) (c .before .mergeable .ensures) (c .if1 .taken)

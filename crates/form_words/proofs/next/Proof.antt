@@ -9,7 +9,8 @@ next-spec =
     (tie.spec
     (λ c. next-out (c .before .before .args .s .now) (c .before .before .args .i) (c .if1 .taken))
     (λ c κs. search needs)
+    (λ c κs. search needs)
     (λ c. search needs)
     (λ c. search needs)
-    (λ c. next-in (c .before .before .before .before .args .s .now) (c .before .before .before .before .args .i) (c .before .word .ensures) (c .if2 .taken))
-    (λ c. next-cut (c .before .before .before .before .args .s .now) (c .before .before .before .before .args .i) (c .before .word .ensures) (c .if2 .left)))
+    (λ c. next-in (c .before .before .before .before .before .args .s .now) (c .before .before .before .before .before .args .i) (c .before .before .word .ensures) (c .before .below .ensures) (c .if2 .taken))
+    (λ c. next-cut (c .before .before .before .before .before .args .s .now) (c .before .before .before .before .before .args .i) (c .before .before .word .ensures) (c .before .below .ensures) (c .if2 .left)))

@@ -64,9 +64,9 @@ use Rattle.front_emit.proofs.below.Reads as below-reads
 use Rattle.front_emit.proofs.close.Reads as close-reads
 use Rattle.front_emit.proofs.copy.Reads as copy-reads
 use Rattle.front_emit.proofs.generator.Reads as generator-reads
-use Rattle.front_emit.proofs.monoid_number.Reads as monoid-number-reads
+use Rattle.base_syntax.proofs.Monoid.bits.Reads as bits-reads
 use Rattle.front_emit.proofs.never.Reads as never-reads
-use Rattle.front_emit.proofs.op_number.Reads as op-number-reads
+use Rattle.base_syntax.proofs.Op.number.Reads as number-reads
 use Rattle.front_emit.proofs.simple.Reads as simple-reads
 use Rattle.front_emit.proofs.split_of.Reads as split-of-reads
 use Rattle.front_resolve.proofs.joined.Reads as joined-reads
@@ -213,29 +213,29 @@ yielding-below t = and 1 yielding-kinds.ps (falls 1 yielding-kinds.ps _<_ μ-yie
 pub +binary+both+comprehension+condition+copied+emit+fields+negated+placed+qualifier+qualifiers+recorded+single+source+yielding-spec : {M : Type 1} → statement M
 +binary+both+comprehension+condition+copied+emit+fields+negated+placed+qualifier+qualifiers+recorded+single+source+yielding-spec =
     close μ-binary μ-both μ-comprehension μ-condition μ-copied μ-emit μ-fields μ-negated μ-placed μ-qualifier μ-qualifiers μ-recorded μ-single μ-source μ-yielding
-    (λ t. binary-lts.spec (below-reads.Asked, below-reads.Learnt, emit-below t, emit.Post, op-number-reads.Asked, op-number-reads.Learnt, close-reads.Asked, close-reads.Learnt) (binary-at t) binary.Post
+    (λ t. binary-lts.spec (below-reads.Asked, below-reads.Learnt, emit-below t, emit.Post, number-reads.Asked, number-reads.Learnt, close-reads.Asked, close-reads.Learnt) (binary-at t) binary.Post
     (λ c κs. has-place (c .before .before .before .pre .1 .0))
     (λ c κs. (omega (arith, c .before .before .before .before .pre .0, two-below (c .before .before .before .before .pre .1 .0) (c .before .before .before .before .pre .1 .1) .0), two-first (c .before .before .before .before .pre .1 .0) (c .before .before .before .before .pre .1 .1) (c .below .ensures)))
     (λ c κs. (omega (arith, c .before .before .before .before .before .before .before .before .pre .0, two-below (c .before .before .before .before .before .before .before .before .pre .1 .0) (c .before .before .before .before .before .before .before .before .pre .1 .1) .1), two-second (c .before .before .before .before .before .before .before .before .pre .1 .0) (c .before .before .before .before .before .before .before .before .pre .1 .1) (c .before .before .before .before .below .ensures) (c .before .before .before .emit .ensures)))
     (λ c κs. search needs)
-    (λ c κs. let E = ends-later (c .before .before .before .before .before .before .before .before .before .below .ensures) (moved (c .before .before .before .before .before .before .before .before .emit .ensures)) (two-second (c .before .before .before .before .before .before .before .before .before .before .before .before .before .pre .1 .0) (c .before .before .before .before .before .before .before .before .before .before .before .before .before .pre .1 .1) (c .before .before .before .before .before .before .before .before .before .below .ensures) (c .before .before .before .before .before .before .before .before .emit .ensures) .room) (moved (c .before .before .before .before .emit2 .ensures)) in (omega arith, omega (arith, c .op-number .ensures .1), E .0, E .1))
+    (λ c κs. let E = ends-later (c .before .before .before .before .before .before .before .before .before .below .ensures) (moved (c .before .before .before .before .before .before .before .before .emit .ensures)) (two-second (c .before .before .before .before .before .before .before .before .before .before .before .before .before .pre .1 .0) (c .before .before .before .before .before .before .before .before .before .before .before .before .before .pre .1 .1) (c .before .before .before .before .before .before .before .before .before .below .ensures) (c .before .before .before .before .before .before .before .before .emit .ensures) .room) (moved (c .before .before .before .before .emit2 .ensures)) in (omega arith, omega (arith, c .number .ensures .1), E .0, E .1))
     (λ c. search needs)
-    (λ c. two-done (c .before .before .before .before .before .before .before .before .before .before .before .before .before .before .before .before .pre .1 .0) (c .before .before .before .before .before .before .before .before .before .before .before .before .before .before .before .before .pre .1 .1) (c .before .before .before .before .before .before .before .before .before .before .before .before .below .ensures) (c .before .before .before .before .before .before .before .before .before .before .before .emit .ensures) (c .before .before .before .before .before .before .before .emit2 .ensures) (c .before .before .before .op-number .ensures .0) (c .before .before .close .ensures)))
+    (λ c. two-done (c .before .before .before .before .before .before .before .before .before .before .before .before .before .before .before .before .pre .1 .0) (c .before .before .before .before .before .before .before .before .before .before .before .before .before .before .before .before .pre .1 .1) (c .before .before .before .before .before .before .before .before .before .before .before .before .below .ensures) (c .before .before .before .before .before .before .before .before .before .before .before .emit .ensures) (c .before .before .before .before .before .before .before .emit2 .ensures) (c .before .before .before .number .ensures .0) (c .before .before .close .ensures)))
     (λ t. both-lts.spec (condition-below t, condition.Post) (both-at t) both.Post
     (λ c κs. (omega (arith, c .before .before .before .pre .0, two-below (c .before .before .before .pre .1 .0) (c .before .before .before .pre .1 .1) .0), both-first (c .before .before .before .args .v) (c .before .before .before .pre .1 .0) (c .before .before .before .pre .1 .1)))
     (λ c κs. (omega (arith, c .before .before .before .before .before .before .before .pre .0, two-below (c .before .before .before .before .before .before .before .pre .1 .0) (c .before .before .before .before .before .before .before .pre .1 .1) .1), both-second (c .before .before .before .before .before .before .before .args .v) (c .before .before .before .before .before .before .before .pre .1 .0) (c .before .before .before .before .before .before .before .pre .1 .1) (c .before .before .before .condition .ensures)))
     (λ c. search needs)
     (λ c. both-written (c .before .before .before .before .before .before .before .before .before .before .args .v) (c .before .before .before .before .before .before .before .before .before .before .pre .1 .0) (c .before .before .before .before .before .before .before .before .before .before .pre .1 .1) (c .before .before .before .before .before .before .condition .ensures) (c .before .before .condition2 .ensures)))
-    (λ t. comprehension-lts.spec (below-reads.Asked, below-reads.Learnt, copied-below t, copied.Post, copy-reads.Asked, copy-reads.Learnt, emit-below t, emit.Post, monoid-number-reads.Asked, monoid-number-reads.Learnt, close-reads.Asked, close-reads.Learnt) (comprehension-at t) comprehension.Post
+    (λ t. comprehension-lts.spec (below-reads.Asked, below-reads.Learnt, copied-below t, copied.Post, copy-reads.Asked, copy-reads.Learnt, emit-below t, emit.Post, bits-reads.Asked, bits-reads.Learnt, close-reads.Asked, close-reads.Learnt) (comprehension-at t) comprehension.Post
     (λ c κs. has-place (c .before .before .pre .1 .0))
     (λ c κs. (omega (arith, c .before .before .before .pre .0), comp-first (c .before .before .before .pre .1 .0) (c .before .before .before .pre .1 .1) (c .below .ensures)))
     (λ c. omega (arith, comp-below (c .before .before .before .before .before .before .before .before .pre .1 .0) (c .before .before .before .before .before .before .before .before .pre .1 .1) .1))
     (λ c κs. copy-ok (c .before .before .before .before .before .before .before .before .pre .1 .0) (comp-first (c .before .before .before .before .before .before .before .before .pre .1 .0) (c .before .before .before .before .before .before .before .before .pre .1 .1) (c .before .before .before .before .before .below .ensures) .1))
     (λ c κs. (omega (arith, c .before .before .before .before .before .before .before .before .before .pre .0, comp-below (c .before .before .before .before .before .before .before .before .before .pre .1 .0) (c .before .before .before .before .before .before .before .before .before .pre .1 .1) .0), comp-second (c .before .before .before .before .before .before .before .before .before .pre .1 .0) (c .before .before .before .before .before .before .before .before .before .pre .1 .1) (c .before .before .before .before .before .before .below .ensures) (c .before .before .before .before .before .copied .ensures) (c .copy .ensures)))
     (λ c κs. search needs)
-    (λ c κs. let E = ends-later (c .before .before .before .before .before .before .before .before .before .before .before .below .ensures) (movedQ (c .before .before .before .before .before .before .before .before .before .before .copied .ensures)) (comp-second (c .before .before .before .before .before .before .before .before .before .before .before .before .before .before .pre .1 .0) (c .before .before .before .before .before .before .before .before .before .before .before .before .before .before .pre .1 .1) (c .before .before .before .before .before .before .before .before .before .before .before .below .ensures) (c .before .before .before .before .before .before .before .before .before .before .copied .ensures) (c .before .before .before .before .before .copy .ensures) .room) (moved (c .before .before .before .before .emit .ensures)) in (omega arith, omega (arith, c .monoid-number .ensures .1), E .0, E .1))
+    (λ c κs. let E = ends-later (c .before .before .before .before .before .before .before .before .before .before .before .below .ensures) (movedQ (c .before .before .before .before .before .before .before .before .before .before .copied .ensures)) (comp-second (c .before .before .before .before .before .before .before .before .before .before .before .before .before .before .pre .1 .0) (c .before .before .before .before .before .before .before .before .before .before .before .before .before .before .pre .1 .1) (c .before .before .before .before .before .before .before .before .before .before .before .below .ensures) (c .before .before .before .before .before .before .before .before .before .before .copied .ensures) (c .before .before .before .before .before .copy .ensures) .room) (moved (c .before .before .before .before .emit .ensures)) in (omega arith, omega (arith, c .bits .ensures .1), E .0, E .1))
     (λ c. search needs)
-    (λ c. comp-written (c .before .before .before .before .before .before .before .before .before .before .before .before .before .before .before .before .before .pre .1 .0) (c .before .before .before .before .before .before .before .before .before .before .before .before .before .before .before .before .before .pre .1 .1) (c .before .before .before .before .before .before .before .before .before .before .before .before .before .before .below .ensures) (c .before .before .before .before .before .before .before .before .before .before .before .before .before .copied .ensures) (c .before .before .before .before .before .before .before .before .copy .ensures) (c .before .before .before .before .before .before .before .emit .ensures) (c .before .before .before .monoid-number .ensures .0) (c .before .before .close .ensures)))
+    (λ c. comp-written (c .before .before .before .before .before .before .before .before .before .before .before .before .before .before .before .before .before .pre .1 .0) (c .before .before .before .before .before .before .before .before .before .before .before .before .before .before .before .before .before .pre .1 .1) (c .before .before .before .before .before .before .before .before .before .before .before .before .before .before .below .ensures) (c .before .before .before .before .before .before .before .before .before .before .before .before .before .copied .ensures) (c .before .before .before .before .before .before .before .before .copy .ensures) (c .before .before .before .before .before .before .before .emit .ensures) (c .before .before .before .bits .ensures .0) (c .before .before .close .ensures)))
     (λ t. condition-lts.spec (resolve-reads.Asked, resolve-reads.Learnt, split-of-reads.Asked, split-of-reads.Learnt, both-below t, both.Post, yielding-below t, yielding.Post, single-below t, single.Post) (condition-at t) condition.Post
     (λ c κs. search needs)
     (λ c κs. search needs)

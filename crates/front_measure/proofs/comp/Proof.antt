@@ -1,5 +1,5 @@
 -- `measure::comp` meets its contract.
-use Rattle.base_monoid.specs.Word.{monoidOf}
+use Rattle.base_syntax.specs.Word.{monoidOf}
 use Rattle.front_measure.proofs.Parts.{comp-deep, comp-is}
 use borrow.Author.Needs.{needs}
 use Rattle.front_measure.proofs.comp.Statement.{statement}

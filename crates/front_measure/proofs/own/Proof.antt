@@ -1,5 +1,5 @@
 -- `measure::own` meets its contract.
-use Rattle.base_monoid.specs.Word.{monoidOf}
+use Rattle.base_syntax.specs.Word.{monoidOf}
 use Rattle.front_measure.proofs.Parts.{own-yields, own-stays}
 use borrow.Author.Needs.{needs}
 use Rattle.front_measure.proofs.own.Statement.{statement}

@@ -1,5 +1,5 @@
 -- `measure::two` meets its contract.
-use Rattle.front_nodes.specs.Look.{binOf}
+use Rattle.base_syntax.specs.Numbers.{binOf}
 use Rattle.front_measure.proofs.Parts.{two-and, two-other}
 use borrow.Author.Needs.{needs}
 use Rattle.front_measure.proofs.two.Statement.{statement}

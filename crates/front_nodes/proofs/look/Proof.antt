@@ -1,6 +1,7 @@
 -- `decode::look` meets its contract.
-use mathlib.Core.Path.{_∙_}
+use mathlib.Core.Path.{ap, _∙_}
 use mir.Facts.{toZ-ofZ}
+use Rattle.base_syntax.specs.Word.{monoidOf}
 use Rattle.base_signed.proofs.Word.{fits}
 use Rattle.front_nodes.proofs.Laws.{kind-is, arg-is, look-number, look-truth, look-name, look-table, look-field, look-comp, look-record, look-two, look-not, look-gen, look-bind, look-cond, look-bad, look-far}
 use borrow.Author.Needs.{needs}
@@ -32,7 +33,7 @@ returns-8 : tie.Need-returns-8
 returns-8 c = look-not (c .before .before .before .before .before .before .before .before .if1 .left) (c .before .before .before .before .before .prior .ensures) (kind-is (c .before .before .before .before .before .before .before .before .before .before .args .s .now) (c .before .before .before .before .before .before .before .before .before .before .args .i) (c .before .before .before .before .before .before .before .node-word .ensures) (c .before .before .before .before .kind .ensures) (c .before .before .before .kind-of .ensures) (c .before .enum-told6 .given .1)) (c .raised3 .ensures)
 
 returns-9 : tie.Need-returns-9
-returns-9 c = let w = c .before .before .before .before .before .before .before .before .node-word .ensures in look-comp (c .before .before .before .before .before .before .before .before .before .if1 .left) (arg-is (c .before .before .before .before .before .before .before .before .before .before .before .args .s .now) (c .before .before .before .before .before .before .before .before .before .before .before .args .i) w (c .before .before .before .before .before .before .before .arg .ensures)) (c .before .before .before .before .before .before .prior .ensures) (kind-is (c .before .before .before .before .before .before .before .before .before .before .before .args .s .now) (c .before .before .before .before .before .before .before .before .before .before .before .args .i) w (c .before .before .before .before .before .kind .ensures) (c .before .before .before .before .kind-of .ensures) (c .before .before .enum-told7 .given .1)) (c .before .monoid-at .ensures) (c .raised4 .ensures)
+returns-9 c = let w = c .before .before .before .before .before .before .before .before .node-word .ensures in look-comp (c .before .before .before .before .before .before .before .before .before .if1 .left) (arg-is (c .before .before .before .before .before .before .before .before .before .before .before .args .s .now) (c .before .before .before .before .before .before .before .before .before .before .before .args .i) w (c .before .before .before .before .before .before .before .arg .ensures)) (c .before .before .before .before .before .before .prior .ensures) (kind-is (c .before .before .before .before .before .before .before .before .before .before .before .args .s .now) (c .before .before .before .before .before .before .before .before .before .before .before .args .i) w (c .before .before .before .before .before .kind .ensures) (c .before .before .before .before .kind-of .ensures) (c .before .before .enum-told7 .given .1)) (ap monoidOf (c .before .from-number .ensures)) (c .raised4 .ensures)
 
 returns-10 : tie.Need-returns-10
 returns-10 c = let w = c .before .before .before .before .before .before .node-word .ensures in look-table (c .before .before .before .before .before .before .before .if1 .left) (arg-is (c .before .before .before .before .before .before .before .before .before .args .s .now) (c .before .before .before .before .before .before .before .before .before .args .i) w (c .before .before .before .before .before .arg .ensures)) (kind-is (c .before .before .before .before .before .before .before .before .before .args .s .now) (c .before .before .before .before .before .before .before .before .before .args .i) w (c .before .before .before .kind .ensures) (c .before .before .kind-of .ensures) (c .enum-told8 .given .1))

@@ -1,7 +1,7 @@
 -- `resolve::joined` meets its contract.
 use mathlib.Core.Path.{refl}
 use Rattle.spec_normal_form.specs.Normal.{idempotent}
-use Rattle.base_monoid.specs.declared.Monoid.the-variants as Mo
+use Rattle.base_syntax.specs.declared.Monoid.the-variants as Mo
 use Rattle.front_resolve.proofs.Laws.{joined-by}
 use borrow.Author.Needs.{needs}
 use Rattle.front_resolve.proofs.joined.Statement.{statement}

@@ -2,7 +2,7 @@
 use mathlib.Core.Path.{sym, ap, _∙_}
 use mathlib.Core.Bool.{Bool}
 use Rattle.front_typing.specs.Words.{rules, collectionBy}
-use Rattle.base_monoid.specs.Word.{monoidOf}
+use Rattle.base_syntax.specs.Word.{monoidOf}
 use borrow.Author.Needs.{needs}
 use Rattle.front_typing.proofs.allowed.Statement.{statement}
 use Rattle.front_typing.proofs.allowed.Tie as tie

@@ -1,7 +1,7 @@
 -- `typing::binary` meets its contract.
 use mathlib.Core.Path.{sym, ap, _∙_}
-use Rattle.front_nodes.specs.declared.Op.{Op}
-use Rattle.front_nodes.specs.Look.{binOf}
+use Rattle.base_syntax.specs.declared.Op.{Op}
+use Rattle.base_syntax.specs.Numbers.{binOf}
 use Rattle.front_typing.specs.Shapes.{binShape}
 use borrow.Author.Needs.{needs}
 use Rattle.front_typing.proofs.binary.Statement.{statement}

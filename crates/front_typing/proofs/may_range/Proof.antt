@@ -4,7 +4,7 @@ use Rattle.spec_calculus.specs.Syntax.{Collection}
 use Rattle.front_typing.specs.Shapes.{collectionOf, stands}
 use Rattle.front_typing.specs.Words.{rules, collectionBy, mayRange}
 use Rattle.front_nodes.specs.Decode.{nodesOf}
-use Rattle.base_monoid.specs.Word.{monoidOf}
+use Rattle.base_syntax.specs.Word.{monoidOf}
 use Rattle.base_tables.specs.Description.{collectionIn}
 use Rattle.front_typing.proofs.Laws.{by-number, no-range}
 use borrow.Author.Needs.{needs}

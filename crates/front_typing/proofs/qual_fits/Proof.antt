@@ -2,7 +2,7 @@
 use mathlib.Core.Path.{ap, _∙_}
 use Rattle.front_typing.specs.Shapes.{fits, isTruth}
 use Rattle.front_typing.specs.Words.{mayRange}
-use Rattle.base_monoid.specs.Word.{monoidOf}
+use Rattle.base_syntax.specs.Word.{monoidOf}
 use Rattle.front_typing.proofs.Laws.{qual-by, qual-other}
 use borrow.Author.Needs.{needs}
 use Rattle.front_typing.proofs.qual_fits.Statement.{statement}

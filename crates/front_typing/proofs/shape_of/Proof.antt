@@ -3,7 +3,7 @@ use mathlib.Core.Path.{refl, ap, ap₂, _∙_}
 use Rattle.front_typing.proofs.Laws.{shape-by}
 use Rattle.front_typing.specs.Shapes.{binShape, truthShape}
 use Rattle.front_typing.specs.Words.{fieldAt, elementAt}
-use Rattle.front_nodes.specs.Look.{binOf}
+use Rattle.base_syntax.specs.Numbers.{binOf}
 use borrow.Author.Needs.{needs}
 use Rattle.front_typing.proofs.shape_of.Statement.{statement}
 use Rattle.front_typing.proofs.shape_of.Tie as tie

@@ -6,9 +6,9 @@ use mir.Val.{SFits, ofZ}
 use mir.Facts.{toZ-ofZ, sfits-lit}
 use Rattle.spec_calculus.specs.Lists.{pick}
 use Rattle.base_signed.proofs.Word.{eq-yes, eq-no}
-use Rattle.base_monoid.specs.Word.{noneWord, chosen}
-use Rattle.base_monoid.proofs.choose.Statement.{statement}
-use Rattle.base_monoid.proofs.choose.Tie as tie
+use Rattle.base_syntax.specs.Word.{noneWord, chosen}
+use Rattle.base_syntax.proofs.choose.Statement.{statement}
+use Rattle.base_syntax.proofs.choose.Tie as tie
 
 module _ {a b : ℤ} (fa : SFits w64 a) (fb : SFits w64 b) (t : Bool) where
   none-first : ofZ w64 a ≡ ofZ w64 noneWord → b ≡ chosen a b t

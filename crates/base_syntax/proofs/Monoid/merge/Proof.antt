@@ -10,10 +10,10 @@ use mir.Facts.{toZ-ofZ, sfits-lit}
 use Rattle.spec_calculus.specs.Lists.{pick}
 use Rattle.spec_calculus.specs.Value.{eqZ}
 use Rattle.base_signed.proofs.Word.{fits, sum-ok, sum-is, eq-yes, eq-no}
-use Rattle.base_monoid.specs.declared.Monoid.{Monoid}
-use Rattle.base_monoid.specs.Word.{monoidOf, chosen, mergeWord}
-use Rattle.base_monoid.proofs.Monoid.merge.Statement.{statement}
-use Rattle.base_monoid.proofs.Monoid.merge.Tie as tie
+use Rattle.base_syntax.specs.declared.Monoid.{Monoid}
+use Rattle.base_syntax.specs.Word.{monoidOf, chosen, mergeWord}
+use Rattle.base_syntax.proofs.Monoid.merge.Statement.{statement}
+use Rattle.base_syntax.proofs.Monoid.merge.Tie as tie
 
 -- What an arm owes. x: the case that the match found.
 module _ (z : tie.Start) {x : Monoid} (e : z .args .self ≡ x) where

@@ -1,11 +1,71 @@
-// The monoid's own type: its start, its combining step and its last step on words. Loops, nest and reduce use these.
+// What a question is made of: the kinds of records, the operators and the monoids, each with its numbers. The monoid's own type
+// has its start, its combining step and its last step on words; loops, nest and reduce use these.
 ghost use mathlib.Core.Path.{_≡_};
-ghost use Prim.Native.Nat.{_<_, _^_};
+ghost use Prim.Native.Nat.{_<_, _%_, _^_};
 ghost use lib.Signed.{mag};
-ghost use Rattle.base_monoid.specs.Word.{monoidOf, numberOf, zeroWord, chosen, mergeWord, finishWord, oneMore};
+ghost use Rattle.base_syntax.specs.Word.{monoidOf, zeroWord, chosen, mergeWord, finishWord, oneMore};
+ghost use Rattle.base_syntax.specs.Numbers.{binOf, opArg, opAt, numberOf, monoidNumbered, monoidArg, monoidAt};
 
 // What max and min have before their first head: no head has this word, since all are within 2^62.
 const NONE: i64 = 4611686018427387905;
+
+// Document 01's kinds of a question's records.
+pub const KIND_NUMBER: u64 = 1;
+
+pub const KIND_TRUTH: u64 = 2;
+
+pub const KIND_NAME: u64 = 3;
+
+pub const KIND_FIELD: u64 = 4;
+
+pub const KIND_RECORD: u64 = 5;
+
+pub const KIND_PLUS: u64 = 6;
+
+pub const KIND_MINUS: u64 = 7;
+
+pub const KIND_TIMES: u64 = 8;
+
+pub const KIND_EQUAL: u64 = 9;
+
+pub const KIND_LESS: u64 = 10;
+
+pub const KIND_AND: u64 = 11;
+
+pub const KIND_OR: u64 = 12;
+
+pub const KIND_NOT: u64 = 13;
+
+pub const KIND_COMPREHENSION: u64 = 14;
+
+pub const KIND_TABLE: u64 = 15;
+
+pub const KIND_GENERATOR: u64 = 16;
+
+pub const KIND_BINDING: u64 = 17;
+
+pub const KIND_CONDITION: u64 = 18;
+
+// The kind of the data's records: a table with its rows.
+pub const KIND_ROWS: usize = 20;
+
+// Numbers are kept, in a question's words and in a form's, as their distance from -2^31; ZERO is the number 0.
+pub const OFFSET: i64 = 2147483648;
+
+pub const ZERO: u64 = OFFSET as u64;
+
+// Monoids have the numbers 1 to 8.
+pub const MONOIDS: u64 = 8;
+
+pub enum Op {
+    Plus,
+    Minus,
+    Times,
+    Equal,
+    Less,
+    And,
+    Or,
+}
 
 pub enum Monoid {
     List,
@@ -108,6 +168,70 @@ impl Monoid {
             Monoid::Some => 6,
             Monoid::All => 7,
             Monoid::Min => 8,
+        }
+    }
+
+    pub fn from_number(n: u64) -> Monoid
+        ensures { λ r. ⌜ r ≡ monoidNumbered n ⌝ }
+    {
+        match n {
+            2 => Monoid::Bag,
+            3 => Monoid::Set,
+            4 => Monoid::Sum,
+            5 => Monoid::Max,
+            6 => Monoid::Some,
+            7 => Monoid::All,
+            8 => Monoid::Min,
+            _ => Monoid::List,
+        }
+    }
+
+    // A form word keeps three bits of the number: min's 8 is 0 there.
+    pub fn bits(self) -> u64
+        ensures { λ r. ⌜ (r ≡ monoidArg (monoidOf self)) × (r < 8) ⌝ }
+    {
+        self.number() % MONOIDS
+    }
+
+    // By the low three bits.
+    pub fn from_bits(a: u64) -> Monoid
+        ensures { λ r. ⌜ r ≡ monoidAt (a % 8) ⌝ }
+    {
+        let b = a % MONOIDS;
+        if b == 0 {
+            return Monoid::Min;
+        }
+        Monoid::from_number(b)
+    }
+}
+
+impl Op {
+    // The number in a form word.
+    pub fn number(self) -> u64
+        ensures { λ r. ⌜ (r ≡ opArg (binOf self)) × (r < 8) ⌝ }
+    {
+        match self {
+            Op::Plus => 0,
+            Op::Minus => 1,
+            Op::Times => 2,
+            Op::Equal => 3,
+            Op::Less => 4,
+            Op::And => 5,
+            Op::Or => 6,
+        }
+    }
+
+    pub fn from_number(n: u64) -> Op
+        ensures { λ r. ⌜ r ≡ opAt n ⌝ }
+    {
+        match n {
+            1 => Op::Minus,
+            2 => Op::Times,
+            3 => Op::Equal,
+            4 => Op::Less,
+            5 => Op::And,
+            6 => Op::Or,
+            _ => Op::Plus,
         }
     }
 }

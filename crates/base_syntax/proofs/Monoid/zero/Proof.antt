@@ -1,9 +1,9 @@
 use borrow.Author.Needs.{needs}
 use mathlib.Core.Path.{_≡_, sym, ap}
-use Rattle.base_monoid.specs.declared.Monoid.{Monoid}
-use Rattle.base_monoid.specs.Word.{monoidOf, zeroWord}
-use Rattle.base_monoid.proofs.Monoid.zero.Statement.{statement}
-use Rattle.base_monoid.proofs.Monoid.zero.Tie as tie
+use Rattle.base_syntax.specs.declared.Monoid.{Monoid}
+use Rattle.base_syntax.specs.Word.{monoidOf, zeroWord}
+use Rattle.base_syntax.proofs.Monoid.zero.Statement.{statement}
+use Rattle.base_syntax.proofs.Monoid.zero.Tie as tie
 
 -- x: the case that the match found
 starts : {s x : Monoid} → s ≡ x → zeroWord (monoidOf x) ≡ zeroWord (monoidOf s)

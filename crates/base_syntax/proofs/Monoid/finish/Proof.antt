@@ -8,10 +8,10 @@ use mir.Facts.{toZ-ofZ, sfits-lit}
 use Rattle.spec_calculus.specs.Lists.{pick}
 use Rattle.spec_calculus.specs.Value.{eqZ}
 use Rattle.base_signed.proofs.Word.{eq-yes, eq-no}
-use Rattle.base_monoid.specs.declared.Monoid.{Monoid}
-use Rattle.base_monoid.specs.Word.{noneWord, monoidOf, finishWord}
-use Rattle.base_monoid.proofs.Monoid.finish.Statement.{statement}
-use Rattle.base_monoid.proofs.Monoid.finish.Tie as tie
+use Rattle.base_syntax.specs.declared.Monoid.{Monoid}
+use Rattle.base_syntax.specs.Word.{noneWord, monoidOf, finishWord}
+use Rattle.base_syntax.proofs.Monoid.finish.Statement.{statement}
+use Rattle.base_syntax.proofs.Monoid.finish.Tie as tie
 
 -- What an arm owes. x: the case that the match found.
 module _ (z : tie.Start) {x : Monoid} (e : z .args .self ≡ x) where

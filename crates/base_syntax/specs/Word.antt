@@ -1,4 +1,4 @@
--- A monoid as the engine has it: its number, and the one word that is kept of its value while it runs. That is the number
+-- A monoid as the engine has it, and the one word that is kept of its value while it runs. That is the number
 -- itself, for max and min "nothing yet" before it, the truth as 0 or 1, or how many heads a collection was made of: equal heads of a set all count.
 use mathlib.Core.Bool.{Bool, true, false}
 use Prim.Native.Nat.{ℕ, _+_, _^_}
@@ -9,8 +9,8 @@ use Rattle.spec_calculus.specs.Lists.{pick}
 use Rattle.spec_calculus.specs.Syntax.{list, bag, set, of, sum, max, min, some, all}
 use Rattle.spec_calculus.specs.Syntax as Sy
 use Rattle.spec_calculus.specs.Value.{Value, num, truth, rec, coll, count, eqZ}
-use Rattle.base_monoid.specs.declared.Monoid.{Monoid}
-use Rattle.base_monoid.specs.declared.Monoid.the-variants.{List, Bag, Set, Sum, Max, Some, All, Min}
+use Rattle.base_syntax.specs.declared.Monoid.{Monoid}
+use Rattle.base_syntax.specs.declared.Monoid.the-variants.{List, Bag, Set, Sum, Max, Some, All, Min}
 
 -- the monoid that each case of the enum is
 abbrev pub monoidOf : Monoid → Sy.Monoid
@@ -22,17 +22,6 @@ monoidOf Max = max
 monoidOf Some = some
 monoidOf All = all
 monoidOf Min = min
-
--- "1 list, 2 bag, 3 set ..; 4 sum ..; 5 max ..; 6 some ..; 7 all"; "monoid 8, min" (document 02, E1)
-abbrev pub numberOf : Monoid → ℕ
-numberOf List = 1
-numberOf Bag = 2
-numberOf Set = 3
-numberOf Sum = 4
-numberOf Max = 5
-numberOf Some = 6
-numberOf All = 7
-numberOf Min = 8
 
 -- a value as one word: the first of its written form; a record is never kept so (what max and min start with: `soFarWord`)
 abbrev pub firstWord : Value → ℤ

@@ -1,2 +1,0 @@
--- What the words of a monoid mean.
-pub mod Laws

@@ -1,0 +1,35 @@
+// The numbers of the refusals, of documents 01 and 02, under the names of include/dislogha.h.
+// A record of the data is cut short or not kind 20.
+pub const NOT_A_TABLE: u64 = 11;
+
+pub const TABLE_OUT_OF_RANGE: u64 = 12;
+
+pub const TOO_MANY_TABLES: u64 = 13;
+
+pub const QUESTION_TOO_LONG: u64 = 21;
+
+pub const BROKEN_RECORD: u64 = 22;
+
+pub const TOO_DEEP_OR_TOO_MANY_RECORDS: u64 = 23;
+
+pub const NAME_DOES_NOT_HOLD: u64 = 24;
+
+pub const TYPE_DOES_NOT_FIT: u64 = 25;
+
+pub const GENERATOR_NOT_ALLOWED: u64 = 26;
+
+pub const NORMAL_FORM_TOO_LARGE: u64 = 27;
+
+pub const NUMBER_OUT_OF_BOUNDS: u64 = 28;
+
+pub const SCRATCH_TOO_SHORT: u64 = 31;
+
+pub const ANSWER_TOO_SHORT: u64 = 32;
+
+pub const LINES_TOO_SHORT: u64 = 33;
+
+pub const ROWS_OUT_OF_RANGE: u64 = 47;
+
+pub const NOTHING_UNFINISHED: u64 = 48;
+
+pub const ROTA_OUT_OF_RANGE: u64 = 49;

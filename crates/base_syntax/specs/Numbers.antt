@@ -1,0 +1,65 @@
+-- Operators and monoids as numbers: an operator's in a form word, a monoid's own of document 01, and the three bits that a form
+-- word keeps of that.
+use mathlib.Core.List.{List, [], _∷_}
+use Prim.Native.Nat.{ℕ, zero, suc, _%_}
+use lib.ListN.{getD}
+use Rattle.spec_calculus.specs.Syntax.{list, bag, set, of, sum, max, min, some, all, Bin, plus, minus, times, equal, less, and, or}
+use Rattle.spec_calculus.specs.Syntax as Sy
+use Rattle.base_syntax.specs.declared.Op.{Op}
+use Rattle.base_syntax.specs.declared.Op.the-variants.{Plus, Minus, Times, Equal, Less, And, Or}
+use Rattle.base_syntax.specs.declared.Monoid.{Monoid}
+use Rattle.base_syntax.specs.declared.Monoid.the-variants as Mo
+use Rattle.base_syntax.specs.Word.{monoidOf}
+
+-- the operator that each case of the enum is
+abbrev pub binOf : Op → Bin
+binOf Plus = plus
+binOf Minus = minus
+binOf Times = times
+binOf Equal = equal
+binOf Less = less
+binOf And = and
+binOf Or = or
+
+abbrev pub opArg : Bin → ℕ
+opArg plus = 0
+opArg minus = 1
+opArg times = 2
+opArg equal = 3
+opArg less = 4
+opArg and = 5
+opArg or = 6
+
+abbrev pub operators : List Op
+operators = Plus ∷ Minus ∷ Times ∷ Equal ∷ Less ∷ And ∷ Or ∷ []
+
+abbrev pub opAt : ℕ → Op
+opAt a = getD operators a Plus
+
+-- "1 list, 2 bag, 3 set ..; 4 sum ..; 5 max ..; 6 some ..; 7 all"; "monoid 8, min" (document 02, E1)
+abbrev pub monoidNumber : Sy.Monoid → ℕ
+monoidNumber (of list) = 1
+monoidNumber (of bag) = 2
+monoidNumber (of set) = 3
+monoidNumber sum = 4
+monoidNumber max = 5
+monoidNumber some = 6
+monoidNumber all = 7
+monoidNumber min = 8
+
+abbrev pub numberOf : Monoid → ℕ
+numberOf m = monoidNumber (monoidOf m)
+
+abbrev pub monoids : List Monoid
+monoids = Mo.List ∷ Mo.List ∷ Mo.Bag ∷ Mo.Set ∷ Mo.Sum ∷ Mo.Max ∷ Mo.Some ∷ Mo.All ∷ Mo.Min ∷ []
+
+abbrev pub monoidNumbered : ℕ → Monoid
+monoidNumbered n = getD monoids n Mo.List
+
+-- three bits: the 8 of min is 0 there
+abbrev pub monoidArg : Sy.Monoid → ℕ
+monoidArg m = monoidNumber m % 8
+
+abbrev pub monoidAt : ℕ → Monoid
+monoidAt zero = Mo.Min
+monoidAt (suc b) = monoidNumbered (suc b)
