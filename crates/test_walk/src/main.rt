@@ -253,18 +253,35 @@ fn offers(s: &mut [u64], data: &[u8], out: &mut [i64], limit: usize, code: usize
     }
 }
 
-// The pass that counts, and the pass that writes.
-fn run(s: &mut [u64], data: &[u8], out: &mut [i64], first: usize) {
+// The pass that counts: G.
+fn counted(s: &mut [u64], data: &[u8], out: &mut [i64], first: usize) -> usize {
     let g = exec_pass::pass(s, data, out, 0, first);
     say(b"G (exec_pass::pass, limit 0): ");
     io::print_decimal(1, g as u64);
-    say(b"\nsecond pass begins (exec_pass::start)\n");
-    let code = exec_pass::start(s, data, out, g, first);
-    show_state(s, out, g);
-    offers(s, data, out, g, code, 16);
-    exec_pass::close(s, out, g);
+    say(b"\n");
+    g
+}
+
+// The pass that writes begins: the code of the loop that offers the first row.
+fn begun(s: &mut [u64], data: &[u8], out: &mut [i64], limit: usize, first: usize) -> usize {
+    let code = exec_pass::start(s, data, out, limit, first);
+    say(b"second pass begins (exec_pass::start)\n");
+    show_state(s, out, limit);
+    code
+}
+
+fn closed(s: &[u64], out: &mut [i64], limit: usize) {
+    exec_pass::close(s, out, limit);
     say(b"raw words (exec_pass::close)\n");
-    show_answer(out, g);
+    show_answer(out, limit);
+}
+
+// Both passes.
+fn run(s: &mut [u64], data: &[u8], out: &mut [i64], first: usize) {
+    let g = counted(s, data, out, first);
+    let code = begun(s, data, out, g, first);
+    offers(s, data, out, g, code, 16);
+    closed(s, out, g);
 }
 
 fn by_plan(data: &[u8], s: &mut [u64]) {
