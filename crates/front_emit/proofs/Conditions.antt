@@ -1,8 +1,8 @@
 -- A place as a generator's term and as a condition: what the calls ask, and what they come to.
 use mathlib.Core.Path.{_≡_, refl, sym, ap₂, subst, _∙_}
-use mathlib.Core.Bool.{Bool, true}
+use mathlib.Core.Bool.{Bool, true, false}
 use mathlib.Core.List.{List}
-use Prim.Native.Nat.{ℕ, suc, _+_, _^_, _<_}
+use Prim.Native.Nat.{ℕ, suc, _+_, _^_, _<_, _≤_}
 use native.Mathlib.Omega.{arith}
 use types.Run.{OneOf, miss}
 use denote.Enum.Declared.{tagOf}
@@ -10,7 +10,8 @@ use Rattle.spec_calculus.specs.Syntax.{Bin, plus, minus, times, equal, less, an
 use Rattle.spec_normal_form.specs.Form.{Clauses, gensC}
 use Rattle.spec_normal_form.specs.Normal.{Sem, givesWay, condition, ranges, binary}
 use Rattle.spec_normal_form.specs.NoRule.{NotAnd}
-use Rattle.front_theory.specs.Flat.{Env, At}
+use lib.ListN.{length}
+use Rattle.front_theory.specs.Flat.{Env, At, levels}
 use Rattle.front_theory.specs.Word.{words, wordsC}
 use Rattle.front_theory.proofs.Emit.{Whole, condition-whole, binary-whole, Never, ranges-never}
 use Rattle.base_syntax.specs.declared.Monoid.{Monoid}
@@ -19,27 +20,24 @@ use Rattle.base_syntax.specs.Word.{monoidOf}
 use Rattle.front_nodes.specs.Decode.{nodesOf, qualifiersOf}
 use Rattle.base_syntax.specs.declared.Op.{Op}
 use Rattle.base_syntax.specs.declared.Op.the-variants as Op
-use Rattle.base_syntax.specs.Numbers.{binOf}
-use Rattle.front_resolve.specs.Place.{envOf}
+use Rattle.front_resolve.specs.Place.{Place, envOf, Heads}
 use Rattle.front_resolve.specs.declared.Form.{Form}
 use Rattle.front_resolve.specs.declared.Form.the-variants.{Number, Truth, Row, Cell, Record, Two, Not, Comp, Table, Bad}
-use Rattle.front_resolve.specs.declared.Place.{Place}
 use Rattle.front_resolve.proofs.Form as form
 use Rattle.front_resolve.proofs.Laws.{one-more, unranged}
 use Rattle.front_emit.specs.declared.State.{State}
 use Rattle.front_emit.specs.declared.Split.{Split}
+use Rattle.front_emit.specs.declared.Split.the-variants.{And, Some, One}
 use Rattle.front_emit.specs.Shape.{Single, Splits, IsComp}
-use Rattle.front_emit.specs.Wrote.{Generates, EmittedOne, EmittedC, EmittedG, EmittedQ}
+use Rattle.front_emit.specs.Wrote.{Generates, EmittedOne, EmittedC, EmittedG, EmittedAs, EmittedQ}
 use Rattle.front_emit.specs.Wrote as Wr
-use Rattle.front_emit.specs.Start.{collections, semS, placeS, flagIn, copyEnv, copyS, Copies, Room, StartsAt, ConditionAt, ConditionOf, WholeOf, CopyOf}
+use Rattle.front_emit.specs.Start.{collections, semS, placeS, flagIn, copyEnv, copyS, Copies, Room, ConditionAt, ClauseAt, ConditionOf, SourceOf, WholeOf, CopyOf}
 use Rattle.front_emit.proofs.Done.{laid-kept, laidC, laidQ, movedC, movedQ, room-left, table-source, both-done, yields-done, whole-done, spliced-done, never-source}
-use Rattle.front_emit.proofs.Terms.{formS, form-is, childS, form-at, node-inside, node-level, child-starts, again, later-starts, condition-before, room-condition, room-at, room-less}
+use Rattle.front_emit.proofs.Terms.{condition-place, source-place, condition-done, source-done, two-below, comp-below, formS, form-is, childS, form-at, node-inside, node-level, child-starts, again, later-starts, condition-before, room-condition, room-at, room-less}
 use Rattle.front_emit.proofs.Copies.{headS, words-append}
+use Rattle.base_syntax.specs.Numbers.{binOf}
 
 -- ---- as a generator's term
-abbrev SourceOf : List ℕ → Place → Bool → State → Type 0
-SourceOf s h v st = StartsAt s h st (wordsC (ranges (placeS s h) v (st .next) .clauses))
-
 binary-never : (o : Bin) (a b : Sem) → Never (binary o a b)
 unfolding binary
 binary-never plus a b = tt
@@ -187,3 +185,53 @@ yields-starts v {s} {h} {st} e S = subst (λ (x : Bool). ConditionOf s h x st) e
 
 pub yields-cast : {v : Bool} {d : Sem} {s s′ : List ℕ} {st r : State} → v ≡ true → EmittedC d true s st s′ r → EmittedC d v s st s′ r
 yields-cast {d = d} {s} {s′} {st} {r} e E = subst (λ (x : Bool). EmittedC d x s st s′ r) (sym e) E
+
+-- ---- what is left of a clause: node j at depth d in the environment e
+pub record ClauseLeft (g v : Bool) (s₀ : List ℕ) (i D : ℕ) (l : List ℕ) (st : State) (s : List ℕ) (j d : ℕ) (e : List ℕ) (q : State) : Type 0 where
+  pub below : j ≤ i
+  pub long : length e ≡ levels
+  pub starts : ClauseAt g s j d e v q
+  pub rest : (s′ : List ℕ) (r : State) → EmittedAs g (semS s j d (envOf e)) v s q s′ r → EmittedAs g (semS s₀ i D (envOf l)) v s₀ st s′ r
+
+module _ {g v : Bool} {s₀ : List ℕ} {i D : ℕ} {l : List ℕ} {st : State} where
+  pub left-first : length l ≡ levels → ClauseAt g s₀ i D l v st → ClauseLeft g v s₀ i D l st s₀ i D l st
+  left-first z S = record { below = omega arith; long = z; starts = S; rest = λ s′ r E. E }
+
+  module _ {s : List ℕ} {j d : ℕ} {e : List ℕ} {q : State} (L : ClauseLeft g v s₀ i D l st s j d e q) {h : Place} (H : Heads s j d e h) where
+    pub left-source : g ≡ true → SourceOf s h v q
+    left-source p = source-place H v (subst (λ (x : Bool). ClauseAt x s j d e v q) p (L .starts))
+
+    pub left-sourced : {s′ : List ℕ} {r : State} → g ≡ true → EmittedG (placeS s h) v s q s′ r → EmittedAs g (semS s₀ i D (envOf l)) v s₀ st s′ r
+    left-sourced {s′} {r} p E = L .rest s′ r (subst (λ (x : Bool). EmittedAs x (semS s j d (envOf e)) v s q s′ r) (sym p) (source-done H E))
+
+    module _ (p : g ≡ false) where
+      pub left-condition : ConditionOf s h v q
+      left-condition = condition-place H v (subst (λ (x : Bool). ClauseAt x s j d e v q) p (L .starts))
+
+      left-done : {s′ : List ℕ} {r : State} → EmittedC (placeS s h) v s q s′ r → EmittedAs g (semS s₀ i D (envOf l)) v s₀ st s′ r
+      left-done {s′} {r} E = L .rest s′ r (subst (λ (x : Bool). EmittedAs x (semS s j d (envOf e)) v s q s′ r) (sym p) (condition-done H E))
+
+      pub left-one : {s′ : List ℕ} {r : State} → Splits (h .form) v One → EmittedOne (placeS s h) s q s′ r → EmittedAs g (semS s₀ i D (envOf l)) v s₀ st s′ r
+      left-one w E = left-done (single-written v left-condition (w .is) E)
+
+      -- the rest of it is node k
+      left-on : {s₁ : List ℕ} {k b : ℕ} {m : List ℕ} {x : State} → k < h .node → length m ≡ levels → ConditionAt s₁ k b m v x
+          → ((s′ : List ℕ) (r : State) → EmittedC (semS s₁ k b (envOf m)) v s₁ x s′ r → EmittedC (placeS s h) v s q s′ r) → ClauseLeft g v s₀ i D l st s₁ k b m x
+      left-on {s₁} {k} {b} {m} {x} c z S f =
+          record {
+            below = omega (arith, L .below, H .from .below, c);
+            long = z;
+            starts = subst (λ (y : Bool). ClauseAt y s₁ k b m v x) (sym p) S;
+            rest = λ s′ r F. left-done (f s′ r (subst (λ (y : Bool). EmittedAs y (semS s₁ k b (envOf m)) v s₁ x s′ r) p F));
+          }
+
+      pub left-and : {a b : ℕ} {s₁ : List ℕ} {x : State} → Splits (h .form) v (And a b) → EmittedC (childS s h a) v s q s₁ x → ClauseLeft g v s₀ i D l st s₁ b (h .depth) (h .env) x
+      left-and w E = left-on (two-below left-condition (w .is) .1) (H .from .fine .long) (both-second v left-condition (w .is) E) (λ s′ r F. both-written v left-condition (w .is) E F)
+
+      pub left-some : {k : ℕ} {m : List ℕ} {s₁ : List ℕ} {x : State} → Splits (h .form) v (Some k)
+          → EmittedQ (nodesOf s) (semS s) (qualifiersOf s (h .node)) (suc (h .depth)) (copyEnv h Mo.Some true (q .next)) (flagIn true Mo.Some) s q s₁ x × Copies h Mo.Some true (q .next) m
+          → ClauseLeft g v s₀ i D l st s₁ k (h .depth + 1) m x
+      left-some {k} {m} {s₁} {x} w E =
+          let S = yields-starts v (w .is .1) left-condition in
+          left-on (comp-below left-condition (w .is .0) .0) (E .1 .long) (subst (λ (y : Bool). ConditionAt s₁ k (h .depth + 1) m y x) (sym (w .is .1)) (some-second S (w .is .0) (E .0) (E .1)))
+          (λ s′ r F. yields-cast (w .is .1) (some-written S (w .is .0) (E .0) (E .1) (subst (λ (y : Bool). EmittedC (semS s₁ k (h .depth + 1) (envOf m)) y s₁ x s′ r) (w .is .1) F)))

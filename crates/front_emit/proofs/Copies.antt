@@ -19,7 +19,6 @@ use Rattle.front_theory.proofs.Counts.{Counts, counts-append}
 use Rattle.front_theory.proofs.Emit.{clauses-append}
 use Rattle.base_syntax.specs.declared.Monoid.{Monoid}
 use Rattle.base_syntax.specs.Word.{monoidOf}
-use Rattle.base_syntax.specs.Numbers.{monoidArg}
 use Rattle.front_words.specs.Tree.{startAt}
 use Rattle.front_sizes.specs.declared.Count.{Count}
 use Rattle.front_sizes.specs.Packing.{conditionCount}
@@ -31,9 +30,8 @@ use Rattle.front_nodes.specs.declared.Node as Dn
 use Rattle.front_nodes.proofs.Laws.{looked-inside}
 use Rattle.front_nodes.proofs.Chain.{chain-none, chain-more}
 use Rattle.front_nodes.proofs.Node as node
-use Rattle.front_resolve.specs.Place.{envOf}
+use Rattle.front_resolve.specs.Place.{Place, envOf}
 use Rattle.front_resolve.specs.declared.Form.the-variants.{Number, Truth, Record, Two, Not, Comp, Table, Bad}
-use Rattle.front_resolve.specs.declared.Place.{Place}
 use Rattle.front_resolve.proofs.Laws.{one-more}
 use Rattle.front_emit.specs.declared.State.{State}
 use Rattle.front_emit.specs.Shape.{IsComp}
@@ -42,6 +40,7 @@ use Rattle.front_emit.specs.Start.{semS, placeS, flagIn, copyEnv, copyS,
 use Rattle.front_emit.proofs.Kept.{nodes-kept, depth-kept, sem-kept, ready-kept}
 use Rattle.front_emit.proofs.Done.{laid-kept, laidQ, movedQ, room-left, room-behind, closes-arg, comp-done, qual-none, quals-none, quals-more}
 use Rattle.front_emit.proofs.Terms.{form-is, form-at, node-inside, node-level, again, later-starts, term-before, room-term, room-at, room-less}
+use Rattle.base_syntax.specs.Numbers.{monoidArg}
 
 pub words-append : (w q : Clauses) → wordsC (w ⊕ q) ≡ wordsC w + wordsC q
 words-append w q = ap (λ (a : Counts). a .long) (counts-append w q)
@@ -93,9 +92,9 @@ module _ {s : List ℕ} {h : Place} {st : State} {m : Monoid} {k : ℕ} (S : Ter
       (again S (room-at (λ i. wordsC (copyS s h m false i)) n (room-less (room-behind _ p comp-room) (omega arith))), record { head = k; is = e })
 
   module _ {s₁ : List ℕ} {q x : State} (p : q ≡ behind st) (E : EmittedQ (nodesOf s) (semS s) (qualifiersOf s (h .node)) (suc (h .depth)) (copyEnv h m false (q .next)) (flagIn false m) s q s₁ x)
-      {l : List ℕ} (i : Copies h m false (st .next) l) where
+      {l : List ℕ} (i : Copies h m false (q .next) l) where
     head-is : (A : At) → A k (h .depth + 1) (envOf l) ≡ A k (suc (h .depth)) (copyEnv h m false (st .next))
-    head-is A = ap₂ (λ (D : ℕ) (a : Env). A k D a) (one-more (h .depth)) (i .is)
+    head-is A = ap₂ (λ (D : ℕ) (a : Env). A k D a) (one-more (h .depth)) (i .is ∙ ap (λ (y : State). copyEnv h m false (y .next)) p)
 
     pub comp-second : TermAt s₁ k (h .depth + 1) l x
     comp-second =

@@ -20,13 +20,13 @@ use Rattle.front_theory.specs.Emit as No
 use Rattle.front_theory.proofs.Counts.{sizes, sizesF, sizesC, flat-length, flat-lengthF, flat-lengthC}
 use Rattle.front_theory.proofs.Emit as Em
 use Rattle.form_words.specs.Packing.{pack}
-use Rattle.base_syntax.specs.Numbers.{opArg, monoidArg}
 use Rattle.form_words.specs.Flat.{numberArg}
 use Rattle.front_emit.specs.declared.State.{State}
 use Rattle.front_emit.specs.Start.{Room}
 use Rattle.front_emit.specs.Wrote.{kindIn, argIn, packed, Buffer, buffer, put, stateOf, behind, numbered, Leaves, Closes, Generates, Emitted, EmittedF, EmittedC, EmittedG, EmittedN, EmittedQ, EmittedOne, Never}
 use Rattle.front_emit.proofs.Lay.{puts-place, puts-kept, lateS, put-late, laid-late}
 use Rattle.front_emit.proofs.Kept.{Kept}
+use Rattle.base_syntax.specs.Numbers.{opArg, monoidArg}
 
 -- ---- where the words end
 -- so many words were written, so many of them generators

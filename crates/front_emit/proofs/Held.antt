@@ -17,7 +17,6 @@ use Rattle.front_theory.specs.Emit as No
 use Rattle.front_theory.proofs.Counts.{sizes, flat-length}
 use Rattle.front_theory.proofs.Local.{sem-local}
 use Rattle.form_words.specs.Packing.{formAt, places, pack}
-use Rattle.base_syntax.specs.Numbers.{opArg, monoidArg}
 use Rattle.form_words.specs.Flat.{size, sizeF, sizeC, flat, flatF, flatC, Holds}
 use Rattle.front_nodes.specs.Decode.{nodesOf}
 use Rattle.front_nodes.proofs.PostOrder.{post-order}
@@ -27,6 +26,7 @@ use Rattle.front_emit.specs.Wrote.{packed, Buffer, buffer, put, Emitted}
 use Rattle.front_emit.specs.Start.{collections, semS, TermAt}
 use Rattle.front_emit.specs.Whole.{formOf, Writable, WritesForm}
 use Rattle.front_emit.proofs.Lay.{puts-place, puts-kept}
+use Rattle.base_syntax.specs.Numbers.{opArg, monoidArg}
 
 -- ---- the words of a form, packed
 packs : List Word → List ℕ

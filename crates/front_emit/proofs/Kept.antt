@@ -28,10 +28,9 @@ use Rattle.front_nodes.proofs.Depths.{level-same}
 use Rattle.front_nodes.proofs.Same.{depth-same, children-same, qualifiers-same, nodes-same}
 use Rattle.front_words.specs.Tree.{kindAt}
 use Rattle.base_syntax.specs.Word.{monoidOf}
-use Rattle.front_resolve.specs.Place.{offsets, FormAt, Fine}
+use Rattle.front_resolve.specs.Place.{Place, offsets, FormAt, Fine}
 use Rattle.front_resolve.specs.declared.Form.{Form}
 use Rattle.front_resolve.specs.declared.Form.the-variants.{Number, Truth, Row, Cell, Record, Two, Not, Comp, Table, Bad}
-use Rattle.front_resolve.specs.declared.Place.{Place}
 use Rattle.front_emit.specs.Start.{mostTables, collections, semS, Ready}
 
 -- the words before those of the normal form are the same
@@ -113,7 +112,7 @@ module _ {s s′ : List ℕ} (H : Kept s s′) where
   node-kept i e f = ap (λ (N : Nodes). N i) nodes-kept ∙ e ∙ f
 
   pub fine-kept : {h : Place} → h .node < most → Fine s h → Fine s′ h
-  fine-kept {h} l F = record { form = go (h .form) (F .form) }
+  fine-kept {h} l F = record { form = go (h .form) (F .form); long = F .long }
     where
       go : (f : Form) → FormAt s (h .node) (h .depth) f → FormAt s′ (h .node) (h .depth) f
       go (Number z) p = (node-kept (h .node) (p .0) refl, p .1)

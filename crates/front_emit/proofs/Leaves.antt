@@ -21,10 +21,9 @@ use Rattle.front_words.specs.Packing.{argOf, nodeWord}
 use Rattle.front_words.specs.Tree.{numberOf, kindAt, argAt}
 use Rattle.front_nodes.specs.Decode.{most, above, nameBy, nodeBy, nodesOf}
 use Rattle.front_nodes.proofs.PostOrder.{by-pick}
-use Rattle.front_resolve.specs.Place.{FormAt}
+use Rattle.front_resolve.specs.Place.{Place, FormAt}
 use Rattle.front_resolve.specs.declared.Form.{Form}
 use Rattle.front_resolve.specs.declared.Form.the-variants.{Number, Truth, Row, Cell, Record, Two, Not, Comp, Table, Bad}
-use Rattle.front_resolve.specs.declared.Place.{Place}
 use Rattle.front_resolve.proofs.Form as form
 use Rattle.front_emit.specs.declared.State.{State}
 use Rattle.front_emit.specs.Wrote.{Leaves, Emitted}

@@ -8,30 +8,29 @@ use types.Run.{OneOf, miss}
 use denote.Enum.Declared.{tagOf}
 use borrow.Author.Tests.{ltb-true, lt-ltb}
 use lib.Dec.{ltb}
-use lib.ListN.{length, getD, set, List·getD-eq-default}
+use lib.ListN.{length, getD, set, length-set, List·getD-eq-default}
 use Rattle.spec_calculus.specs.Lists.{pick}
 use Rattle.spec_calculus.specs.Syntax.{of}
 use Rattle.spec_calculus.specs.Syntax as Sy
 use Rattle.base_tables.specs.Description.{collectionIn}
 use Rattle.spec_normal_form.specs.Normal.{givesWay}
-use Rattle.front_theory.specs.Flat.{enter}
+use Rattle.front_theory.specs.Flat.{enter, levels}
 use Rattle.base_syntax.specs.declared.Monoid.{Monoid}
 use Rattle.base_syntax.specs.declared.Monoid.the-variants as Mo
 use Rattle.base_syntax.specs.Word.{monoidOf}
 use Rattle.base_syntax.proofs.Monoid as monoid
 use Rattle.base_syntax.specs.declared.Op.{Op}
 use Rattle.base_syntax.specs.declared.Op.the-variants as Op
-use Rattle.base_syntax.specs.Numbers.{monoidArg}
 use Rattle.base_syntax.proofs.Op as op
-use Rattle.front_resolve.specs.Place.{bit, envOf}
+use Rattle.front_resolve.specs.Place.{Place, bit, envOf}
 use Rattle.front_resolve.specs.declared.Form.{Form}
 use Rattle.front_resolve.specs.declared.Form.the-variants.{Number, Truth, Row, Cell, Record, Two, Not, Comp, Table, Bad}
-use Rattle.front_resolve.specs.declared.Place.{Place}
 use Rattle.front_resolve.proofs.Form as form
 use Rattle.front_resolve.proofs.Laws.{env-set}
 use Rattle.front_emit.specs.declared.Split.the-variants.{And, Some, One}
 use Rattle.front_emit.specs.Shape.{Single, Splits}
 use Rattle.front_emit.specs.Start.{mostTables, collections, flagIn, Copies}
+use Rattle.base_syntax.specs.Numbers.{monoidArg}
 
 abbrev bitOf : Bool → ℕ
 bitOf b = pick b 1 0
@@ -104,9 +103,12 @@ module _ {f : Form} {v : Bool} where
     split-comp w = record { is = subst (λ (g : Form). Single g v) (sym e) (other-monoid m v w) }
 
 -- ---- the environment in a copy
-pub copy-is : {h : Place} {m : Monoid} {v : Bool} {n : ℕ} {w : Bool} {l : List ℕ} → length (h .env) ≡ 32 → h .depth < 32 → w ≡ flagIn v m → l ≡ set (h .env) (h .depth) (2 * n + bit w) → Copies h m v n l
+pub copy-is : {h : Place} {m : Monoid} {v : Bool} {n : ℕ} {w : Bool} {l : List ℕ} → length (h .env) ≡ levels → h .depth < levels → w ≡ flagIn v m → l ≡ set (h .env) (h .depth) (2 * n + bit w) → Copies h m v n l
 copy-is {h} {n = n} {w} z d e p =
-    record { is = ap envOf p ∙ env-set (h .env) (h .depth) n w (omega (arith, z, d)) ∙ ap (λ (b : Bool). enter (h .depth) n b (envOf (h .env))) e }
+    record {
+      is = ap envOf p ∙ env-set (h .env) (h .depth) n w (omega (arith, z, d)) ∙ ap (λ (b : Bool). enter (h .depth) n b (envOf (h .env))) e;
+      long = ap (λ (l : List ℕ). length l) p ∙ length-set (h .env) (h .depth) (2 * n + bit w) ∙ z;
+    }
 
 -- ---- the collection of a table
 abbrev pub numberBy : ℕ → ℕ

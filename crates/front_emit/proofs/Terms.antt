@@ -19,18 +19,17 @@ use Rattle.front_nodes.specs.Decode.{most, depthAt, childrenOf, nodesOf}
 use Rattle.front_nodes.specs.Look.{nth, Picks}
 use Rattle.front_nodes.specs.Levels.{AllAt, Level}
 use Rattle.base_syntax.specs.declared.Op.{Op}
-use Rattle.base_syntax.specs.Numbers.{binOf, opArg}
 use Rattle.front_nodes.specs.declared.Found.the-variants as Fd
 use Rattle.front_nodes.proofs.PostOrder.{post-order}
-use Rattle.front_resolve.specs.Place.{envOf, formSem, FormAt, Heads}
+use Rattle.front_resolve.specs.Place.{Place, envOf, formSem, FormAt, Heads}
 use Rattle.front_resolve.specs.declared.Form.{Form}
 use Rattle.front_resolve.specs.declared.Form.the-variants.{Record, Two, Not, Comp}
-use Rattle.front_resolve.specs.declared.Place.{Place}
 use Rattle.front_emit.specs.declared.State.{State}
 use Rattle.front_emit.specs.Wrote.{behind, Closes, Emitted, EmittedF, EmittedC, EmittedG}
-use Rattle.front_emit.specs.Start.{collections, semS, placeS, fieldsS, Room, Starts, StartsAt, TermAt, ConditionAt, SourceAt, TermOf, FieldsOf, ConditionOf, WholeOf}
+use Rattle.front_emit.specs.Start.{collections, semS, placeS, fieldsS, Room, Starts, StartsAt, TermAt, ConditionAt, SourceAt, TermOf, FieldsOf, ConditionOf, SourceOf, WholeOf}
 use Rattle.front_emit.proofs.Kept.{Kept, depth-kept, children-kept, fine-kept, sem-kept, ready-kept}
 use Rattle.front_emit.proofs.Done.{Moved, laid-kept, laid, moved, room-left, room-behind, closes-arg, rec-done, negate-done, binary-done, fields-none, fields-more}
+use Rattle.base_syntax.specs.Numbers.{binOf, opArg}
 
 -- ---- a node's place
 place-is : {s : List ℕ} {i D : ℕ} {l : List ℕ} {h : Place} → Heads s i D l h → placeS s h ≡ semS s i D (envOf l)
@@ -57,7 +56,7 @@ module _ {s : List ℕ} {i D : ℕ} {l : List ℕ} {h : Place} {st : State} (H :
   pub condition-place : (v : Bool) → ConditionAt s i D l v st → ConditionOf s h v st
   condition-place v S = place-starts (λ d. wordsC (condition d v (st .next))) S
 
-  pub source-place : (v : Bool) → SourceAt s i D l v st → StartsAt s h st (wordsC (ranges (placeS s h) v (st .next) .clauses))
+  pub source-place : (v : Bool) → SourceAt s i D l v st → SourceOf s h v st
   source-place v S = place-starts (λ d. wordsC (ranges d v (st .next) .clauses)) S
 
   pub term-done : {s′ : List ℕ} {r : State} → Emitted (placeS s h) s st s′ r → Emitted (semS s i D (envOf l)) s st s′ r
@@ -278,6 +277,24 @@ module _ {s : List ℕ} {h : Place} {st : State} {k c : ℕ} (S : FieldsOf s h k
 
     pub field-done : {s₂ : List ℕ} {r : State} → EmittedF (fieldsS s₁ h (k + 1)) s₁ q s₂ r → EmittedF (fieldsS s h k) s st s₂ r
     field-done {s₂} {r} F = subst (λ ds. EmittedF ds s st s₂ r) (sym these) (fields-more E (subst (λ ds. EmittedF ds s₁ q s₂ r) next-fields F))
+
+-- the terms from k on are left
+pub record FieldsLeft (s₀ : List ℕ) (h : Place) (st : State) (s : List ℕ) (k : ℕ) (q : State) : Type 0 where
+  pub starts : FieldsOf s h k q
+  pub few : k ≤ q .place
+  pub rest : (s′ : List ℕ) (r : State) → EmittedF (fieldsS s h k) s q s′ r → EmittedF (fieldsS s₀ h 0) s₀ st s′ r
+
+pub left-all : {s : List ℕ} {h : Place} {st : State} → FieldsOf s h 0 st → FieldsLeft s h st s 0 st
+left-all S = record { starts = S; few = omega arith; rest = λ s′ r E. E }
+
+module _ {s₀ : List ℕ} {h : Place} {st : State} {s : List ℕ} {k : ℕ} {q : State} (L : FieldsLeft s₀ h st s k q) where
+  pub left-none : Picks s (h .node) k Fd.Nothing → EmittedF (fieldsS s₀ h 0) s₀ st s q
+  left-none P = L .rest s q (no-fields (L .starts) P)
+
+  pub left-less : {c : ℕ} {s₁ : List ℕ} {x : State} → h .form ≡ Record → Picks s (h .node) k (Fd.At c) → Emitted (childS s h c) s q s₁ x → FieldsLeft s₀ h st s₁ (k + 1) x
+  left-less e P E =
+      let n = field-next (L .starts) e P E (L .few) in
+      record { starts = n .0; few = n .1; rest = λ s′ r F. L .rest s′ r (field-done (L .starts) e P E F) }
 
 -- ---- the first place, and nodes below a node
 pub has-place : {s : List ℕ} {h : Place} {st : State} → TermOf s h st → st .place < places

@@ -1,10 +1,10 @@
 -- What a writer starts from: what the scratch says of the question, and room for what is written.
 use mathlib.Core.Path.{_≡_}
-use mathlib.Core.Bool.{Bool, _||_}
+use mathlib.Core.Bool.{Bool, true, false, _||_}
 use mathlib.Core.List.{List}
 use Prim.Native.Nat.{ℕ, suc, _+_, _<_, _≤_}
 use lib.Dec.{ltb}
-use lib.ListN.{getD, drop}
+use lib.ListN.{length, getD, drop}
 use Rattle.spec_calculus.specs.Lists.{pick}
 use Rattle.spec_calculus.specs.Syntax.{Collection, list, of}
 use Rattle.spec_encoding.specs.Data.{collectionOf}
@@ -13,7 +13,7 @@ use Rattle.spec_normal_form.specs.Form.{Clauses}
 use Rattle.spec_normal_form.specs.Form as Nf
 use Rattle.spec_normal_form.specs.Normal.{Sem, Sems, row, nested, plain, nothing, quote, quotes, one, condition, ranges, idempotent}
 use Rattle.spec_normal_form.specs.Size.{nodesC}
-use Rattle.front_theory.specs.Flat.{Env, enter, At, qualOf, clausesOf, semsOf}
+use Rattle.front_theory.specs.Flat.{Env, levels, enter, At, qualOf, clausesOf, semsOf}
 use Rattle.front_theory.specs.Word.{words, wordsF, wordsC}
 use Rattle.base_syntax.specs.declared.Monoid.{Monoid}
 use Rattle.base_syntax.specs.Word.{monoidOf}
@@ -21,10 +21,9 @@ use Rattle.form_words.specs.Packing.{places}
 use Rattle.front_sizes.specs.Packing.{conditionCount}
 use Rattle.front_nodes.specs.Decode.{most, depthAt, childrenOf, chain, qualifiersOf, nodesOf}
 use Rattle.front_nodes.specs.Levels.{AllAt, Levelled}
-use Rattle.front_resolve.specs.Place.{envOf, semN, placeSem, FormAt, Fine}
+use Rattle.front_resolve.specs.Place.{Place, envOf, semN, placeSem, FormAt, Fine}
 use Rattle.front_resolve.specs.declared.Form.{Form}
 use Rattle.front_resolve.specs.declared.Form.the-variants.{Number, Truth, Row, Cell, Record, Two, Not, Comp, Table, Bad}
-use Rattle.front_resolve.specs.declared.Place.{Place}
 use Rattle.front_emit.specs.declared.State.{State}
 
 -- "data is 0 to 8 such records"
@@ -77,6 +76,7 @@ copyS s h m v n = clausesOf (nodesOf s) (semS s) (suc (h .depth)) (copyEnv h m v
 -- the words of that environment
 pub record Copies (h : Place) (m : Monoid) (v : Bool) (n : ℕ) (l : List ℕ) : Type 0 where
   pub is : envOf l ≡ copyEnv h m v n
+  pub long : length l ≡ levels
 
 -- ---- what a writer asks
 -- A qualifier before n whose stored size is 0 writes nothing.
@@ -131,6 +131,11 @@ ConditionAt s i D l v st = Starts s i D st (wordsC (condition (semS s i D (envOf
 abbrev pub SourceAt : List ℕ → ℕ → ℕ → List ℕ → Bool → State → Type 0
 SourceAt s i D l v st = Starts s i D st (wordsC (ranges (semS s i D (envOf l)) v (st .next) .clauses))
 
+-- node i as the term of a qualifier, by whether that ranges
+abbrev pub ClauseAt : Bool → List ℕ → ℕ → ℕ → List ℕ → Bool → State → Type 0
+ClauseAt true s i D l v st = SourceAt s i D l v st
+ClauseAt false s i D l v st = ConditionAt s i D l v st
+
 -- qualifier x, and the qualifiers between lo and e
 abbrev pub QualifierAt : List ℕ → ℕ → ℕ → List ℕ → Bool → State → Type 0
 QualifierAt s x D l v st = Starts s x D st (wordsC (qualOf (semS s) D (envOf l) v (st .next) (nodesOf s x)))
@@ -138,7 +143,8 @@ QualifierAt s x D l v st = Starts s x D st (wordsC (qualOf (semS s) D (envOf l) 
 abbrev pub QualifiersAt : List ℕ → ℕ → ℕ → ℕ → List ℕ → Bool → State → Type 0
 QualifiersAt s lo e D l v st = StartsQ s lo e D st (wordsC (clausesOf (nodesOf s) (semS s) D (envOf l) v (st .next) (chain s lo e)))
 
--- a place as a term, its terms from term k on, as a condition, as one condition, its qualifiers in a copy
+-- a place as a term, its terms from term k on, as a condition, as a generator's term, as one condition, its qualifiers in
+-- a copy
 abbrev pub TermOf : List ℕ → Place → State → Type 0
 TermOf s h st = StartsAt s h st (words (quote (placeS s h) (st .next)))
 
@@ -147,6 +153,9 @@ FieldsOf s h k st = StartsAt s h st (wordsF (quotes (fieldsS s h k) (st .next)))
 
 abbrev pub ConditionOf : List ℕ → Place → Bool → State → Type 0
 ConditionOf s h v st = StartsAt s h st (wordsC (condition (placeS s h) v (st .next)))
+
+abbrev pub SourceOf : List ℕ → Place → Bool → State → Type 0
+SourceOf s h v st = StartsAt s h st (wordsC (ranges (placeS s h) v (st .next) .clauses))
 
 abbrev pub WholeOf : List ℕ → Place → State → Type 0
 WholeOf s h st = StartsAt s h st (wordsC (one (quote (placeS s h) (st .next))))

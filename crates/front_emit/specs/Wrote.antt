@@ -1,7 +1,7 @@
 -- What a writer leaves behind: the words of a form in scratch from its state's place on, and the state behind them.
 use mathlib.Core.Path.{_≡_}
 use mathlib.Core.List.{List}
-use mathlib.Core.Bool.{Bool, false}
+use mathlib.Core.Bool.{Bool, true, false}
 use Prim.Native.Nat.{ℕ, _+_, _-_, _*_}
 use lib.ListN.{set}
 use Rattle.spec_calculus.specs.Lists.{pick}
@@ -13,9 +13,9 @@ use Rattle.front_theory.specs.Word.{Label, Word, wnum, wtruth, wrow, wcell, wre
 use Rattle.front_theory.specs.Emit.{state, tellC, Emits, EmitsF, EmitsC, EmitsG, EmitsN, EmitsQ}
 use Rattle.front_theory.specs.Emit as No
 use Rattle.form_words.specs.Packing.{formAt, pack}
-use Rattle.base_syntax.specs.Numbers.{opArg, monoidArg}
 use Rattle.form_words.specs.Flat.{numberArg}
 use Rattle.front_emit.specs.declared.State.{State}
+use Rattle.base_syntax.specs.Numbers.{opArg, monoidArg}
 
 -- a word in scratch: kind, how many words are below it, argument
 abbrev pub kindIn : Label → ℕ
@@ -92,6 +92,11 @@ pub record EmittedC (d : Sem) (v : Bool) (s : List ℕ) (st : State) (s′ : Lis
 
 pub record EmittedG (d : Sem) (v : Bool) (s : List ℕ) (st : State) (s′ : List ℕ) (r : State) : Type 0 where
   pub is : EmitsG put d v (stateOf s st) (stateOf s′ r)
+
+-- as the term of a qualifier, by whether that ranges
+abbrev pub EmittedAs : Bool → Sem → Bool → List ℕ → State → List ℕ → State → Type 0
+EmittedAs true d v s st s′ r = EmittedG d v s st s′ r
+EmittedAs false d v s st s′ r = EmittedC d v s st s′ r
 
 -- one qualifier, and qualifiers in order
 pub record EmittedN (A : At) (y : Node) (D : ℕ) (e : Env) (v : Bool) (s : List ℕ) (st : State) (s′ : List ℕ) (r : State) : Type 0 where

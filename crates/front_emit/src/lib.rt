@@ -2,27 +2,29 @@
 ghost use mathlib.Core.Path.{_≡_};
 ghost use mathlib.Core.Bool.{true};
 ghost use Prim.Native.Nat.{suc, _^_, _<_, _≤_};
+ghost use lib.ListN.{length};
 ghost use Rattle.spec_calculus.specs.Lists.{pick};
 ghost use Rattle.spec_calculus.specs.Syntax.{of};
 ghost use Rattle.front_theory.specs.Flat.{levels};
 ghost use Rattle.front_theory.specs.Saturated.{limit};
+ghost use Rattle.base_syntax.specs.Word.{monoidOf};
 ghost use Rattle.base_syntax.specs.declared.Monoid.the-variants as Monoid;
 ghost use Rattle.form_words.specs.Packing.{places};
 ghost use Rattle.front_nodes.specs.Decode.{chain, nodesOf, qualifiersOf};
 ghost use Rattle.base_syntax.specs.declared.Op.the-variants as Op;
-ghost use Rattle.base_syntax.specs.Numbers.{monoidArg};
-ghost use Rattle.front_resolve.specs.Place.{envOf};
+ghost use Rattle.front_resolve.specs.Place.{under, envOf};
 ghost use Rattle.front_resolve.specs.declared.Form.the-variants.{Record, Two, Not, Comp};
 ghost use Rattle.front_emit.specs.Shape.{IsComp, Splits};
-ghost use Rattle.front_emit.specs.Start.{collections, semS, placeS, tableS, simpleS, fieldsS, flagIn, copyEnv, Copies, Room, TermAt, ConditionAt, SourceAt, QualifierAt, QualifiersAt, TermOf, FieldsOf, ConditionOf, WholeOf, SimpleAt, CopyOf};
-ghost use Rattle.front_emit.specs.Wrote.{behind, Leaves, Closes, Generates, Emitted, EmittedF, EmittedC, EmittedG, EmittedN, EmittedQ, EmittedOne, Never};
+ghost use Rattle.front_emit.specs.Start.{collections, semS, placeS, tableS, simpleS, fieldsS, flagIn, copyEnv, Copies, Room, TermAt, ClauseAt, QualifierAt, QualifiersAt, TermOf, FieldsOf, SourceOf, WholeOf, SimpleAt, CopyOf};
+ghost use Rattle.front_emit.specs.Wrote.{behind, Leaves, Closes, Generates, Emitted, EmittedF, EmittedG, EmittedAs, EmittedN, EmittedQ, EmittedOne, Never};
 ghost use Rattle.front_emit.specs.Whole.{Writable, WritesForm};
+ghost use Rattle.base_syntax.specs.Numbers.{binOf, opArg, monoidArg};
 use base_syntax::Monoid;
 use base_syntax::Op;
 use front_nodes::Found;
 use front_nodes::Node;
 use front_resolve::Form;
-use front_resolve::Place;
+use front_resolve::Head;
 
 // The next place among the words of the normal form, and the next generator number.
 pub struct State {
@@ -178,114 +180,117 @@ fn split_of(f: Form, v: bool) -> Split
     }
 }
 
-// The environment in the copy of a comprehension that begins with number n.
-fn copy(h: Place, m: Monoid, v: bool, n: u64) -> [u64; 32]
-    requires { ⌜ (h .depth < levels) × (n ≤ limit) ⌝ }
-    ensures { λ r. ⌜ Copies h m v n r ⌝ }
+// The environment goes on into the copy of a comprehension that begins with number n.
+fn copy(h: Head, m: Monoid, v: bool, n: u64, env: &mut [u16; 32])
+    requires { ⌜ (h .depth < levels) × (n ≤ limit) × (length (now env) ≡ levels) ⌝ }
+    ensures { λ _. ⌜ Copies (under (now (env .entry)) h) m v n (now (env .exit)) ⌝ }
 {
-    let e = h.env;
-    front_resolve::enter(e, h.depth, n, front_resolve::joined(v, m))
+    front_resolve::enter(env, h.depth, n, front_resolve::joined(v, m));
 }
 
 // Node i as a term.
-fn emit(s: &mut [u64], i: usize, depth: usize, env: [u64; 32], st: State) -> State
-    requires { ⌜ TermAt (now s) i depth env st ⌝ }
-    ensures { λ r. ⌜ Emitted (semS (now (s .entry)) i depth (envOf env)) (now (s .entry)) st (now (s .exit)) r ⌝ }
+fn emit(s: &mut [u64], i: usize, depth: usize, env: &[u16; 32], st: State) -> State
+    requires { ⌜ TermAt (now s) i depth (now env) st × (length (now env) ≡ levels) ⌝ }
+    ensures { λ r. ⌜ Emitted (semS (now (s .entry)) i depth (envOf (now (env .entry)))) (now (s .entry)) st (now (s .exit)) r ⌝ }
 {
-    let h = front_resolve::resolve(s, i, depth, env);
-    placed(s, h, st)
+    let mut e = *env;
+    let h = front_resolve::resolve(s, i, depth, &mut e);
+    placed(s, h, &mut e, st)
 }
 
-fn placed(s: &mut [u64], h: Place, st: State) -> State
-    requires { ⌜ TermOf (now s) h st ⌝ }
-    ensures { λ r. ⌜ Emitted (placeS (now (s .entry)) h) (now (s .entry)) st (now (s .exit)) r ⌝ }
+fn placed(s: &mut [u64], h: Head, env: &mut [u16; 32], st: State) -> State
+    requires { ⌜ TermOf (now s) (under (now env) h) st ⌝ }
+    ensures { λ r. ⌜ Emitted (placeS (now (s .entry)) (under (now (env .entry)) h)) (now (s .entry)) st (now (s .exit)) r ⌝ }
 {
     let f = h.form;
     match f {
-        Form::Record => recorded(s, h, st),
-        Form::Two(o, a, b) => binary(s, h, o, a, b, st),
-        Form::Not(c) => negated(s, h, c, st),
-        Form::Comp(m, k) => comprehension(s, h, m, k, st),
+        Form::Record => recorded(s, h, env, st),
+        Form::Two(o, a, b) => binary(s, h, o, a, b, env, st),
+        Form::Not(c) => negated(s, h, c, env, st),
+        Form::Comp(m, k) => comprehension(s, h, m, k, env, st),
         _ => simple(s, f, h.node, st),
     }
 }
 
-fn recorded(s: &mut [u64], h: Place, st: State) -> State
-    requires { ⌜ TermOf (now s) h st × (h .form ≡ Record) ⌝ }
-    ensures { λ r. ⌜ Emitted (placeS (now (s .entry)) h) (now (s .entry)) st (now (s .exit)) r ⌝ }
+fn recorded(s: &mut [u64], h: Head, env: &[u16; 32], st: State) -> State
+    requires { ⌜ TermOf (now s) (under (now env) h) st × (h .form ≡ Record) ⌝ }
+    ensures { λ r. ⌜ Emitted (placeS (now (s .entry)) (under (now (env .entry)) h)) (now (s .entry)) st (now (s .exit)) r ⌝ }
 {
     let p = st.place;
-    let r = fields(s, h, 0, below(st));
+    let r = fields(s, h, env, below(st));
     close(s, p, r.place, form_words::RECORD, 0);
     r
 }
 
-// The terms of a record from term k on.
-fn fields(s: &mut [u64], h: Place, k: usize, st: State) -> State
-    requires { ⌜ FieldsOf (now s) h k st × (h .form ≡ Record) × (k ≤ st .place) ⌝ }
-    ensures { λ r. ⌜ EmittedF (fieldsS (now (s .entry)) h k) (now (s .entry)) st (now (s .exit)) r ⌝ }
+// The terms of a record.
+fn fields(s: &mut [u64], h: Head, env: &[u16; 32], st: State) -> State
+    requires { ⌜ FieldsOf (now s) (under (now env) h) 0 st × (h .form ≡ Record) ⌝ }
+    ensures { λ r. ⌜ EmittedF (fieldsS (now (s .entry)) (under (now (env .entry)) h) 0) (now (s .entry)) st (now (s .exit)) r ⌝ }
 {
-    match front_nodes::child(s, h.node, k) {
-        Found::Nothing => st,
-        Found::At(c) => {
-            let e = h.env;
-            let q = emit(s, c, h.depth, e, st);
-            fields(s, h, k + 1, q)
+    let mut r = st;
+    let mut k = 0;
+    loop {
+        match front_nodes::child(s, h.node, k) {
+            Found::Nothing => {
+                return r;
+            }
+            Found::At(c) => {
+                r = emit(s, c, h.depth, env, r);
+                k += 1;
+            }
         }
     }
 }
 
-fn binary(s: &mut [u64], h: Place, o: Op, a: usize, b: usize, st: State) -> State
-    requires { ⌜ TermOf (now s) h st × (h .form ≡ Two o a b) ⌝ }
-    ensures { λ r. ⌜ Emitted (placeS (now (s .entry)) h) (now (s .entry)) st (now (s .exit)) r ⌝ }
+fn binary(s: &mut [u64], h: Head, o: Op, a: usize, b: usize, env: &[u16; 32], st: State) -> State
+    requires { ⌜ TermOf (now s) (under (now env) h) st × (h .form ≡ Two o a b) ⌝ }
+    ensures { λ r. ⌜ Emitted (placeS (now (s .entry)) (under (now (env .entry)) h)) (now (s .entry)) st (now (s .exit)) r ⌝ }
 {
     let p = st.place;
-    let e = h.env;
-    let q = emit(s, a, h.depth, e, below(st));
-    let r = emit(s, b, h.depth, e, q);
+    let q = emit(s, a, h.depth, env, below(st));
+    let r = emit(s, b, h.depth, env, q);
     close(s, p, r.place, form_words::BINARY, o.number());
     r
 }
 
-fn negated(s: &mut [u64], h: Place, c: usize, st: State) -> State
-    requires { ⌜ TermOf (now s) h st × (h .form ≡ Not c) ⌝ }
-    ensures { λ r. ⌜ Emitted (placeS (now (s .entry)) h) (now (s .entry)) st (now (s .exit)) r ⌝ }
+fn negated(s: &mut [u64], h: Head, c: usize, env: &[u16; 32], st: State) -> State
+    requires { ⌜ TermOf (now s) (under (now env) h) st × (h .form ≡ Not c) ⌝ }
+    ensures { λ r. ⌜ Emitted (placeS (now (s .entry)) (under (now (env .entry)) h)) (now (s .entry)) st (now (s .exit)) r ⌝ }
 {
     let p = st.place;
-    let e = h.env;
-    let r = emit(s, c, h.depth, e, below(st));
+    let r = emit(s, c, h.depth, env, below(st));
     close(s, p, r.place, form_words::NEGATION, 0);
     r
 }
 
-fn comprehension(s: &mut [u64], h: Place, m: Monoid, k: usize, st: State) -> State
-    requires { ⌜ TermOf (now s) h st × (h .form ≡ Comp m k) ⌝ }
-    ensures { λ r. ⌜ Emitted (placeS (now (s .entry)) h) (now (s .entry)) st (now (s .exit)) r ⌝ }
+fn comprehension(
+    s: &mut [u64],
+    h: Head,
+    m: Monoid,
+    k: usize,
+    env: &mut [u16; 32],
+    st: State,
+) -> State
+    requires { ⌜ TermOf (now s) (under (now env) h) st × (h .form ≡ Comp m k) ⌝ }
+    ensures { λ r. ⌜ Emitted (placeS (now (s .entry)) (under (now (env .entry)) h)) (now (s .entry)) st (now (s .exit)) r ⌝ }
 {
     let p = st.place;
-    let q = copied(s, h, m, false, below(st));
-    let r = emit(s, k, h.depth + 1, copy(h, m, false, st.next), q);
+    let q = copied(s, h, m, false, env, below(st));
+    let r = emit(s, k, h.depth + 1, env, q);
     close(s, p, r.place, form_words::COMPREHENSION, m.bits());
     r
 }
 
-// The qualifiers of a comprehension, in the copy that begins with the next number.
-fn copied(s: &mut [u64], h: Place, m: Monoid, v: bool, st: State) -> State
-    requires { ⌜ CopyOf (now s) h m v st × IsComp m (h .form) ⌝ }
-    ensures { λ r. ⌜ EmittedQ (nodesOf (now (s .entry))) (semS (now (s .entry))) (qualifiersOf (now (s .entry)) (h .node)) (suc (h .depth)) (copyEnv h m v (st .next)) (flagIn v m) (now (s .entry)) st (now (s .exit)) r ⌝ }
+// The qualifiers of a comprehension, in the copy that begins with the next number. The environment becomes that of the copy.
+fn copied(s: &mut [u64], h: Head, m: Monoid, v: bool, env: &mut [u16; 32], st: State) -> State
+    requires { ⌜ CopyOf (now s) (under (now env) h) m v st × IsComp m (h .form) ⌝ }
+    ensures { λ r. ⌜ EmittedQ (nodesOf (now (s .entry))) (semS (now (s .entry))) (qualifiersOf (now (s .entry)) (h .node)) (suc (h .depth)) (copyEnv (under (now (env .entry)) h) m v (st .next)) (flagIn v m) (now (s .entry)) st (now (s .exit)) r × Copies (under (now (env .entry)) h) m v (st .next) (now (env .exit)) ⌝ }
 {
     let i = h.node;
     let lo = front_words::start_at(s, i);
     let e = front_words::start_at(s, front_nodes::prior(i));
-    qualifiers(
-        s,
-        lo,
-        e,
-        h.depth + 1,
-        copy(h, m, v, st.next),
-        front_resolve::joined(v, m),
-        st,
-    )
+    copy(h, m, v, st.next, env);
+    qualifiers(s, lo, e, h.depth + 1, env, front_resolve::joined(v, m), st)
 }
 
 // The qualifiers between lo and e, by walking back.
@@ -294,12 +299,12 @@ fn qualifiers(
     lo: usize,
     e: usize,
     depth: usize,
-    env: [u64; 32],
+    env: &[u16; 32],
     v: bool,
     st: State,
 ) -> State
-    requires { ⌜ QualifiersAt (now s) lo e depth env v st ⌝ }
-    ensures { λ r. ⌜ EmittedQ (nodesOf (now (s .entry))) (semS (now (s .entry))) (chain (now (s .entry)) lo e) depth (envOf env) v (now (s .entry)) st (now (s .exit)) r ⌝ }
+    requires { ⌜ QualifiersAt (now s) lo e depth (now env) v st × (length (now env) ≡ levels) ⌝ }
+    ensures { λ r. ⌜ EmittedQ (nodesOf (now (s .entry))) (semS (now (s .entry))) (chain (now (s .entry)) lo e) depth (envOf (now (env .entry))) v (now (s .entry)) st (now (s .exit)) r ⌝ }
 {
     if e <= lo {
         return st;
@@ -311,80 +316,82 @@ fn qualifiers(
 }
 
 // One that writes nothing is not walked: there may be far more of them than words.
-fn qualifier(s: &mut [u64], x: usize, depth: usize, env: [u64; 32], v: bool, st: State) -> State
-    requires { ⌜ QualifierAt (now s) x depth env v st ⌝ }
-    ensures { λ r. ⌜ EmittedN (semS (now (s .entry))) (nodesOf (now (s .entry)) x) depth (envOf env) v (now (s .entry)) st (now (s .exit)) r ⌝ }
+fn qualifier(s: &mut [u64], x: usize, depth: usize, env: &[u16; 32], v: bool, st: State) -> State
+    requires { ⌜ QualifierAt (now s) x depth (now env) v st × (length (now env) ≡ levels) ⌝ }
+    ensures { λ r. ⌜ EmittedN (semS (now (s .entry))) (nodesOf (now (s .entry)) x) depth (envOf (now (env .entry))) v (now (s .entry)) st (now (s .exit)) r ⌝ }
 {
     let n = front_sizes::condition_count(s, x, v);
     if n.size == 0 {
         return st;
     }
     match front_nodes::look(s, x) {
-        Node::Gen(c) => source(s, c, depth, env, v, st),
-        Node::Cond(c) => condition(s, c, depth, env, v, st),
+        Node::Gen(c) => clause(s, c, depth, env, v, true, st),
+        Node::Cond(c) => clause(s, c, depth, env, v, false, st),
         _ => st,
     }
 }
 
-// Node i as a generator's term.
-fn source(s: &mut [u64], i: usize, depth: usize, env: [u64; 32], v: bool, st: State) -> State
-    requires { ⌜ SourceAt (now s) i depth env v st ⌝ }
-    ensures { λ r. ⌜ EmittedG (semS (now (s .entry)) i depth (envOf env)) v (now (s .entry)) st (now (s .exit)) r ⌝ }
+// Node i as a condition, or where it ranges as a generator's term. "a condition that is a "some" comprehension .. gives way
+// to its qualifiers and then its head as a condition". One function for both, so that the callers keep no environment.
+fn clause(
+    s: &mut [u64],
+    i: usize,
+    depth: usize,
+    env: &[u16; 32],
+    v: bool,
+    ranging: bool,
+    st: State,
+) -> State
+    requires { ⌜ ClauseAt ranging (now s) i depth (now env) v st × (length (now env) ≡ levels) ⌝ }
+    ensures { λ r. ⌜ EmittedAs ranging (semS (now (s .entry)) i depth (envOf (now (env .entry)))) v (now (s .entry)) st (now (s .exit)) r ⌝ }
 {
-    let h = front_resolve::resolve(s, i, depth, env);
+    let mut e = *env;
+    let mut j = i;
+    let mut d = depth;
+    let mut r = st;
+    loop {
+        let h = front_resolve::resolve(s, j, d, &mut e);
+        if ranging {
+            return source(s, h, v, &mut e, r);
+        }
+        let f = h.form;
+        match split_of(f, v) {
+            Split::And(a, b) => {
+                r = clause(s, a, h.depth, &e, v, false, r);
+                j = b;
+                d = h.depth;
+            }
+            Split::Some(k) => {
+                r = copied(s, h, Monoid::Some, true, &mut e, r);
+                j = k;
+                d = h.depth + 1;
+            }
+            Split::One => {
+                return single(s, h, &mut e, r);
+            }
+        }
+    }
+}
+
+// A place as a generator's term.
+fn source(s: &mut [u64], h: Head, v: bool, env: &mut [u16; 32], st: State) -> State
+    requires { ⌜ SourceOf (now s) (under (now env) h) v st ⌝ }
+    ensures { λ r. ⌜ EmittedG (placeS (now (s .entry)) (under (now (env .entry)) h)) v (now (s .entry)) st (now (s .exit)) r ⌝ }
+{
     let f = h.form;
     match f {
-        Form::Comp(m, k) => copied(s, h, m, v, st),
+        Form::Comp(m, k) => copied(s, h, m, v, env, st),
         Form::Table(k) => generator(s, k, st),
         _ => never(s, st),
     }
 }
 
-// Node i as a condition.
-fn condition(s: &mut [u64], i: usize, depth: usize, env: [u64; 32], v: bool, st: State) -> State
-    requires { ⌜ ConditionAt (now s) i depth env v st ⌝ }
-    ensures { λ r. ⌜ EmittedC (semS (now (s .entry)) i depth (envOf env)) v (now (s .entry)) st (now (s .exit)) r ⌝ }
-{
-    let h = front_resolve::resolve(s, i, depth, env);
-    let f = h.form;
-    match split_of(f, v) {
-        Split::And(a, b) => both(s, h, a, b, v, st),
-        Split::Some(k) => yielding(s, h, k, st),
-        Split::One => single(s, h, st),
-    }
-}
-
-fn both(s: &mut [u64], h: Place, a: usize, b: usize, v: bool, st: State) -> State
-    requires { ⌜ ConditionOf (now s) h v st × (h .form ≡ Two Op.And a b) ⌝ }
-    ensures { λ r. ⌜ EmittedC (placeS (now (s .entry)) h) v (now (s .entry)) st (now (s .exit)) r ⌝ }
-{
-    let e = h.env;
-    let q = condition(s, a, h.depth, e, v, st);
-    condition(s, b, h.depth, e, v, q)
-}
-
-// "a condition that is a "some" comprehension .. gives way to its qualifiers and then its head as a condition"
-fn yielding(s: &mut [u64], h: Place, k: usize, st: State) -> State
-    requires { ⌜ ConditionOf (now s) h true st × (h .form ≡ Comp Monoid.Some k) ⌝ }
-    ensures { λ r. ⌜ EmittedC (placeS (now (s .entry)) h) true (now (s .entry)) st (now (s .exit)) r ⌝ }
-{
-    let q = copied(s, h, Monoid::Some, true, st);
-    condition(
-        s,
-        k,
-        h.depth + 1,
-        copy(h, Monoid::Some, true, st.next),
-        true,
-        q,
-    )
-}
-
-fn single(s: &mut [u64], h: Place, st: State) -> State
-    requires { ⌜ WholeOf (now s) h st ⌝ }
-    ensures { λ r. ⌜ EmittedOne (placeS (now (s .entry)) h) (now (s .entry)) st (now (s .exit)) r ⌝ }
+fn single(s: &mut [u64], h: Head, env: &mut [u16; 32], st: State) -> State
+    requires { ⌜ WholeOf (now s) (under (now env) h) st ⌝ }
+    ensures { λ r. ⌜ EmittedOne (placeS (now (s .entry)) (under (now (env .entry)) h)) (now (s .entry)) st (now (s .exit)) r ⌝ }
 {
     let p = st.place;
-    let r = placed(s, h, below(st));
+    let r = placed(s, h, env, below(st));
     close(s, p, r.place, form_words::CONDITION, 0);
     r
 }
@@ -394,6 +401,7 @@ pub fn write_form(s: &mut [u64], i: usize) -> usize
     requires { ⌜ Writable (now s) i ⌝ }
     ensures { λ r. ⌜ WritesForm (now (s .entry)) i (now (s .exit)) r ⌝ }
 {
-    let r = emit(s, i, 0, [0; 32], State { place: 0, next: 0 });
+    let env: [u16; 32] = [0; 32];
+    let r = emit(s, i, 0, &env, State { place: 0, next: 0 });
     r.place
 }

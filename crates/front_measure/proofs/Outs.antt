@@ -21,7 +21,6 @@ use Rattle.front_words.specs.Tree.{startAt}
 use Rattle.front_sizes.specs.declared.Count.{Count}
 use Rattle.front_sizes.specs.Packing.{Small, termCount, conditionCount, splicedCount}
 use Rattle.base_syntax.specs.declared.Op.{Op}
-use Rattle.base_syntax.specs.Numbers.{binOf}
 use Rattle.front_nodes.specs.declared.Node.{Node}
 use Rattle.front_nodes.specs.declared.Node.the-variants.{Number, Truth, Name, Field, Record, Two, Not, Comp, Table, Gen, Bind, Cond, Bad}
 use Rattle.front_nodes.specs.Decode.{depthAt, childrenOf, qualifiersOf, nodesOf}
@@ -40,6 +39,7 @@ use Rattle.front_measure.specs.Kept.{Writes, Adds, Kept}
 use Rattle.front_measure.specs.Parts.{ways, way, Right, SmallWays, SmallWeight, noWays, bothWays, conditionWays, spliceWays, scalarWeight, joins, twoTerm, twoWeight, tableWeight, rowWays, compTerm, compWeight, compAt, qualifierWeight, keptWeight, formWeight, Comes, Weighs}
 use Rattle.front_measure.proofs.Any.{total-append}
 use Rattle.front_measure.proofs.Weights.{writes-node, writes-row, writes-cell, writes-nothing, writes-number, writes-truth, writes-bad, writes-negate, writes-two, writes-record, writes-comp, writes-deep, writes-table, generator-writes, condition-writes, binding-writes}
+use Rattle.base_syntax.specs.Numbers.{binOf}
 
 -- ---- flags
 by-flag : (P : Bool → Type 0) → P true → P false → (v : Bool) → P v

@@ -26,8 +26,7 @@ use Rattle.front_nodes.specs.declared.Found.the-variants.{At, Nothing}
 use Rattle.front_nodes.specs.Decode.{depthAt, siblings, childrenOf, nodesOf}
 use Rattle.front_nodes.specs.Look.{nodeNamed, Looks, nth, Picks}
 use Rattle.front_resolve.specs.declared.Form.{Form}
-use Rattle.front_resolve.specs.declared.Place.{Place}
-use Rattle.front_resolve.specs.Place.{Heads}
+use Rattle.front_resolve.specs.Place.{Place, Heads}
 use Rattle.front_measure.specs.declared.Ways.{Ways}
 use Rattle.front_measure.specs.declared.Weight.{Weight}
 use Rattle.front_measure.specs.Measure.{beside, above, none, leaf, total}

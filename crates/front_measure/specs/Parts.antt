@@ -15,8 +15,7 @@ use Rattle.front_sizes.specs.Packing.{place, pack, Small, termCount, conditionC
 use Rattle.front_nodes.specs.Decode.{depthAt}
 use Rattle.front_resolve.specs.declared.Form.{Form}
 use Rattle.front_resolve.specs.declared.Form.the-variants.{Number, Truth, Row, Cell, Record, Two, Not, Comp, Table, Bad}
-use Rattle.front_resolve.specs.declared.Place.{Place}
-use Rattle.front_resolve.specs.Place.{Heads}
+use Rattle.front_resolve.specs.Place.{Place, Heads}
 use Rattle.front_measure.specs.declared.Ways.{Ways}
 use Rattle.front_measure.specs.declared.Weight.{Weight}
 use Rattle.front_measure.specs.Measure.{count, beside, above, none, leaf, never}

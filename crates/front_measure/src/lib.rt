@@ -4,7 +4,6 @@ ghost use mathlib.Core.Bool.{true};
 ghost use Prim.Native.Nat.{_+_, _-_, min};
 ghost use Rattle.spec_calculus.specs.Lists.{pick};
 ghost use Rattle.base_syntax.specs.Word.{monoidOf};
-ghost use Rattle.base_syntax.specs.Numbers.{binOf};
 ghost use Rattle.front_theory.specs.Saturated.{limit};
 ghost use Rattle.spec_normal_form.specs.Normal.{idempotent, givesWay};
 ghost use Rattle.front_words.specs.Tree.{startAt};
@@ -14,6 +13,7 @@ ghost use Rattle.front_measure.specs.Measure.{beside, above, none, total
 ghost use Rattle.front_measure.specs.Arranged.{qualifies};
 ghost use Rattle.front_measure.specs.Kept.{Measures};
 ghost use Rattle.front_measure.specs.Parts.{joins, bothWays, conditionWays, spliceWays, noWays, termWeight, scalarWeight, twoWeight, tableWeight, rowWays, qualifierWeight, keptWeight, formWeight, compAt, way, Comes, Weighs, SmallWeight, storing};
+ghost use Rattle.base_syntax.specs.Numbers.{binOf};
 use base_syntax::Monoid;
 use base_syntax::Op;
 use front_nodes::Found;
@@ -337,7 +337,8 @@ fn form(s: &[u64], j: usize, f: Form) -> Weight
 fn followed(s: &[u64], i: usize) -> Weight
     ensures { λ r. ⌜ Comes (now (s .entry)) i r ⌝ }
 {
-    let r = front_resolve::resolve(s, i, front_nodes::depth_at(s, i), [0; 32]);
+    let mut env: [u16; 32] = [0; 32];
+    let r = front_resolve::resolve(s, i, front_nodes::depth_at(s, i), &mut env);
     let f = r.form;
     form(s, r.node, f)
 }

@@ -1,6 +1,6 @@
--- How often `resolve` is called. The calls that begin with node i and end at a place of node j: such a call ends at once, or
--- after a call for a node c before it; and a name over a comprehension, or a field of a record, then goes on from a node k
--- before the place that was found. Each call takes at least one node, so there are at most i + 1.
+-- How many steps `resolve` takes. The steps that begin with node i and end at a place of node j: the walk ends at once, or
+-- goes on from a node c before it; and a name over a comprehension, or a field of a record, walks from c first and then goes
+-- on from a node k before the place that was found. Each step takes at least one node, so there are at most i + 1.
 use Prim.Native.Nat.{ℕ, suc, _+_, _<_, _≤_}
 use native.Mathlib.Omega.{arith}
 

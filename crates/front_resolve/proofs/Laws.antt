@@ -1,4 +1,4 @@
--- One law for each way out of resolve, follow, splice and project.
+-- One law for each way out of resolve, step, follow, splice and project.
 use mathlib.Core.Path.{_≡_, refl, sym, ap, ap₂, subst, fun-ext, _∙_}
 use mathlib.Core.Bool.{Bool, true, false, _||_}
 use mathlib.Core.List.{List, [], _∷_}
@@ -6,7 +6,7 @@ use Prim.Native.Nat.{ℕ, zero, suc, _+_, _*_, _/_, _%_, _^_, _<_, _≤_}
 use native.Mathlib.Omega.{arith}
 use types.Run.{OneOf, miss}
 use denote.Enum.Declared.{tagOf}
-use lib.ListN.{length, getD, set, List·getD-eq-default}
+use lib.ListN.{length, getD, set, length-set, List·getD-eq-default}
 use lib.Seq.{getD-set-same, getD-set-other}
 use lib.Dec.{eqb, ltb}
 use borrow.Author.Tests.{ltb-true, lt-ltb, le-ltb, eqb-true, eqb-false}
@@ -21,7 +21,6 @@ use Rattle.front_theory.specs.Saturated.{limit}
 use Rattle.front_theory.proofs.Local.{sem-is}
 use Rattle.base_syntax.specs.Word.{monoidOf}
 use Rattle.base_syntax.specs.declared.Monoid.{Monoid}
-use Rattle.base_syntax.specs.Numbers.{binOf}
 use Rattle.front_nodes.specs.Decode.{depthAt, childrenOf, qualifiersOf, nodesOf}
 use Rattle.front_nodes.specs.Look.{nodeNamed, Looks, nth, Picks, Unbinding, BoundBy}
 use Rattle.front_nodes.specs.Levels.{AllAt, Level, Levelled}
@@ -37,8 +36,11 @@ use Rattle.front_nodes.proofs.Node as node
 use Rattle.front_resolve.proofs.Form as form
 use Rattle.front_resolve.specs.declared.Form.{Form}
 use Rattle.front_resolve.specs.declared.Form.the-variants.{Number, Truth, Row, Cell, Record, Two, Not, Comp, Table, Bad}
-use Rattle.front_resolve.specs.declared.Place.{Place}
-use Rattle.front_resolve.specs.Place.{odd, bit, envOf, offsets, semN, formSem, FormAt, Fine, From, Heads, Follows, Spliced, Projected, formFor}
+use Rattle.front_resolve.specs.declared.Head.{Head}
+use Rattle.front_resolve.specs.declared.Next.{Next}
+use Rattle.front_resolve.specs.declared.Next.the-variants as Ne
+use Rattle.front_resolve.specs.Place.{Place, under, odd, bit, envOf, offsets, semN, formSem, FormAt, Fine, From, Heads, Follows, Spliced, Projected, Steps, Stepped, ProjectedBy, formFor}
+use Rattle.base_syntax.specs.Numbers.{binOf}
 
 abbrev pub place : Form → ℕ → ℕ → List ℕ → Place
 place f i d l = record { form = f; node = i; depth = d; env = l }
@@ -96,8 +98,8 @@ module _ (s : List ℕ) (i D : ℕ) where
   settle-form Nd.Bad H = tt
 
 -- a place at the node itself
-stays : {s : List ℕ} {i D : ℕ} (f : Form) (l : List ℕ) → FormAt s i D f → From s i D (place f i D l)
-stays f l p = record { below = omega arith; level = λ n L q e. e; fine = record { form = p } }
+stays : {s : List ℕ} {i D : ℕ} (f : Form) (l : List ℕ) → length l ≡ levels → FormAt s i D f → From s i D (place f i D l)
+stays f l z p = record { below = omega arith; level = λ n L q e. e; fine = record { form = p; long = z } }
 
 -- ---- resolve
 pick-yes : (d D : ℕ) (u : Sem) → d < D → pick (ltb d D) u nothing ≡ u
@@ -112,20 +114,20 @@ name-is : (K : ℕ → Collection) (s : List ℕ) (i D : ℕ) (e : Env) (x d : �
 name-is K s i D e x d p k = sym (sem-at K s i D e (No.nname x d) p ∙ pick-yes d D (boundOf (offsets s) (semN K s) x d e (nodesOf s x)) k)
 
 module _ {s : List ℕ} {i D : ℕ} {l : List ℕ} where
-  pub h-settled : {n : Node} {f : Form} → Looks s i n → OneOf settled (tagOf node.the-type n) → f ≡ formFor D n → Heads s i D l (place f i D l)
-  h-settled {n} {f} H h e =
+  pub h-settled : {n : Node} {f : Form} → length l ≡ levels → Looks s i n → OneOf settled (tagOf node.the-type n) → f ≡ formFor D n → Heads s i D l (place f i D l)
+  h-settled {n} {f} z H h e =
       subst (λ x. Heads s i D l (place x i D l)) (sym e)
       record {
         is = λ K. settle-sem s i D K (envOf l) n h ∙ sym (sem-at K s i D (envOf l) (nodeNamed s i n) (H .is));
-        from = stays (formFor D n) l (settle-form s i D n H);
+        from = stays (formFor D n) l z (settle-form s i D n H);
       }
 
   module _ {x d : ℕ} (H : Looks s i (Nd.Name x d)) where
-    pub h-out : D ≤ d → Heads s i D l (place Bad i D l)
-    h-out k =
+    pub h-out : length l ≡ levels → D ≤ d → Heads s i D l (place Bad i D l)
+    h-out z k =
         record {
           is = λ K. sym (sem-at K s i D (envOf l) (No.nname x d) (H .is) ∙ pick-no d D (boundOf (offsets s) (semN K s) x d (envOf l) (nodesOf s x)) k);
-          from = stays Bad l tt;
+          from = stays Bad l z tt;
         }
 
     pub h-name : {r : Place} → d < D → Follows s x d l r → Heads s i D l r
@@ -179,11 +181,11 @@ child-level : (s : List ℕ) (x d n c : ℕ) (y : No.Node) → Levelled (nodesOf
 child-level s x d n c y L p q f e = f (level-at s n x y L p q) ∙ e ∙ sym (one-more d)
 
 module _ {s : List ℕ} {x d : ℕ} {l : List ℕ} where
-  pub f-other : BoundBy s x Bi.Other → Follows s x d l (place Bad x (d + 1) l)
-  f-other B =
+  pub f-other : length l ≡ levels → BoundBy s x Bi.Other → Follows s x d l (place Bad x (d + 1) l)
+  f-other z B =
       record {
         is = λ K. unbinding (offsets s) (semN K s) x d (envOf l) (nodesOf s x) (B .is);
-        from = record { below = omega arith; level = λ n L p e. e ∙ sym (one-more d); fine = record { form = tt } };
+        from = record { below = omega arith; level = λ n L p e. e ∙ sym (one-more d); fine = record { form = tt; long = z } };
       }
 
   pub f-bind : {c : ℕ} {r : Place} → BoundBy s x (Bi.Bind c) → Heads s c (d + 1) l r → Follows s x d l r
@@ -243,6 +245,30 @@ env-set l D n v k = fun-ext λ d. go d (eqb D d) refl
         rw (p, upd)
         (ap (λ j. entry (getD (set l D (2 * n + bit v)) j 0)) (sym (eqb-true D d p)) ∙ ap entry (getD-set-same l D (2 * n + bit v) 0 k) ∙ ap₂ pairOf (half n v) (odd-bit n v))
     go d false p = rw (p, upd) (ap entry (getD-set-other l D d (2 * n + bit v) 0 (λ e. eqb-false D d p (sym e))))
+
+-- ---- steps
+pub stepped-by : {s : List ℕ} {i j : ℕ} {l : List ℕ} {P Q : Place → Type 0} {r : Next} → j ≤ i → ((q : Place) → P q → Q q) → Stepped s j l P r → Stepped s i l Q r
+stepped-by {s} {i} {j} {l} {P} {Q} {r} h f S = record { is = go r (S .is); long = S .long }
+  where
+    go : (x : Next) → Steps s j l P x → Steps s i l Q x
+    go (Ne.On k D) a = (omega (arith, h, a .0), λ q H. f q (a .1 q H))
+    go (Ne.At k) a = f (under l k) a
+
+pub step-cast : {s : List ℕ} {j : ℕ} {l : List ℕ} {P : Place → Type 0} {r r′ : Next} → Stepped s j l P r → r ≡ r′ → Stepped s j l P r′
+step-cast {s} {j} {l} {P} S e = subst (Stepped s j l P) e S
+
+-- node i comes to what node j at depth d in the environment e comes to
+pub record Leads (s : List ℕ) (i D : ℕ) (l : List ℕ) (j d : ℕ) (e : List ℕ) : Type 0 where
+  pub below : j ≤ i
+  pub long : length e ≡ levels
+  pub on : (r : Place) → Heads s j d e r → Heads s i D l r
+
+module _ {s : List ℕ} {i D : ℕ} {l : List ℕ} {j d : ℕ} {e : List ℕ} (L : Leads s i D l j d e) {m : List ℕ} where
+  pub leads-on : {k b : ℕ} → Stepped s j m (Heads s j d e) (Ne.On k b) → Leads s i D l k b m
+  leads-on S = record { below = omega (arith, L .below, S .is .0); long = S .long; on = λ r R. L .on r (S .is .1 r R) }
+
+  pub leads-to : {h : Head} → Stepped s j m (Heads s j d e) (Ne.At h) → Heads s i D l (under m h)
+  leads-to {h} S = L .on (under m h) (S .is)
 
 -- ---- splice
 -- every form but a comprehension and a table; every form but a row and a record
@@ -311,22 +337,22 @@ pub comp-inside : {s : List ℕ} {h : Place} {m : Monoid} {k : ℕ} → Fine s h
 comp-inside {s} {h} F e = let w = fine-at F e in (subst (Inside (h .node)) (w .0) (post-order s (h .node)) .1, w .1)
 
 module _ {s : List ℕ} {h : Place} {v : Bool} {n : ℕ} where
-  pub s-junk : OneOf unranged (tagOf form.the-type (h .form)) → Spliced s h v n (place Bad (h .node) (h .depth) (h .env))
-  s-junk w = record { is = λ K. no-range K s (h .node) (h .depth) (envOf (h .env)) (h .form) w v n; from = stays Bad (h .env) tt }
+  pub s-junk : Fine s h → OneOf unranged (tagOf form.the-type (h .form)) → Spliced s h v n (place Bad (h .node) (h .depth) (h .env))
+  s-junk F w = record { is = λ K. no-range K s (h .node) (h .depth) (envOf (h .env)) (h .form) w v n; from = stays Bad (h .env) (F .long) tt }
 
-  pub s-table : {k : ℕ} → h .form ≡ Table k → n ≤ limit → Spliced s h v n (place (Row n) (h .node) (h .depth) (h .env))
+  pub s-table : {k : ℕ} → h .form ≡ Table k → Fine s h → n ≤ limit → Spliced s h v n (place (Row n) (h .node) (h .depth) (h .env))
   unfolding ranges
-  s-table e q = record { is = λ K. ap (λ x. ranges (at K s h x) v n .head) (sym e); from = stays (Row n) (h .env) q }
+  s-table e F q = record { is = λ K. ap (λ x. ranges (at K s h x) v n .head) (sym e); from = stays (Row n) (h .env) (F .long) q }
 
-  pub s-comp : {m : Monoid} {k : ℕ} {b : Bool} {l : List ℕ} {r : Place} → h .form ≡ Comp m k → Fine s h → length (h .env) ≡ 32 → b ≡ v || idempotent (monoidOf m) → l ≡ set (h .env) (h .depth) (2 * n + bit b)
+  pub s-comp : {m : Monoid} {k : ℕ} {b : Bool} {l : List ℕ} {r : Place} → h .form ≡ Comp m k → Fine s h → b ≡ v || idempotent (monoidOf m) → l ≡ set (h .env) (h .depth) (2 * n + bit b)
       → Heads s k (h .depth + 1) l r → Spliced s h v n r
   unfolding ranges
-  s-comp {m} {k} {b} {l} e F z u p R =
+  s-comp {m} {k} {b} {l} e F u p R =
       let w = comp-inside F e in
       let y = fine-at F e .0 in
       record {
         is = λ K. R .is K ∙ ap (λ j. semN K s k j (envOf l)) (one-more (h .depth)) ∙ ap (λ a. semN K s k (suc (h .depth)) (envOf a)) p
-            ∙ ap (semN K s k (suc (h .depth))) (env-set (h .env) (h .depth) n b (omega (arith, z, w .1)) ∙ ap (λ c. enter (h .depth) n c (envOf (h .env))) u)
+            ∙ ap (semN K s k (suc (h .depth))) (env-set (h .env) (h .depth) n b (omega (arith, F .long, w .1)) ∙ ap (λ c. enter (h .depth) n c (envOf (h .env))) u)
             ∙ ap (λ x. ranges (at K s h x) v n .head) (sym e);
         from =
             record {
@@ -335,6 +361,10 @@ module _ {s : List ℕ} {h : Place} {v : Bool} {n : ℕ} where
               fine = R .from .fine;
             };
       }
+
+-- the environment keeps its length
+pub entered : {s : List ℕ} {h : Place} (d n : ℕ) {l : List ℕ} → Fine s h → l ≡ set (h .env) d n → length l ≡ levels
+entered {h = h} d n F e = ap (λ (l : List ℕ). length l) e ∙ length-set (h .env) d n ∙ F .long
 
 -- ---- project
 found-sem : At → ℕ → Env → Found → Sem
@@ -358,19 +388,19 @@ nth-depth dep D zero (c ∷ cs) a = a .0
 nth-depth dep D (suc k) (c ∷ cs) a = nth-depth dep D k cs (a .1)
 
 module _ {s : List ℕ} {k : ℕ} {h : Place} where
-  pub p-junk : OneOf fieldless (tagOf form.the-type (h .form)) → Projected s k h (place Bad (h .node) (h .depth) (h .env))
-  p-junk w = record { is = λ K. no-field K s (h .node) (h .depth) (envOf (h .env)) (h .form) w k; from = stays Bad (h .env) tt }
+  pub p-junk : Fine s h → OneOf fieldless (tagOf form.the-type (h .form)) → Projected s k h (place Bad (h .node) (h .depth) (h .env))
+  p-junk F w = record { is = λ K. no-field K s (h .node) (h .depth) (envOf (h .env)) (h .form) w k; from = stays Bad (h .env) (F .long) tt }
 
   pub p-row : {g : ℕ} → h .form ≡ Row g → Fine s h → k < 2 ^ 33 → Projected s k h (place (Cell k g) (h .node) (h .depth) (h .env))
   unfolding part
-  p-row {g} e F q = record { is = λ K. ap (λ x. part k (at K s h x)) (sym e); from = stays (Cell k g) (h .env) (q, fine-at F e) }
+  p-row {g} e F q = record { is = λ K. ap (λ x. part k (at K s h x)) (sym e); from = stays (Cell k g) (h .env) (F .long) (q, fine-at F e) }
 
-  pub p-none : h .form ≡ Record → Picks s (h .node) k Fd.Nothing → Projected s k h (place Bad (h .node) (h .depth) (h .env))
+  pub p-none : h .form ≡ Record → Fine s h → Picks s (h .node) k Fd.Nothing → Projected s k h (place Bad (h .node) (h .depth) (h .env))
   unfolding part found-sem
-  p-none e P =
+  p-none e F P =
       record {
         is = λ K. ap (found-sem (semN K s) (h .depth) (envOf (h .env))) (P .is) ∙ sym (nth-sem (semN K s) (h .depth) (envOf (h .env)) k (childrenOf s (h .node))) ∙ ap (λ x. part k (at K s h x)) (sym e);
-        from = stays Bad (h .env) tt;
+        from = stays Bad (h .env) (F .long) tt;
       }
 
   pub p-part : {c : ℕ} {r : Place} → h .form ≡ Record → Fine s h → Picks s (h .node) k (Fd.At c) → Heads s c (h .depth) (h .env) r → Projected s k h r
@@ -396,7 +426,7 @@ pub bound-cast : {s : List ℕ} {x : ℕ} {r r′ : Binder} → BoundBy s x r �
 bound-cast {s} {x} B e = subst (BoundBy s x) e B
 
 -- ---- the small ones
-pub no-entry : (l : List ℕ) (d : ℕ) → length l ≡ 32 → 32 ≤ d → 0 ≡ getD l d 0
+pub no-entry : (l : List ℕ) (d : ℕ) → length l ≡ levels → 32 ≤ d → 0 ≡ getD l d 0
 no-entry l d z h = sym (List·getD-eq-default l 0 (omega (arith, z, h)))
 
 module _ (l : List ℕ) (d n : ℕ) {v : Bool} where

@@ -5,7 +5,7 @@ use mathlib.Core.Bool.{Bool, true, false}
 use mathlib.Core.List.{List}
 use Prim.Native.Nat.{ℕ, suc, _/_, _%_, _^_, _<_, _≤_}
 use lib.Dec.{eqb, ltb}
-use lib.ListN.{getD}
+use lib.ListN.{length, getD}
 use lib.Signed.{mag}
 use Rattle.spec_calculus.specs.Lists.{pick}
 use Rattle.spec_calculus.specs.Syntax.{Collection, of}
@@ -15,7 +15,6 @@ use Rattle.front_theory.specs.Node.{nnum, ntruth, nrec, nbin, nnegate, ncomp, n
 use Rattle.front_theory.specs.Flat.{Env, Offsets, boundOf, semsOf, compOf, levels, sem}
 use Rattle.front_theory.specs.Saturated.{limit, saturated}
 use Rattle.base_syntax.specs.Word.{monoidOf}
-use Rattle.base_syntax.specs.Numbers.{binOf}
 use Rattle.front_sizes.specs.Packing.{stored}
 use Rattle.front_nodes.specs.Decode.{depthAt, childrenOf, qualifiersOf, nodesOf}
 use Rattle.front_nodes.specs.Levels.{Levelled}
@@ -23,7 +22,20 @@ use Rattle.front_nodes.specs.declared.Node.{Node}
 use Rattle.front_nodes.specs.declared.Node.the-variants as No
 use Rattle.front_resolve.specs.declared.Form.{Form}
 use Rattle.front_resolve.specs.declared.Form.the-variants.{Number, Truth, Row, Cell, Record, Two, Not, Comp, Table, Bad}
-use Rattle.front_resolve.specs.declared.Place.{Place}
+use Rattle.front_resolve.specs.declared.Head.{Head}
+use Rattle.front_resolve.specs.declared.Next.{Next}
+use Rattle.front_resolve.specs.declared.Next.the-variants.{On, At}
+use Rattle.base_syntax.specs.Numbers.{binOf}
+
+pub record Place : Type 0 where
+  pub form : Form
+  pub node : ℕ
+  pub depth : ℕ
+  pub env : List ℕ
+
+-- a head in an environment
+abbrev pub under : List ℕ → Head → Place
+under l h = record { form = h .form; node = h .node; depth = h .depth; env = l }
 
 abbrev pub odd : ℕ → Bool
 odd w = eqb (w % 2) 1
@@ -75,6 +87,7 @@ FormAt s i D Bad = Unit {0}
 
 pub record Fine (s : List ℕ) (r : Place) : Type 0 where
   pub form : FormAt s (r .node) (r .depth) (r .form)
+  pub long : length (r .env) ≡ levels
 
 -- A place that came of node j: it stands there or before, and at its node's depth where the depths of the table agree.
 pub record From (s : List ℕ) (j D : ℕ) (r : Place) : Type 0 where
@@ -101,6 +114,19 @@ pub record Spliced (s : List ℕ) (h : Place) (v : Bool) (n : ℕ) (r : Place) :
 pub record Projected (s : List ℕ) (k : ℕ) (h : Place) (r : Place) : Type 0 where
   pub is : (K : ℕ → Collection) → placeSem K s r ≡ part k (placeSem K s h)
   pub from : From s (h .node) (h .depth) r
+
+-- A step to a place of which P holds, behind which the environment is l: the place, or a node before j that comes to it.
+abbrev pub Steps : List ℕ → ℕ → List ℕ → (Place → Type 0) → Next → Type 0
+Steps s j l P (On k D) = (k < j) × ((r : Place) → Heads s k D l r → P r)
+Steps s j l P (At h) = P (under l h)
+
+pub record Stepped (s : List ℕ) (j : ℕ) (l : List ℕ) (P : Place → Type 0) (r : Next) : Type 0 where
+  pub is : Steps s j l P r
+  pub long : length l ≡ levels
+
+-- a step to field k of h, which does not look at the environment
+pub record ProjectedBy (s : List ℕ) (k : ℕ) (h : Head) (r : Next) : Type 0 where
+  pub is : (l : List ℕ) → length l ≡ levels → Stepped s (h .node) l (Projected s k (under l h)) r
 
 -- a node's form, where it is neither a name nor a field
 abbrev pub formFor : ℕ → Node → Form

@@ -1,13 +1,13 @@
-// The head of a node: names and fields are followed, in an environment by value.
+// The head of a node: names and fields are followed, in an environment that is lent.
 ghost use mathlib.Core.Path.{_≡_};
 ghost use mathlib.Core.Bool.{_||_};
 ghost use Prim.Native.Nat.{_+_, _*_, _/_, _^_, _≤_, _<_};
-ghost use lib.ListN.{getD, set};
+ghost use lib.ListN.{length, getD, set};
 ghost use Rattle.spec_normal_form.specs.Normal.{idempotent};
 ghost use Rattle.front_theory.specs.Flat.{levels};
 ghost use Rattle.front_theory.specs.Saturated.{limit};
 ghost use Rattle.base_syntax.specs.Word.{monoidOf};
-ghost use Rattle.front_resolve.specs.Place.{odd, bit, offsets, Fine, Heads, Follows, Spliced, Projected, formFor};
+ghost use Rattle.front_resolve.specs.Place.{under, odd, bit, offsets, Fine, FormAt, Heads, Follows, Spliced, Stepped, ProjectedBy, formFor};
 use base_syntax::Monoid;
 use base_syntax::Op;
 use front_nodes::Binder;
@@ -28,33 +28,44 @@ pub enum Form {
     Bad,
 }
 
-// A form at a node, and for each comprehension around it twice the first number of the copy in which we stand, plus 1
-// where "some" gives way in it.
-pub struct Place {
+// A form at a node, with so many comprehensions around it. The environment that goes with it has for each of these twice
+// the first number of the copy in which we stand, plus 1 where "some" gives way in it. It is lent, and of 16 bits an entry,
+// so that a level of a walk takes little stack.
+pub struct Head {
     pub form: Form,
     pub node: usize,
     pub depth: usize,
-    pub env: [u64; 32],
 }
 
-pub fn entry(env: [u64; 32], d: usize) -> u64
-    ensures { λ r. ⌜ r ≡ getD env d 0 ⌝ }
+// A step of the walk: on to a node at a depth, or the head.
+pub enum Next {
+    On(usize, usize),
+    At(Head),
+}
+
+fn wide(x: u16) -> u64
+    ensures { λ r. ⌜ r ≡ x ⌝ }
 {
-    if d < 32 { env[d] } else { 0 }
+    x as u64
+}
+
+pub fn entry(env: &[u16; 32], d: usize) -> u64
+    requires { ⌜ length (now env) ≡ levels ⌝ }
+    ensures { λ r. ⌜ r ≡ getD (now (env .entry)) d 0 ⌝ }
+{
+    if d < 32 { wide(env[d]) } else { 0 }
 }
 
 // The copy whose first number is n.
-pub fn enter(env: [u64; 32], d: usize, n: u64, v: bool) -> [u64; 32]
+pub fn enter(env: &mut [u16; 32], d: usize, n: u64, v: bool)
     requires { ⌜ (d < levels) × (n ≤ limit) ⌝ }
-    ensures { λ r. ⌜ r ≡ set env d (2 * n + bit v) ⌝ }
+    ensures { λ _. ⌜ now (env .exit) ≡ set (now (env .entry)) d (2 * n + bit v) ⌝ }
 {
-    let mut a = env;
     if v {
-        a[d] = 2 * n + 1;
-        return a;
+        env[d] = (2 * n + 1) as u16;
+        return;
     }
-    a[d] = 2 * n;
-    a
+    env[d] = (2 * n) as u16;
 }
 
 // Whether "some" gives way in a copy of a comprehension of m that is spliced where v says so.
@@ -109,19 +120,40 @@ fn form_of(n: Node, depth: usize) -> Form
     }
 }
 
-pub fn resolve(s: &[u64], i: usize, depth: usize, env: [u64; 32]) -> Place
-    ensures { λ r. ⌜ Heads (now (s .entry)) i depth env r ⌝ }
+// What node i comes to. The environment becomes that of its head.
+pub fn resolve(s: &[u64], i: usize, depth: usize, env: &mut [u16; 32]) -> Head
+    requires { ⌜ length (now env) ≡ levels ⌝ }
+    ensures { λ r. ⌜ Heads (now (s .entry)) i depth (now (env .entry)) (under (now (env .exit)) r) ⌝ }
+{
+    let mut j = i;
+    let mut d = depth;
+    loop {
+        match step(s, j, d, env) {
+            Next::On(k, e) => {
+                j = k;
+                d = e;
+            }
+            Next::At(h) => {
+                return h;
+            }
+        }
+    }
+}
+
+// One step from node i: the walk calls itself only for what a field or a generator is of.
+fn step(s: &[u64], i: usize, depth: usize, env: &mut [u16; 32]) -> Next
+    requires { ⌜ length (now env) ≡ levels ⌝ }
+    ensures { λ r. ⌜ Stepped (now (s .entry)) i (now (env .exit)) (Heads (now (s .entry)) i depth (now (env .entry))) r ⌝ }
 {
     let n = front_nodes::look(s, i);
     match n {
         Node::Name(x, d) => {
             if depth <= d {
-                return Place {
+                return Next::At(Head {
                     form: Form::Bad,
                     node: i,
                     depth: depth,
-                    env: env,
-                };
+                });
             }
             follow(s, x, d, env)
         }
@@ -129,88 +161,82 @@ pub fn resolve(s: &[u64], i: usize, depth: usize, env: [u64; 32]) -> Place
             let h = resolve(s, c, depth, env);
             project(s, k, h)
         }
-        _ => Place {
+        _ => Next::At(Head {
             form: form_of(n, depth),
             node: i,
             depth: depth,
-            env: env,
-        },
+        }),
     }
 }
 
 // The name that node x binds, in a comprehension at depth d.
-fn follow(s: &[u64], x: usize, d: usize, env: [u64; 32]) -> Place
-    requires { ⌜ d < 2 ^ 63 ⌝ }
-    ensures { λ r. ⌜ Follows (now (s .entry)) x d env r ⌝ }
+fn follow(s: &[u64], x: usize, d: usize, env: &mut [u16; 32]) -> Next
+    requires { ⌜ (d < 2 ^ 63) × (length (now env) ≡ levels) ⌝ }
+    ensures { λ r. ⌜ Stepped (now (s .entry)) x (now (env .exit)) (Follows (now (s .entry)) x d (now (env .entry))) r ⌝ }
 {
     match front_nodes::bound_by(s, x) {
-        Binder::Bind(c) => resolve(s, c, d + 1, env),
+        Binder::Bind(c) => Next::On(c, d + 1),
         Binder::Gen(c) => {
-            let h = resolve(s, c, d + 1, env);
             let w = entry(env, d);
-            splice(s, h, w % 2 == 1, first_number(s, x, w))
+            let h = resolve(s, c, d + 1, env);
+            splice(s, h, w % 2 == 1, first_number(s, x, w), env)
         }
-        Binder::Other => Place {
+        Binder::Other => Next::At(Head {
             form: Form::Bad,
             node: x,
             depth: d + 1,
-            env: env,
-        },
+        }),
     }
 }
 
 // What a generator over h ranges through, from number n on.
-pub fn splice(s: &[u64], h: Place, v: bool, n: u64) -> Place
-    requires { ⌜ Fine (now s) h × (n ≤ limit) ⌝ }
-    ensures { λ r. ⌜ Spliced (now (s .entry)) h v n r ⌝ }
+fn splice(s: &[u64], h: Head, v: bool, n: u64, env: &mut [u16; 32]) -> Next
+    requires { ⌜ Fine (now s) (under (now env) h) × (n ≤ limit) ⌝ }
+    ensures { λ r. ⌜ Stepped (now (s .entry)) (h .node) (now (env .exit)) (Spliced (now (s .entry)) (under (now (env .entry)) h) v n) r ⌝ }
 {
     let f = h.form;
-    let e = h.env;
     match f {
-        Form::Comp(m, k) => resolve(s, k, h.depth + 1, enter(e, h.depth, n, joined(v, m))),
-        Form::Table(k) => Place {
+        Form::Comp(m, k) => {
+            enter(env, h.depth, n, joined(v, m));
+            Next::On(k, h.depth + 1)
+        }
+        Form::Table(k) => Next::At(Head {
             form: Form::Row(n),
             node: h.node,
             depth: h.depth,
-            env: e,
-        },
-        _ => Place {
+        }),
+        _ => Next::At(Head {
             form: Form::Bad,
             node: h.node,
             depth: h.depth,
-            env: e,
-        },
+        }),
     }
 }
 
-// Field k of h.
-pub fn project(s: &[u64], k: usize, h: Place) -> Place
-    requires { ⌜ Fine (now s) h × (k < 2 ^ 33) ⌝ }
-    ensures { λ r. ⌜ Projected (now (s .entry)) k h r ⌝ }
+// Field k of h, in whatever environment h stands.
+fn project(s: &[u64], k: usize, h: Head) -> Next
+    requires { ⌜ FormAt (now s) (h .node) (h .depth) (h .form) × (k < 2 ^ 33) ⌝ }
+    ensures { λ r. ⌜ ProjectedBy (now (s .entry)) k h r ⌝ }
 {
     let f = h.form;
-    let e = h.env;
     match f {
-        Form::Row(g) => Place {
+        Form::Row(g) => Next::At(Head {
             form: Form::Cell(k, g),
             node: h.node,
             depth: h.depth,
-            env: e,
-        },
+        }),
         Form::Record => match front_nodes::child(s, h.node, k) {
-            Found::At(c) => resolve(s, c, h.depth, e),
-            Found::Nothing => Place {
+            Found::At(c) => Next::On(c, h.depth),
+            Found::Nothing => Next::At(Head {
                 form: Form::Bad,
                 node: h.node,
                 depth: h.depth,
-                env: e,
-            },
+            }),
         },
-        _ => Place {
+        _ => Next::At(Head {
             form: Form::Bad,
             node: h.node,
             depth: h.depth,
-            env: e,
-        },
+        }),
     }
 }

@@ -1,4 +1,5 @@
 use borrow.Author.Needs.{needs}
+use mathlib.Core.Path.{refl}
 use lib.ListN.{replicate}
 use Rattle.front_emit.proofs.Held.{whole-starts, whole-done}
 use Rattle.front_emit.proofs.write_form.Statement.{statement}
@@ -8,6 +9,6 @@ pub write-form-spec : {M : Type 1} → statement M
 write-form-spec =
     tie.close
     (tie.spec
-    (λ c κs. whole-starts (c .before .before .pre) (replicate 32 0))
+    (λ c κs. (whole-starts (c .before .before .before .pre) (replicate 32 0), refl))
     (λ c. search needs)
-    (λ c. whole-done (c .before .before .before .before .before .pre) (replicate 32 0) (c .before .before .emit .ensures)))
+    (λ c. whole-done (c .before .before .before .before .before .before .pre) (replicate 32 0) (c .before .before .emit .ensures)))

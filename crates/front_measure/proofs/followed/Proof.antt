@@ -14,7 +14,7 @@ form-requires : tie.Need-form-requires
 form-requires c κs = search needs
 
 returns : tie.Need-returns
-returns c = followed-is (c .before .before .depth-at .ensures) (c .before .resolve .ensures) (c .form .ensures)
+returns c = followed-is (c .before .before .before .depth-at .ensures) (c .before .resolve .ensures) (c .form .ensures)
 
 pub followed-spec : {M : Type 1} → statement M
 followed-spec = tie.close (tie.spec depth-at-requires resolve-requires form-requires returns)

@@ -1,9 +1,9 @@
 -- `measure::two` meets its contract.
-use Rattle.base_syntax.specs.Numbers.{binOf}
 use Rattle.front_measure.proofs.Parts.{two-and, two-other}
 use borrow.Author.Needs.{needs}
 use Rattle.front_measure.proofs.two.Statement.{statement}
 use Rattle.front_measure.proofs.two.Tie as tie
+use Rattle.base_syntax.specs.Numbers.{binOf}
 
 returns : tie.Need-returns
 returns c =
