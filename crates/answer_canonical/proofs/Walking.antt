@@ -15,7 +15,8 @@ use Rattle.spec_calculus.proofs.Folds.{arranged, from-to}
 use Rattle.spec_checks.specs.Types.{Ty, Tys, record′, coll, ynil, ycons}
 use Rattle.spec_checks.proofs.Refold.{onParts, refold, refolds, arrangeAs, arrange-coll}
 use Rattle.spec_outcome.specs.Written.{words, wordsL}
-use Rattle.form_words.specs.Packing.{places, next}
+use Rattle.base_scratch.specs.Map.{places}
+use Rattle.form_words.specs.Packing.{next}
 use Rattle.form_words.specs.Tree.{left}
 use Rattle.base_buffer.specs.Reading.{countAt, behind, times}
 use Rattle.base_buffer.specs.Blocks.{Shifted, Marked, Cleared}

@@ -1,6 +1,6 @@
 // A value, raw in the answer buffer, is brought to its written form in place.
 ghost use Prim.Native.Nat.{_≤_};
-ghost use Rattle.form_words.specs.Packing.{places};
+ghost use Rattle.base_scratch.specs.Map.{places};
 ghost use Rattle.answer_types.specs.Shape.{Shaped};
 ghost use Rattle.answer_canonical.specs.Walk.{Carried, Walked, WalkedFields, WalkedElements, Finished};
 use answer_sort::order;

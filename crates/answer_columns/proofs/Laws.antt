@@ -15,12 +15,13 @@ use Rattle.base_tables.proofs.Laws.{described-word, tables-most}
 use Rattle.base_signed.proofs.Word.{by-test}
 use Rattle.form_words.specs.declared.Clause.{Clause}
 use Rattle.form_words.specs.declared.Clause.the-variants.{Generator, Condition, Head}
-use Rattle.form_words.specs.Packing.{formAt, wordAt, next, nodeAt}
+use Rattle.base_scratch.specs.Map.{formAt, columnsAt}
+use Rattle.form_words.specs.Packing.{wordAt, next, nodeAt}
 use Rattle.form_words.specs.Tree.{clauseOf, formTree}
 use Rattle.form_words.specs.Look.{LooksC}
 use Rattle.form_env.specs.Env.{descriptionIn, tablesIn, Held}
 use Rattle.form_env.proofs.Frame.{form-same}
-use Rattle.answer_types.specs.Columns.{columnsAt, withColumns}
+use Rattle.answer_types.specs.Columns.{withColumns}
 use Rattle.answer_types.proofs.Columns.{noted-low, noted-high, noted-length}
 use Rattle.answer_columns.specs.Noting.{noteBy, noteAt, notes, Notes}
 

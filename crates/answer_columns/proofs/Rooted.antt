@@ -14,13 +14,14 @@ use Rattle.spec_normal_form.specs.Form.{Form, Forms, Clauses, num, truth, row, 
 use Rattle.spec_normal_form.specs.Size.{nodes, nodesF, nodesC}
 use Rattle.spec_normal_form.specs.NoRule.{behind, Ordered, OrderedF, OrderedC}
 use Rattle.spec_normal_form.proofs.Numbered.{Numbered, NumberedF, NumberedC}
-use Rattle.form_words.specs.Packing.{places, next, nodeAt}
+use Rattle.base_scratch.specs.Map.{places, generators}
+use Rattle.form_words.specs.Packing.{next, nodeAt}
 use Rattle.form_words.specs.Tree.{clauseOf}
 use Rattle.form_words.specs.Flat.{size, sizeF, sizeC, flat, flatF, flatC, Fits, FitsF, FitsC, Holds}
 use Rattle.form_words.proofs.ReadBack.{length-flat, length-flatC, holds-first, holds-second, node-is, next-is, gen-node, cond-node, head-node}
 use Rattle.form_env.specs.Env.{descriptionIn, tablesIn, Held}
 use Rattle.form_env.proofs.Frame.{node-same}
-use Rattle.answer_types.specs.Columns.{generators, columns}
+use Rattle.answer_types.specs.Columns.{columns}
 use Rattle.answer_types.proofs.Columns.{columns-same, columns-other}
 use Rattle.answer_types.proofs.Values.{ran, Rooted, RootedF, RootedC}
 use Rattle.answer_columns.specs.Noting.{noteBy, noteAt, notes, Notes}

@@ -9,16 +9,13 @@ use lib.Dec.{ltb}
 use lib.ListN.{length, getD, set, length-set}
 use lib.Seq.{getD-set-same, getD-set-other, set-out}
 use Rattle.spec_calculus.specs.Lists.{pick}
-use Rattle.form_words.specs.Packing.{formAt}
-use Rattle.answer_types.specs.Columns.{columnsAt, generators, columns, withColumns}
+use Rattle.base_scratch.specs.Map.{formAt, generators, columnsAt}
+use Rattle.answer_types.specs.Columns.{columns, withColumns}
 
 module _ (s : List ℕ) (g n : ℕ) where
   pub noted-in : g < generators → set s (columnsAt + g) n ≡ withColumns s g n
   unfolding withColumns pick
   noted-in p = rw (lt-ltb g generators p)
-
-  pub noted-past : g < generators → length s ≤ columnsAt + g → s ≡ withColumns s g n
-  noted-past p l = sym (set-out s (columnsAt + g) n l) ∙ noted-in p
 
   pub noted-out : generators ≤ g → s ≡ withColumns s g n
   unfolding withColumns pick

@@ -16,8 +16,9 @@ use Rattle.base_syntax.specs.Word.{monoidOf}
 use Rattle.base_syntax.specs.Numbers.{binOf}
 use Rattle.form_words.specs.declared.Node.{Node}
 use Rattle.form_words.specs.declared.Node.the-variants.{Number, Truth, Row, Cell, Record, Binary, Negation, Comprehension, Generator, Condition, Nothing}
-use Rattle.form_words.specs.Packing.{places, next}
+use Rattle.form_words.specs.Packing.{next}
 use Rattle.form_words.specs.Tree.{formTree, headTree, left}
+use Rattle.base_scratch.specs.Map.{places, columnsAt}
 use Rattle.form_words.specs.declared.Clause.the-variants as Cl
 use Rattle.form_words.specs.Look.{Looks, LooksC}
 use Rattle.form_words.specs.Head.{headNode}
@@ -27,19 +28,14 @@ use Rattle.answer_types.specs.declared.Kind.{Kind}
 use Rattle.answer_types.specs.declared.Layout.{Layout}
 use Rattle.answer_types.specs.declared.Shape.{Shape}
 use Rattle.answer_types.specs.declared.Shape.the-variants as Sh
-use Rattle.answer_types.specs.Columns.{columnsAt, columns}
+use Rattle.answer_types.specs.Columns.{columns}
 use Rattle.answer_types.specs.Shape.{typeOf, typesOf, typeAt, typesAt, isSingle, collectionOf, Heads, endBy, ClauseEnds, gatherOf, shapeBy, shapeIn, Shaped, ShapeAt, Laid, LaidBy}
 use Rattle.answer_types.specs.Flat.{Flat, FlatEach, widthOf, widthEach}
 
 -- ---- columns
-module _ (s : List ℕ) (g : ℕ) where
-  pub columns-in : getD s (columnsAt + g) 0 ≡ columns s g
-  unfolding columns
-  columns-in = refl
-
-  pub columns-out : length s ≤ columnsAt + g → 0 ≡ columns s g
-  unfolding columns
-  columns-out l = sym (List·getD-eq-default s 0 l)
+pub columns-in : (s : List ℕ) (g : ℕ) → getD s (columnsAt + g) 0 ≡ columns s g
+unfolding columns
+columns-in s g = refl
 
 -- ---- clauses and heads
 module _ {s : List ℕ} {j : ℕ} where

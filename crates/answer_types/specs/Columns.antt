@@ -5,13 +5,7 @@ use Prim.Native.Nat.{ℕ, _+_}
 use lib.Dec.{ltb}
 use lib.ListN.{getD, set}
 use Rattle.spec_calculus.specs.Lists.{pick}
-
-abbrev pub columnsAt : ℕ
-columnsAt = 1040
-
--- "27: a normal form over 512 nodes": a generator is two of them, so there are at most 256
-abbrev pub generators : ℕ
-generators = 256
+use Rattle.base_scratch.specs.Map.{generators, columnsAt}
 
 unfoldable pub columns : List ℕ → ℕ → ℕ
 columns s g = getD s (columnsAt + g) 0

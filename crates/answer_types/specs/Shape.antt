@@ -15,7 +15,8 @@ use Rattle.form_words.specs.declared.Node.{Node}
 use Rattle.form_words.specs.declared.Node.the-variants.{Number, Truth, Row, Cell, Record, Binary, Negation, Comprehension, Generator, Condition, Nothing}
 use Rattle.form_words.specs.declared.Clause.{Clause}
 use Rattle.form_words.specs.declared.Clause.the-variants as Cl
-use Rattle.form_words.specs.Packing.{places, nodeAt}
+use Rattle.base_scratch.specs.Map.{places}
+use Rattle.form_words.specs.Packing.{nodeAt}
 use Rattle.form_words.specs.Tree.{clauseOf, formTree, formsTree, headTree, left}
 use Rattle.form_words.specs.Head.{headNode}
 use Rattle.answer_types.specs.Columns.{columns}

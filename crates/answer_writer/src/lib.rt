@@ -3,6 +3,8 @@ ghost use mathlib.Core.Path.{_≡_};
 ghost use Rattle.answer_writer.specs.Laying.{bump, laid, Puts};
 ghost use Rattle.answer_writer.specs.Shapes.{comprehensionShape, ShapeAt};
 ghost use Rattle.answer_writer.specs.Contract.{Rows};
+use base_scratch::FORM_WORDS;
+use base_signed::COUNT_LIMIT;
 use base_syntax::Monoid;
 use base_syntax::Op;
 use base_tables::cell;
@@ -10,6 +12,7 @@ use base_tables::columns;
 use base_tables::rows;
 use form_arith::Sort;
 use form_arith::result;
+use form_env::ROWS;
 use form_env::description;
 use form_env::slot;
 use form_words::arg;
@@ -30,7 +33,7 @@ pub enum Shape {
 pub fn more(p: usize) -> usize
     ensures { λ r. ⌜ r ≡ bump p ⌝ }
 {
-    if p < 4611686018427387904 { p + 1 } else { p }
+    if p < COUNT_LIMIT { p + 1 } else { p }
 }
 
 pub fn lay(out: &mut [i64], limit: usize, p: usize, x: i64)
@@ -70,7 +73,7 @@ fn comprehension_shape(m: Monoid) -> Shape
 pub fn shape_at(s: &[u64], i: usize) -> Shape
     ensures { λ r. ⌜ ShapeAt (now (s .entry)) i r ⌝ }
 {
-    if 512 <= i {
+    if FORM_WORDS <= i {
         return Shape::Word(Sort::Number);
     }
     let w = word(s, i);
@@ -91,8 +94,8 @@ pub fn row(s: &[u64], data: &[u8], out: &mut [i64], limit: usize, g: usize, p: u
     ensures { λ r. ⌜ Rows (now («data» .entry)) (now (s .entry)) limit (now (out .entry)) g p (now (out .exit)) r ⌝ }
 {
     let e = slot(s, g) as usize;
-    let w = description(s, e / 2048);
-    let r = e % 2048;
+    let w = description(s, e / ROWS);
+    let r = e % ROWS;
     if rows(w) <= r {
         return put(out, limit, p, 0);
     }

@@ -1,2 +1,3 @@
--- Words of scratch set to 0.
+-- The map of scratch, and words of it set to 0.
+pub mod Map
 pub mod Wiped

@@ -11,6 +11,7 @@ use Rattle.spec_calculus.specs.Syntax as Sy
 use Rattle.spec_calculus.specs.Value.{Value, num, truth, rec, coll, count, eqZ}
 use Rattle.base_syntax.specs.declared.Monoid.{Monoid}
 use Rattle.base_syntax.specs.declared.Monoid.the-variants.{List, Bag, Set, Sum, Max, Some, All, Min}
+use Rattle.base_signed.specs.Limit.{numberLimit}
 
 -- the monoid that each case of the enum is
 abbrev pub monoidOf : Monoid → Sy.Monoid
@@ -82,4 +83,4 @@ soFarWord (coll vs) = noneWord
 
 -- a collection's count with one more head; from 2^62 on it stays
 unfoldable pub oneMore : ℕ → ℕ
-oneMore n = pick (ltb n 4611686018427387904) (n + 1) n
+oneMore n = pick (ltb n numberLimit) (n + 1) n

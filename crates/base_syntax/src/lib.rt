@@ -5,9 +5,11 @@ ghost use Prim.Native.Nat.{_<_, _%_, _^_};
 ghost use lib.Signed.{mag};
 ghost use Rattle.base_syntax.specs.Word.{monoidOf, zeroWord, chosen, mergeWord, finishWord, oneMore};
 ghost use Rattle.base_syntax.specs.Numbers.{binOf, opArg, opAt, numberOf, monoidNumbered, monoidArg, monoidAt};
+use base_signed::COUNT_LIMIT;
+use base_signed::NUMBER_MOST;
 
 // What max and min have before their first head: no head has this word, since all are within 2^62.
-const NONE: i64 = 4611686018427387905;
+pub const NONE: i64 = NUMBER_MOST + 1;
 
 // Document 01's kinds of a question's records.
 pub const KIND_NUMBER: u64 = 1;
@@ -152,7 +154,7 @@ impl Monoid {
     pub fn one_more(n: usize) -> usize
         ensures { λ r. ⌜ r ≡ oneMore n ⌝ }
     {
-        if n < 4611686018427387904 { n + 1 } else { n }
+        if n < COUNT_LIMIT { n + 1 } else { n }
     }
 
     // Document 01's number; min's is document 02's.

@@ -1,12 +1,14 @@
 // The one place that reads the lent data: its records, and the cells of its tables.
 ghost use mathlib.Core.Path.{_≡_};
 ghost use Prim.Native.Nat.{_+_, _*_, _≤_, _<_, _^_};
-ghost use lib.ListN.{length, getD, set};
+ghost use lib.ListN.{length, getD};
 ghost use lib.IntN.{natAbs};
 ghost use Rattle.spec_encoding.specs.Record.{four, signed};
 ghost use Rattle.spec_encoding.specs.Data.{fits};
 ghost use Rattle.base_tables.specs.Description.{descriptionOf, collectionIn, columnsIn, rowsIn, CellOf};
 ghost use Rattle.base_tables.specs.Reading.{headerGives, headerAt, tableAt, ReadsData};
+use base_scratch::TABLES;
+use base_scratch::store;
 
 // A whole record of kind 20 with the length of its content, or none.
 pub enum Header {
@@ -180,15 +182,6 @@ pub fn cell(data: &[u8], w: u64, r: usize, c: usize) -> i64
     signed_of(four_at(data, at))
 }
 
-// No store outside.
-pub fn put(scratch: &mut [u64], i: usize, v: u64)
-    ensures { λ _. ⌜ now (scratch .exit) ≡ set (now (scratch .entry)) i v ⌝ }
-{
-    if i < scratch.len() {
-        scratch[i] = v;
-    }
-}
-
 // "the data, earliest record first, 13 before 11 before 12". Answers the refusal's number, or 0 with the tables' number and
 // descriptions in the first nine words of scratch.
 pub fn read_data(data: &[u8], scratch: &mut [u64]) -> u64
@@ -206,11 +199,11 @@ pub fn read_data(data: &[u8], scratch: &mut [u64]) -> u64
             }
             TableRead::Is(w, next) => {
                 n += 1;
-                put(scratch, n, w);
+                store(scratch, n, w);
                 p = next;
             }
         }
     }
-    put(scratch, 0, n as u64);
+    store(scratch, TABLES, n as u64);
     0
 }

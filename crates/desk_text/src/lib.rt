@@ -4,6 +4,7 @@ ghost use Prim.Native.Nat.{_+_, _*_, _≤_};
 ghost use lib.ListN.{length};
 ghost use Rattle.spec_outcome.specs.Outcome.{cleared, byLoops};
 ghost use Rattle.spec_outcome.specs.Gives.{Gives};
+ghost use Rattle.base_scratch.specs.Map.{scratchSize};
 ghost use Rattle.base_text.specs.Laying.{Lays};
 ghost use Rattle.spec_desk.specs.Left.{wordsLeft, scratchLeft};
 ghost use Rattle.spec_desk.specs.Split.{tablesEnd};
@@ -87,7 +88,7 @@ fn reply(
     words: &mut [i64],
     text: &mut [u8],
 ) -> usize
-    requires { ⌜ (8192 ≤ length (now scratch)) × (length (now words) ≡ 4096) × (textBytes ≤ length (now text)) ⌝ }
+    requires { ⌜ (scratchSize ≤ length (now scratch)) × (length (now words) ≡ 4096) × (textBytes ≤ length (now text)) ⌝ }
     ensures { λ r. ⌜ Prints (asked (now (tables .entry)) (now (question .entry))) (now (text .entry)) (now (text .exit)) r ⌝ }
     ensures { λ _. ⌜ now (words .exit) ≡ byLoops (now (tables .entry)) (now (question .entry)) (now (scratch .entry)) (now (words .entry)) .buffer ⌝ }
     ensures { λ _. ⌜ now (scratch .exit) ≡ cleared (now (scratch .entry)) ⌝ }
@@ -104,7 +105,7 @@ fn reply(
 
 // What is printed for the input, at the buffer's front. Answers its length.
 pub fn printout(input: &[u8], scratch: &mut [u64], words: &mut [i64], text: &mut [u8]) -> usize
-    requires { ⌜ (8192 ≤ length (now scratch)) × (length (now words) ≡ 4096) × (textBytes ≤ length (now text)) ⌝ }
+    requires { ⌜ (scratchSize ≤ length (now scratch)) × (length (now words) ≡ 4096) × (textBytes ≤ length (now text)) ⌝ }
     ensures { λ _. ⌜ now (words .exit) ≡ wordsLeft (now (input .entry)) (now (scratch .entry)) (now (words .entry)) ⌝ }
     ensures { λ _. ⌜ now (scratch .exit) ≡ scratchLeft (now (input .entry)) (now (scratch .entry)) ⌝ }
     ensures { λ r. ⌜ Prints (desk (now (input .entry))) (now (text .entry)) (now (text .exit)) r ⌝ }

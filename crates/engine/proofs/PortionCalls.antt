@@ -22,7 +22,8 @@ use Rattle.spec_outcome.specs.Gives.{Gives, Settles}
 use Rattle.front_end.specs.Prepares.{Accepts}
 use Rattle.exec_portions.specs.Run.{begun}
 use Rattle.exec_portions.specs.Standing.{Pending, task, Asks}
-use Rattle.exec_portions.specs.Unfinished.{stageAt, idle, Unfinished, Continues, Finishes, AdvancedBy, Advances}
+use Rattle.base_scratch.specs.Map.{stageAt}
+use Rattle.exec_portions.specs.Unfinished.{idle, Unfinished, Continues, Finishes, AdvancedBy, Advances}
 use Rattle.exec_portions.specs.Unfinished as Un
 use Rattle.exec_portions.specs.declared.Progress.{Progress}
 use Rattle.exec_portions.specs.declared.Progress.the-variants as Progress

@@ -28,7 +28,8 @@ use Rattle.base_signed.proofs.Word.{by-test}
 use Rattle.exec_state.specs.Cursors.{most}
 use Rattle.exec_portions.specs.Run.{Run, counting, begun, portion, rowsDue}
 use Rattle.exec_portions.specs.Standing.{Pending, task}
-use Rattle.exec_portions.specs.Unfinished.{stageAt, idle, Unfinished}
+use Rattle.base_scratch.specs.Map.{stageAt}
+use Rattle.exec_portions.specs.Unfinished.{idle, Unfinished}
 use Rattle.exec_portions.proofs.Whole.{portion-due, portion-portion, rows-in-all}
 use Rattle.exec_portions.proofs.Advanced.{long-unfinished, unfinished-stage, unfinished-live, unwritten}
 use Rattle.form_env.specs.Env.{tablesIn}

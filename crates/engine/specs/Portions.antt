@@ -17,7 +17,8 @@ use Rattle.spec_outcome.specs.Gives.{Gives, Spares}
 use Rattle.exec_state.specs.Cursors.{most}
 use Rattle.exec_portions.specs.Run.{Run, begun, portion, rowsDue}
 use Rattle.exec_portions.specs.Standing.{Pending, task}
-use Rattle.exec_portions.specs.Unfinished.{stageAt, idle, Unfinished}
+use Rattle.base_scratch.specs.Map.{stageAt}
+use Rattle.exec_portions.specs.Unfinished.{idle, Unfinished}
 use Rattle.engine.specs.Replies.{Replies}
 use Rattle.engine.specs.declared.Reply.{Reply}
 use Rattle.engine.specs.declared.Portioned.{Portioned}

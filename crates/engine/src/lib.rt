@@ -2,12 +2,13 @@
 ghost use mathlib.Core.List.{[]};
 ghost use Prim.Native.Nat.{_≤_, _<_};
 ghost use lib.ListN.{length};
-ghost use Rattle.spec_outcome.specs.Outcome.{byLoops, byPlan, checked, planLines};
+ghost use Rattle.spec_outcome.specs.Outcome.{byLoops, byPlan, checked, planLines, scratchWords};
 ghost use Rattle.spec_outcome.specs.Gives.{Gives};
 ghost use Rattle.engine.specs.Replies.{Admits, Replies};
 ghost use Rattle.engine.specs.Portions.{BeginGives, PortionGives, Says, EndsWith};
 ghost use Rattle.engine.specs.Rota.{seatOf, SeatGives, TwoGive, RoundGives};
 use base_rota::rota_fits;
+use base_scratch::WORDS;
 use exec_portions::Progress;
 use form_prepared::Answer;
 use front_end::Checked;
@@ -34,7 +35,7 @@ pub enum Admitted {
 pub fn admit(tables: &[u8], question: &[u8], scratch: &mut [u64]) -> Admitted
     ensures { λ r. ⌜ Admits (now (tables .entry)) (now (question .entry)) (now (scratch .entry)) (now (scratch .exit)) r ⌝ }
 {
-    if scratch.len() < base_scratch::WORDS {
+    if scratch.len() < WORDS {
         return Admitted::Scant;
     }
     match front_end::prepare(tables, question, scratch) {
@@ -45,7 +46,7 @@ pub fn admit(tables: &[u8], question: &[u8], scratch: &mut [u64]) -> Admitted
 
 // How every call but 31 ends.
 pub fn finish(s: &mut [u64], k: u64, n: u64) -> Reply
-    requires { ⌜ 8192 ≤ length (now s) ⌝ }
+    requires { ⌜ scratchWords ≤ length (now s) ⌝ }
     ensures { λ r. ⌜ Replies (now (s .entry)) (now (s .exit)) k n r ⌝ }
 {
     base_scratch::clear(s);
@@ -184,7 +185,7 @@ fn declined(k: u64) -> Portioned
 
 // The last portion of a question.
 fn ended(s: &mut [u64], rows: u64, k: u64, n: u64) -> Portioned
-    requires { ⌜ 8192 ≤ length (now s) ⌝ }
+    requires { ⌜ scratchWords ≤ length (now s) ⌝ }
     ensures { λ r. ⌜ EndsWith (now (s .entry)) (now (s .exit)) rows k n r ⌝ }
 {
     let x = finish(s, k, n);
@@ -213,7 +214,7 @@ pub extern "C" fn dislogha_portion(
     if MOST_ROWS < rows {
         return declined(base_refusals::ROWS_OUT_OF_RANGE);
     }
-    if scratch.len() < base_scratch::WORDS {
+    if scratch.len() < WORDS {
         return declined(base_refusals::SCRATCH_TOO_SHORT);
     }
     match exec_portions::advance(scratch, tables, answer, rows as usize) {

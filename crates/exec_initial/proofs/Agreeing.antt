@@ -9,7 +9,8 @@ use Rattle.spec_calculus.specs.Syntax.{Monoid, of, sum, max, some, all}
 use Rattle.spec_calculus.specs.Value.{Value}
 use Rattle.spec_encoding.specs.Record.{Bytes}
 use Rattle.spec_normal_form.specs.Form.{Form, Forms, Clauses, num, truth, row, cell, rec, bin, negate, comp, fnil, fcons, done, gen, cond}
-use Rattle.form_words.specs.Packing.{places, wordAt, nodeAt}
+use Rattle.base_scratch.specs.Map.{places}
+use Rattle.form_words.specs.Packing.{wordAt, nodeAt}
 use Rattle.form_words.specs.Tree.{formTree}
 use Rattle.form_words.specs.Flat.{size, sizeF, sizeC}
 use Rattle.base_syntax.proofs.Numbers.{monoid-back}

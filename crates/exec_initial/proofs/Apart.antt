@@ -14,7 +14,8 @@ use Rattle.form_words.specs.declared.Node.{Node}
 use Rattle.form_words.specs.declared.Node.the-variants as N
 use Rattle.form_words.specs.declared.Clause.{Clause}
 use Rattle.form_words.specs.declared.Clause.the-variants as Cl
-use Rattle.form_words.specs.Packing.{formAt, places, nodeAt}
+use Rattle.base_scratch.specs.Map.{formAt, places, envAt, totalsAt}
+use Rattle.form_words.specs.Packing.{nodeAt}
 use Rattle.form_words.specs.Tree.{clauseOf}
 use Rattle.form_words.specs.Flat.{size}
 use Rattle.base_signed.proofs.Word.{by-test}
@@ -23,8 +24,7 @@ use Rattle.plan_links.specs.Spots.{Spots, end, loop, inner, spotsOf, loopsIn, e
 use Rattle.plan_links.proofs.Static.{Distinct}
 use Rattle.plan_links.proofs.Static as St
 use Rattle.plan_links.proofs.Ranks.{numbers-apart, numbers-within}
-use Rattle.form_env.specs.Env.{envAt}
-use Rattle.exec_state.specs.Cursors.{totalsAt, cursorBy, cursorAt}
+use Rattle.exec_state.specs.Cursors.{cursorBy, cursorAt}
 use Rattle.exec_simulation.specs.Wired.{Id, loopI, endI, ids, idAt, wordOf, Apart}
 
 -- the place of a loop, and of an end; none of the other

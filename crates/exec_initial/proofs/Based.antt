@@ -9,7 +9,8 @@ use lib.ListN.{length}
 use Rattle.spec_calculus.specs.Syntax.{Monoid}
 use Rattle.spec_encoding.specs.Record.{Bytes}
 use Rattle.spec_normal_form.specs.Form.{Form, Forms, Clauses, NormalForm, asForm, num, truth, row, cell, rec, bin, negate, comp, fnil, fcons, done, gen, cond}
-use Rattle.form_words.specs.Packing.{places, next, nodeAt}
+use Rattle.base_scratch.specs.Map.{places}
+use Rattle.form_words.specs.Packing.{next, nodeAt}
 use Rattle.form_words.specs.Tree.{formTree}
 use Rattle.form_words.specs.Flat.{size, sizeF, sizeC}
 use Rattle.form_words.proofs.ReadBack.{size-some}

@@ -15,7 +15,8 @@ use Rattle.spec_normal_form.specs.Form.{Form, Clauses, comp, done, gen, cond, g
 use Rattle.spec_normal_form.specs.NoRule.{behind, Ordered, OrderedC}
 use Rattle.spec_normal_form.proofs.Proper.{behind-grows}
 use Rattle.form_words.specs.declared.Node.the-variants as N
-use Rattle.form_words.specs.Packing.{places, next, nodeAt}
+use Rattle.base_scratch.specs.Map.{places}
+use Rattle.form_words.specs.Packing.{next, nodeAt}
 use Rattle.form_words.specs.Flat.{size, sizeC}
 use Rattle.base_signed.proofs.Word.{by-test}
 use Rattle.spec_plan.specs.Planner as P

@@ -17,7 +17,8 @@ use Rattle.form_words.specs.declared.Node.{Node}
 use Rattle.form_words.specs.declared.Node.the-variants as N
 use Rattle.form_words.specs.declared.Clause.{Clause}
 use Rattle.form_words.specs.declared.Clause.the-variants as Cl
-use Rattle.form_words.specs.Packing.{places, nodeAt}
+use Rattle.base_scratch.specs.Map.{places}
+use Rattle.form_words.specs.Packing.{nodeAt}
 use Rattle.form_words.specs.Tree.{clauseOf, formTree, clausesTree, left}
 use Rattle.form_words.specs.Flat.{size, sizeF, sizeC}
 use Rattle.base_syntax.proofs.Numbers.{monoid-back}

@@ -12,7 +12,7 @@ use Rattle.spec_normal_form.specs.Form.{Form, Forms, Clauses, NormalForm, asFor
 use Rattle.spec_normal_form.proofs.Agree.{Grows}
 use Rattle.spec_normal_form.specs.NoRule.{behind, Ordered, OrderedF, OrderedC}
 use Rattle.spec_normal_form.proofs.Proper.{behind-grows}
-use Rattle.form_words.specs.Packing.{places}
+use Rattle.base_scratch.specs.Map.{places}
 use Rattle.form_words.specs.Flat.{size, sizeF, sizeC}
 use Rattle.spec_plan.specs.Planner as P
 use Rattle.plan_marks.specs.Marks.{markAt}

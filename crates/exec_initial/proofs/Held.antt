@@ -36,7 +36,8 @@ use Rattle.exec_machine.proofs.Spans.{Spans}
 use Rattle.exec_machine.proofs.Telling.{row-width}
 use Rattle.plan_links.specs.Spots.{Spots, compOf}
 use Rattle.plan_links.specs.Alike.{fuel, SourceAt}
-use Rattle.form_env.specs.Env.{envAt, rowsAt, rowWord, rowOf, envOf, tablesIn}
+use Rattle.base_scratch.specs.Map.{envAt}
+use Rattle.form_env.specs.Env.{rowsAt, rowWord, rowOf, envOf, tablesIn}
 use Rattle.form_env.proofs.Laws.{slot-in, row-word}
 use Rattle.form_env.proofs.Frame.{node-same, form-same}
 use Rattle.form_arith.specs.Sorts.{asWord, sortOf, wordBound, mergeBound}

@@ -8,7 +8,8 @@ use Prim.Native.Nat.{ℕ, _+_, _≤_}
 use Rattle.spec_encoding.specs.Record.{Bytes}
 use Rattle.spec_normal_form.specs.Form.{comp}
 use Rattle.spec_normal_form.specs.Bound.{within}
-use Rattle.form_words.specs.Packing.{places, next, wordAt}
+use Rattle.base_scratch.specs.Map.{places}
+use Rattle.form_words.specs.Packing.{next, wordAt}
 use Rattle.form_words.specs.Tree.{formTree}
 use Rattle.form_words.specs.Flat.{size, sizeC}
 use Rattle.base_syntax.proofs.Numbers.{monoid-back}

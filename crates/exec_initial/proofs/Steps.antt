@@ -4,7 +4,8 @@ use mathlib.Core.Path.{_≡_, subst, _∙_}
 use mathlib.Core.List.{List, _++_}
 use Prim.Native.Nat.{ℕ, _+_, _≤_}
 use Rattle.spec_normal_form.specs.Form.{Form, Forms, Clauses, num, truth, row, cell, rec, bin, negate, comp, fnil, fcons, done, gen, cond}
-use Rattle.form_words.specs.Packing.{places, next}
+use Rattle.base_scratch.specs.Map.{places}
+use Rattle.form_words.specs.Packing.{next}
 use Rattle.form_words.specs.Flat.{size, sizeF, sizeC, flat, flatF, flatC, Holds}
 use Rattle.form_words.proofs.ReadBack.{length-flat, length-flatC, holds-first, holds-second, next-is}
 

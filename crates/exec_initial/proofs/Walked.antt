@@ -30,7 +30,6 @@ use Rattle.plan_links.specs.Spots.{compOf}
 use Rattle.plan_links.specs.Alike.{fuel}
 use Rattle.form_env.specs.Env.{tablesIn}
 use Rattle.form_env.proofs.Frame.{node-same}
-use Rattle.exec_terms.specs.Kept.{keptOf}
 use Rattle.exec_terms.specs.Walk.{goOn, walk}
 use Rattle.exec_terms.proofs.Saying.{partsIn, walk-said}
 use Rattle.exec_terms.proofs.Heads.{term-at}
@@ -95,9 +94,9 @@ module _ {d : Bytes} (Q : Question d) {s : List ℕ} {o : List ℤ} {limit : ℕ
         let us : List PTerm = upto n (headParts x) in
         let p : partsIn fuel s h j ≡ us = parts-upto s j n u h fuel fuel (N .node) (A .mark) (L .lies) (L .low) (omega arith) (omega arith) m (Z .fresh j n m k (A .mark)) ∙ ap (upto n) hp in
         let t : termIn fuel s j ≡ place n = term-at s fuel j (N .node) (omega arith) ∙ ap slotBy (A .mark) in
-        let z : pt o (keptOf s j) ≡ pt o (min (length (text ++ said most ρ (uptoWith n x))) most) = ap (pt o) (ends-at Q S (E .operator) j (E .low) (E .id) k ∙ ap (λ i. min i most) (E .ends)) in
+        let z : pt o (endIn s j) ≡ pt o (min (length (text ++ said most ρ (uptoWith n x))) most) = ap (pt o) (ends-at Q S (E .operator) j (E .low) (E .id) k ∙ ap (λ i. min i most) (E .ends)) in
         ap₂ (λ (y : List PTerm) (a : PTerm). lays limit (said most ρ (y ++ a ∷ [])) (pt o (endIn s c))) p t ∙ told-there (uptoWith n x) (E .begins) ∙ sym z
-        ∙ sym (ap (goOn (keptOf s j)) (ap (λ (y : List PTerm). lays limit (said most ρ y) (pt o (endIn s c))) p ∙ told-there us (place n ∷ E .begins .0, E .begins .1 ∙ append-assoc us (place n ∷ []) (E .begins .0))))
+        ∙ sym (ap (goOn (endIn s j)) (ap (λ (y : List PTerm). lays limit (said most ρ y) (pt o (endIn s c))) p ∙ told-there us (place n ∷ E .begins .0, E .begins .1 ∙ append-assoc us (place n ∷ []) (E .begins .0))))
 
     pub walks : (more : List PTerm) → b ≤ h + size u → partsIn fuel s h b ≡ told q π ++ more
         → walk fuel limit s ρ h b (pt o (endIn s c)) ≡ pt (puts limit (length (textInto most T q w π)) (said most ρ more) o) (min (length (textInto most T q w π) + length (said most ρ more)) most)

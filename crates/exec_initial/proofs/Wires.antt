@@ -5,7 +5,7 @@ use mathlib.Core.List.{List, [], _∷_}
 use Prim.Native.Nat.{ℕ, _+_, _≤_, _<_}
 use Rattle.spec_calculus.proofs.Lists.{All, all-front, all-behind}
 use Rattle.spec_normal_form.specs.Form.{Form, Forms, Clauses, NormalForm, num, truth, row, cell, rec, bin, negate, comp, fnil, fcons, done, gen, cond}
-use Rattle.form_words.specs.Packing.{places}
+use Rattle.base_scratch.specs.Map.{places}
 use Rattle.form_words.specs.Flat.{size, sizeC}
 use Rattle.exec_machine.specs.Program.{Program, programOf}
 use Rattle.exec_machine.specs.Program as Pr

@@ -8,7 +8,8 @@ use lib.ListN.{length, getD}
 use Rattle.spec_calculus.specs.Syntax.{Monoid}
 use Rattle.spec_normal_form.specs.Form.{Form, Forms, Clauses, num, truth, row, cell, rec, bin, negate, comp, fnil, fcons, done, gen, cond}
 use Rattle.form_words.specs.declared.Node.the-variants.{Generator}
-use Rattle.form_words.specs.Packing.{places, next, nodeAt}
+use Rattle.base_scratch.specs.Map.{places}
+use Rattle.form_words.specs.Packing.{next, nodeAt}
 use Rattle.form_words.specs.Flat.{size, sizeC}
 use Rattle.plan_marks.specs.Marks.{markAt}
 use Rattle.plan_marks.specs.PlanIn.{termIn}

@@ -1,7 +1,7 @@
 -- Every comprehension begins with a loop; those inside it stand behind its loops, and none of them is the outermost.
 use mathlib.Core.Path.{_≡_}
 use Prim.Native.Nat.{_<_}
-use Rattle.form_words.specs.Packing.{places}
+use Rattle.base_scratch.specs.Map.{places}
 use Rattle.plan_links.specs.Spots.{Spots, end, loop, inner, compOf}
 use Rattle.exec_simulation.specs.Wired.{Starts}
 

@@ -10,7 +10,8 @@ use Rattle.spec_normal_form.specs.Form.{Form, Forms, num, truth, row, cell, rec
 use Rattle.base_syntax.specs.declared.Monoid.{Monoid}
 use Rattle.spec_plan.specs.Plan.{PTerm}
 use Rattle.form_words.specs.declared.Node.the-variants as N
-use Rattle.form_words.specs.Packing.{places, next, nodeAt}
+use Rattle.base_scratch.specs.Map.{places}
+use Rattle.form_words.specs.Packing.{next, nodeAt}
 use Rattle.form_words.specs.Tree.{left}
 use Rattle.form_words.specs.Flat.{size, sizeF}
 use Rattle.form_words.proofs.ReadBack.{size-some}

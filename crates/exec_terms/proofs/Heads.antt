@@ -10,12 +10,13 @@ use Rattle.spec_normal_form.specs.Form.{Form, Forms, num, truth, row, cell, rec
 use Rattle.spec_plan.specs.Plan.{PTerm, prec, pbin, pnegate, pnil, pcons}
 use Rattle.spec_plan.specs.Operators.{Row}
 use Rattle.form_words.specs.declared.Node.{Node}
-use Rattle.form_words.specs.Packing.{places, next, nodeAt}
+use Rattle.form_words.specs.Packing.{next, nodeAt}
 use Rattle.form_words.specs.Tree.{left}
 use Rattle.form_words.specs.Flat.{size, sizeF}
 use Rattle.base_syntax.specs.declared.Monoid as Mo
 use Rattle.base_syntax.specs.declared.Monoid.the-variants as Mv
 use Rattle.base_syntax.specs.Numbers.{binOf, opArg, opAt, monoidArg, monoidAt}
+use Rattle.base_scratch.specs.Map.{places}
 use Rattle.form_arith.specs.declared.Sort.the-variants as So
 use Rattle.form_arith.specs.Sorts.{resultSort}
 use Rattle.form_words.proofs.ReadBack.{size-some}

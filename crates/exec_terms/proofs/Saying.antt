@@ -19,7 +19,7 @@ use Rattle.answer_writer.specs.Shapes.{shapeOf}
 use Rattle.answer_writer.proofs.Laying.{lays-append}
 use Rattle.plan_marks.specs.PlanIn.{termIn}
 use Rattle.exec_machine.specs.Text.{wordsTo, wordsToL, said}
-use Rattle.exec_terms.specs.Kept.{keptOf}
+use Rattle.exec_state.specs.Cursors.{endIn}
 use Rattle.exec_terms.specs.Walk.{wordsAt, goOn, walkBy, walk}
 
 -- ---- the same words
@@ -52,7 +52,7 @@ abbrev pub walkableBy : (ℕ → Point → Type 0) → ℕ → List ℕ → List
 walkableBy W lim s l a (Sh.Word k) P = W (next s a) (lays lim l P)
 walkableBy W lim s l a (Sh.Row g) P = W (next s a) (lays lim l P)
 walkableBy W lim s l a (Sh.Record e) P = W (a + 1) P
-walkableBy W lim s l a Sh.Collection P = (lays lim l P ≡ goOn (keptOf s a) P) × W (next s a) (goOn (keptOf s a) P)
+walkableBy W lim s l a Sh.Collection P = (lays lim l P ≡ goOn (endIn s a) P) × W (next s a) (goOn (endIn s a) P)
 
 unfoldable pub Walkable : ℕ → ℕ → List ℕ → Row → ℕ → ℕ → Point → Type 0
 Walkable zero lim s r a b P = Unit {0}
@@ -81,7 +81,7 @@ module _ (lim : ℕ) (s : List ℕ) (r : Row) (b : ℕ) where
       by-shape ih (Sh.Word k) h = ih (next s a) (lays lim (wordsAt f s r a) P) h ∙ say-more f a (partsIn f s (next s a) b) P
       by-shape ih (Sh.Row g) h = ih (next s a) (lays lim (wordsAt f s r a) P) h ∙ say-more f a (partsIn f s (next s a) b) P
       by-shape ih (Sh.Record e) h = ih (a + 1) P h
-      by-shape ih Sh.Collection h = ih (next s a) (goOn (keptOf s a) P) (h .1) ∙ ap (saying (partsIn f s (next s a) b)) (sym (h .0)) ∙ say-more f a (partsIn f s (next s a) b) P
+      by-shape ih Sh.Collection h = ih (next s a) (goOn (endIn s a) P) (h .1) ∙ ap (saying (partsIn f s (next s a) b)) (sym (h .0)) ∙ say-more f a (partsIn f s (next s a) b) P
 
       go : ((j : ℕ) (Q : Point) → Walkable f lim s r j b Q → walk f lim s r j b Q ≡ saying (partsIn f s j b) Q) → (t : Bool) → leb b a ≡ t →
           pick t P (walkBy (λ j Q. walk f lim s r j b Q) lim s (wordsAt f s r a) a (shapeOf (nodeAt s a)) P) ≡ saying (pick t [] (partsBy (λ j. partsIn f s j b) s (termIn f s a) a (shapeOf (nodeAt s a)))) P

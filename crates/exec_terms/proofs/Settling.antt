@@ -11,9 +11,10 @@ use Rattle.spec_normal_form.specs.Form.{Form, Forms, num, truth, row, cell, rec
 use Rattle.spec_plan.specs.Plan.{PTerm}
 use Rattle.spec_plan.specs.Operators.{Row, evalP}
 use Rattle.base_syntax.specs.Numbers.{binOf, opArg, opAt, monoidArg, monoidAt}
-use Rattle.form_words.specs.Packing.{places, next, nodeAt}
+use Rattle.form_words.specs.Packing.{next, nodeAt}
 use Rattle.form_words.specs.Tree.{left}
 use Rattle.form_words.specs.Flat.{size, sizeF}
+use Rattle.base_scratch.specs.Map.{places}
 use Rattle.form_words.proofs.ReadBack.{size-some}
 use Rattle.form_arith.specs.declared.Sort.the-variants as So
 use Rattle.form_arith.specs.Sorts.{resultSort}
@@ -26,7 +27,7 @@ use Rattle.plan_marks.specs.Marks.{markAt}
 use Rattle.plan_marks.specs.PlanIn.{termIn}
 use Rattle.plan_marks.proofs.Lies.{Lies, LiesF}
 use Rattle.exec_machine.specs.Text.{wordsTo, parts, said}
-use Rattle.exec_terms.specs.Kept.{keptOf}
+use Rattle.exec_state.specs.Cursors.{endIn}
 use Rattle.exec_terms.specs.Walk.{wordsAt, goOn}
 use Rattle.exec_terms.proofs.Saying.{words-cut, partsIn, walkableBy, Walkable}
 use Rattle.exec_terms.proofs.Heads.{Single, single-comp, own-part, one-slot, term-at, term-same, parts-at, parts-in, parts-end, head-parts}
@@ -53,7 +54,7 @@ module _ (lim : ℕ) (s : List ℕ) (r : Row) (b F : ℕ) (P : Point) (enough : 
 
   -- the collection at j stands there, and ends where its kept word says
   abbrev pub Stood : List PTerm → ℕ → Type 0
-  Stood ts j = behind (ts ++ termIn F s j ∷ []) ≡ goOn (keptOf s j) (behind ts)
+  Stood ts j = behind (ts ++ termIn F s j ∷ []) ≡ goOn (endIn s j) (behind ts)
 
   behind-more : (t : PTerm) (ts : List PTerm) → lays lim (cutWords (evalP t r)) (behind ts) ≡ behind (ts ++ t ∷ [])
   unfolding said bindL
@@ -95,7 +96,7 @@ module _ (lim : ℕ) (s : List ℕ) (r : Row) (b F : ℕ) (P : Point) (enough : 
       go (Sh.Record c) w e z = absurd w
       go Sh.Collection w e z =
           let S : Stood ts i = subst (λ (l : List PTerm). Stood l i) (append-nil ts) (a i refl z e [] (λ g y. parts-end s g i)) in
-          (laid ∙ S, rest (goOn (keptOf s i) (behind ts)) (sym S))
+          (laid ∙ S, rest (goOn (endIn s i) (behind ts)) (sym S))
 
   -- ---- all
   mutual

@@ -12,9 +12,10 @@ use Rattle.spec_normal_form.specs.Bound.{within, withinF}
 use Rattle.spec_normal_form.proofs.Bounds.{within-fields, within-field}
 use Rattle.spec_plan.specs.Operators.{Row}
 use Rattle.base_syntax.specs.Numbers.{binOf, opArg, opAt}
-use Rattle.form_words.specs.Packing.{places, next, nodeAt}
+use Rattle.form_words.specs.Packing.{next, nodeAt}
 use Rattle.form_words.specs.Tree.{left}
 use Rattle.form_words.specs.Flat.{size, sizeF}
+use Rattle.base_scratch.specs.Map.{places}
 use Rattle.form_words.proofs.ReadBack.{size-some}
 use Rattle.form_arith.specs.declared.Sort.the-variants as So
 use Rattle.form_arith.specs.Sorts.{resultSort}

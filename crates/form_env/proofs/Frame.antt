@@ -5,7 +5,8 @@ use Prim.Native.Nat.{ℕ, zero, suc, _+_, min}
 use lib.Dec.{leb}
 use Rattle.spec_calculus.specs.Lists.{pick}
 use Rattle.spec_normal_form.specs.Form.{fnil, fcons}
-use Rattle.form_words.specs.Packing.{places, wordAt, belowOf, next, nodeOf, nodeAt}
+use Rattle.base_scratch.specs.Map.{places}
+use Rattle.form_words.specs.Packing.{wordAt, belowOf, next, nodeOf, nodeAt}
 use Rattle.form_words.specs.Tree.{clauseOf, formBy, clausesBy, headBy, formTree, formsTree, clausesTree, headTree}
 
 module _ (s t : List ℕ) (w : (i : ℕ) → wordAt s i ≡ wordAt t i) where

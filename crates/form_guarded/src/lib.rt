@@ -9,6 +9,7 @@ ghost use Rattle.base_syntax.specs.Word.{monoidOf};
 ghost use Rattle.base_syntax.specs.Numbers.{binOf};
 ghost use Rattle.form_arith.specs.Sorts.{operateBound};
 ghost use Rattle.form_guarded.specs.Guarded.{mergeRoom, Operates, Merges};
+use base_signed::NUMBER_LIMIT;
 use base_syntax::Monoid;
 use base_syntax::Op;
 
@@ -42,10 +43,10 @@ fn magnitude(x: i64) -> u64
 fn sum_fits(x: u64, y: u64) -> bool
     ensures { λ r. ⌜ r ≡ leb (x + y) (2 ^ 62) ⌝ }
 {
-    if 4611686018427387904 < x {
+    if NUMBER_LIMIT < x {
         return false;
     }
-    y <= 4611686018427387904 - x
+    y <= NUMBER_LIMIT - x
 }
 
 // Without a division where both are cells' magnitudes.
@@ -60,7 +61,7 @@ fn product_fits(x: u64, y: u64) -> bool
     if y == 0 {
         return true;
     }
-    x <= 4611686018427387904 / y
+    x <= NUMBER_LIMIT / y
 }
 
 fn bounded(o: Op, x: u64, y: u64) -> bool

@@ -9,7 +9,7 @@ use Rattle.spec_encoding.specs.Data.{readData}
 use Rattle.spec_normal_form.specs.Form.{asForm}
 use Rattle.spec_outcome.specs.Accepted.{Accepted, judge}
 use Rattle.base_tables.specs.Reading.{Stored}
-use Rattle.form_words.specs.Packing.{formAt, places}
+use Rattle.base_scratch.specs.Map.{formAt, places, scratchSize}
 use Rattle.form_words.specs.Flat.{Fits, Holds, flat}
 
 -- "A question is accepted over tables where the checker, with scratch enough, answers 0": the checks' result is a
@@ -21,4 +21,4 @@ pub record Prepared (d : Bytes) (a : Accepted) (s : List ℕ) : Type 0 where
   pub few : length (flat (asForm (a .form))) ≤ places
   pub held : Holds s 0 (flat (asForm (a .form)))
   pub blank : (j : ℕ) → 16 ≤ j → j < formAt → getD s j 0 ≡ 0
-  pub long : 8192 ≤ length s
+  pub long : scratchSize ≤ length s

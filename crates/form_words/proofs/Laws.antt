@@ -24,7 +24,8 @@ use Rattle.form_words.specs.declared.Leaf.{Leaf}
 use Rattle.form_words.specs.declared.Leaf.the-variants as Le
 use Rattle.form_words.specs.declared.Clause.{Clause}
 use Rattle.form_words.specs.declared.Clause.the-variants as Cl
-use Rattle.form_words.specs.Packing.{places, wordAt, kindOf, belowOf, argOf, pack, next, numberOf, kinds, nodeOf, nodeAt}
+use Rattle.form_words.specs.Packing.{wordAt, kindOf, belowOf, argOf, pack, next, numberOf, kinds, nodeOf, nodeAt}
+use Rattle.base_scratch.specs.Map.{places}
 use Rattle.form_words.specs.Tree.{formBy, clauseOf, clausesBy, headBy, formTree, formsTree, clausesTree, headTree}
 use Rattle.form_words.specs.Head as Hd
 use Rattle.form_words.specs.Look.{Inside, Looks, leafOf, LeafAt, LooksC}

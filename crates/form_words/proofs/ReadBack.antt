@@ -20,9 +20,10 @@ use Rattle.base_syntax.specs.Numbers.{binOf, opArg, opAt, monoidArg, monoidAt}
 use Rattle.form_words.specs.declared.Node.{Node}
 use Rattle.form_words.specs.declared.Node.the-variants.{Number, Truth, Row, Cell, Record, Binary, Negation, Comprehension, Generator, Condition}
 use Rattle.form_words.specs.declared.Clause.the-variants as Cl
-use Rattle.form_words.specs.Packing.{places, wordAt, kindOf, belowOf, argOf, pack, next, numberOf, nodeOf, nodeAt}
+use Rattle.form_words.specs.Packing.{wordAt, kindOf, belowOf, argOf, pack, next, numberOf, nodeOf, nodeAt}
 use Rattle.form_words.specs.Tree.{clauseOf, formTree, formsTree, clausesTree, headTree, left}
 use Rattle.form_words.specs.Flat.{size, sizeF, sizeC, numberArg, flat, flatF, flatC, Fits, FitsF, FitsC, Holds}
+use Rattle.base_scratch.specs.Map.{places}
 use Rattle.form_words.proofs.Laws.{kind-pack, below-pack, arg-pack, formNode, clausesNode, headNode}
 
 -- ---- how many words

@@ -10,7 +10,8 @@ use Rattle.form_words.specs.declared.Leaf.{Leaf}
 use Rattle.form_words.specs.declared.Leaf.the-variants as Le
 use Rattle.form_words.specs.declared.Clause.{Clause}
 use Rattle.form_words.specs.declared.Clause.the-variants as Cl
-use Rattle.form_words.specs.Packing.{places, nodeAt}
+use Rattle.base_scratch.specs.Map.{places}
+use Rattle.form_words.specs.Packing.{nodeAt}
 use Rattle.form_words.specs.Tree.{clauseOf}
 
 abbrev pub Inside : ℕ → Node → Type 0

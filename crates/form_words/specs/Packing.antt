@@ -9,15 +9,9 @@ use lib.ListN.{getD}
 use lib.IntN.{ℤ, pos, negsuc}
 use Rattle.spec_calculus.specs.Lists.{pick}
 use Rattle.base_syntax.specs.Numbers.{opAt, monoidAt}
+use Rattle.base_scratch.specs.Map.{formAt, places}
 use Rattle.form_words.specs.declared.Node.{Node}
 use Rattle.form_words.specs.declared.Node.the-variants.{Number, Truth, Row, Cell, Record, Binary, Negation, Comprehension, Generator, Condition, Nothing}
-
--- the words of the normal form stand in scratch from this word on, at most 512 of them
-abbrev pub formAt : ℕ
-formAt = 1296
-
-abbrev pub places : ℕ
-places = 512
 
 abbrev pub wordAt : List ℕ → ℕ → ℕ
 wordAt s i = getD s (formAt + i) 0

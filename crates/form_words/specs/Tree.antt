@@ -11,7 +11,8 @@ use Rattle.form_words.specs.declared.Node.{Node}
 use Rattle.form_words.specs.declared.Node.the-variants.{Number, Truth, Row, Cell, Record, Binary, Negation, Comprehension, Generator, Condition, Nothing}
 use Rattle.form_words.specs.declared.Clause.{Clause}
 use Rattle.form_words.specs.declared.Clause.the-variants as Cl
-use Rattle.form_words.specs.Packing.{places, next, nodeAt}
+use Rattle.base_scratch.specs.Map.{places}
+use Rattle.form_words.specs.Packing.{next, nodeAt}
 
 -- a form by its node: X reads the form at a place, L the forms between two places, Q the clauses from a place on, H the head
 -- behind the clauses from a place on

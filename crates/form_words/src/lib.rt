@@ -3,16 +3,16 @@
 ghost use mathlib.Core.Path.{_≡_};
 ghost use Prim.Native.Nat.{_+_, _%_, _<_, _^_};
 ghost use lib.ListN.{set};
-ghost use Rattle.form_words.specs.Packing.{formAt, wordAt, kindOf, belowOf, argOf, pack, next, numberOf};
+ghost use Rattle.form_words.specs.Packing.{wordAt, kindOf, belowOf, argOf, pack, next, numberOf};
+ghost use Rattle.base_scratch.specs.Map.{formAt};
 ghost use Rattle.form_words.specs.Look.{Looks, LeafAt, LooksC};
+use base_scratch::FORM;
+use base_scratch::FORM_WORDS;
+use base_scratch::load_at;
+use base_scratch::store_at;
 use base_syntax::Monoid;
 use base_syntax::OFFSET;
 use base_syntax::Op;
-
-// The words of the normal form stand from word 1,296 on, at most 512 of them.
-const FORM_AT: usize = 1296;
-
-const PLACES: usize = 512;
 
 // The kinds of nodes.
 pub const NUMBER: u64 = 1;
@@ -77,14 +77,7 @@ pub enum Clause {
 pub fn word(s: &[u64], i: usize) -> u64
     ensures { λ r. ⌜ r ≡ wordAt (now (s .entry)) i ⌝ }
 {
-    if s.len() <= FORM_AT {
-        return 0;
-    }
-    if i < s.len() - FORM_AT {
-        s[FORM_AT + i]
-    } else {
-        0
-    }
+    load_at(s, FORM, i)
 }
 
 // The fields of a word.
@@ -111,23 +104,19 @@ pub fn put_word(s: &mut [u64], i: usize, k: u64, below: u64, a: u64)
     requires { ⌜ (k < 16) × (below < 1024) × (a < 2 ^ 50) ⌝ }
     ensures { λ _. ⌜ now (s .exit) ≡ set (now (s .entry)) (formAt + i) (pack k below a) ⌝ }
 {
-    if FORM_AT < s.len() {
-        if i < s.len() - FORM_AT {
-            s[FORM_AT + i] = k + KINDS * (below + BELOWS * a);
-        }
-    }
+    store_at(s, FORM, i, k + KINDS * (below + BELOWS * a));
 }
 
 // The place behind the subtree at i.
 pub fn next(s: &[u64], i: usize) -> usize
     ensures { λ r. ⌜ r ≡ next (now (s .entry)) i ⌝ }
 {
-    if PLACES <= i {
-        return PLACES;
+    if FORM_WORDS <= i {
+        return FORM_WORDS;
     }
     let n = below(word(s, i));
     let e = i + 1 + n as usize;
-    if e < PLACES { e } else { PLACES }
+    if e < FORM_WORDS { e } else { FORM_WORDS }
 }
 
 pub fn number(a: u64) -> i64
@@ -147,7 +136,7 @@ pub fn low(a: u64) -> usize
 pub fn look(s: &[u64], i: usize) -> Node
     ensures { λ r. ⌜ Looks (now (s .entry)) i r ⌝ }
 {
-    if PLACES <= i {
+    if FORM_WORDS <= i {
         return Node::Nothing;
     }
     let w = word(s, i);
@@ -171,7 +160,7 @@ pub fn look(s: &[u64], i: usize) -> Node
 pub fn leaf_at(s: &[u64], i: usize) -> Leaf
     ensures { λ r. ⌜ LeafAt (now (s .entry)) i r ⌝ }
 {
-    if PLACES <= i {
+    if FORM_WORDS <= i {
         return Leaf::Other;
     }
     let w = word(s, i);
@@ -187,7 +176,7 @@ pub fn leaf_at(s: &[u64], i: usize) -> Leaf
 pub fn look_clause(s: &[u64], i: usize) -> Clause
     ensures { λ r. ⌜ LooksC (now (s .entry)) i r ⌝ }
 {
-    if PLACES <= i {
+    if FORM_WORDS <= i {
         return Clause::Head;
     }
     let w = word(s, i);

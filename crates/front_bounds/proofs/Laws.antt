@@ -24,8 +24,9 @@ use Rattle.form_words.specs.declared.Node.{Node}
 use Rattle.form_words.specs.declared.Node.the-variants.{Number, Truth, Row, Cell, Record, Binary, Negation, Comprehension, Generator, Condition, Nothing}
 use Rattle.form_words.specs.declared.Clause.{Clause}
 use Rattle.form_words.specs.declared.Clause.the-variants as Cl
-use Rattle.form_words.specs.Packing.{places, next}
+use Rattle.form_words.specs.Packing.{next}
 use Rattle.form_words.specs.Tree.{formTree, formsTree, clausesTree, headTree, left}
+use Rattle.base_scratch.specs.Map.{places}
 use Rattle.form_words.specs.Look.{Looks, LooksC}
 use Rattle.form_words.specs.Flat.{flat, Holds}
 use Rattle.form_words.specs.Flat as Fl

@@ -6,8 +6,9 @@ ghost use lib.IntN.{natAbs};
 ghost use Rattle.spec_normal_form.specs.Bound.{binBound};
 ghost use Rattle.base_syntax.specs.Word.{monoidOf};
 ghost use Rattle.base_syntax.specs.Numbers.{binOf};
-ghost use Rattle.form_words.specs.Packing.{places};
+ghost use Rattle.base_scratch.specs.Map.{places};
 ghost use Rattle.front_bounds.specs.Size.{cut, perGenerator, perHead, Checked, Unbounded, FormSize, ClausesSize, FormsFit, Verdict};
+use base_signed::NUMBER_LIMIT;
 use base_syntax::Monoid;
 use base_syntax::Op;
 use form_words::Clause;
@@ -16,9 +17,8 @@ use form_words::look;
 use form_words::look_clause;
 use form_words::next;
 
-const LIMIT: u64 = 4611686018427387904;
-
-const OVER: u64 = 4611686018427387905;
+// What is over it is cut to this.
+const OVER: u64 = NUMBER_LIMIT + 1;
 
 // A form's bound, cut at 2^62 + 1, and whether every number in the form is within 2^62.
 pub struct Size {
@@ -112,7 +112,7 @@ fn checked(bound: u64, inside: bool) -> Size
 {
     Size {
         bound: bound,
-        fits: both(bound <= LIMIT, inside),
+        fits: both(bound <= NUMBER_LIMIT, inside),
     }
 }
 

@@ -16,8 +16,9 @@ use Rattle.front_theory.specs.Emit.{puts}
 use Rattle.front_theory.specs.Emit as No
 use Rattle.front_theory.proofs.Counts.{sizes, flat-length}
 use Rattle.front_theory.proofs.Local.{sem-local}
-use Rattle.form_words.specs.Packing.{formAt, places, pack}
+use Rattle.form_words.specs.Packing.{pack}
 use Rattle.form_words.specs.Flat.{size, sizeF, sizeC, flat, flatF, flatC, Holds}
+use Rattle.base_scratch.specs.Map.{formAt, places}
 use Rattle.front_nodes.specs.Decode.{nodesOf}
 use Rattle.front_nodes.proofs.PostOrder.{post-order}
 use Rattle.front_resolve.specs.Place.{envOf, offsets}

@@ -16,9 +16,8 @@ use Rattle.spec_normal_form.specs.Size.{nodesC}
 use Rattle.front_theory.specs.Node.{Node, Nodes, nnum, ntruth, nname, nfield, nrec, nbin, nnegate, ncomp, ntable, ngen, nbind, ncond, nbad}
 use Rattle.front_theory.specs.Flat.{Env, Offsets, At, boundOf, qualOf, semOf, semAt, sem}
 use Rattle.front_theory.specs.Saturated.{limit}
-use Rattle.front_words.specs.Layout.{bindersAt}
+use Rattle.base_scratch.specs.Map.{bindersAt, formAt, sizesAt}
 use Rattle.front_words.specs.Packing.{nodeWord}
-use Rattle.form_words.specs.Packing.{formAt}
 use Rattle.front_sizes.specs.declared.Count.{Count}
 use Rattle.front_sizes.specs.Packing.{wordAt, secondPair, thirdPair, conditionCount, stored}
 use Rattle.front_nodes.specs.Decode.{most, depthAt, childrenOf, qualifiersOf, nodesOf, nodeBy}
@@ -138,7 +137,7 @@ module _ {s s′ : List ℕ} (H : Kept s s′) where
       go k false t = refl
 
   size-word : (x k : ℕ) → x < most → k < 2 → wordAt s′ x k ≡ wordAt s x k
-  size-word x k h l = H .same (784 + 2 * x + k) (omega arith)
+  size-word x k h l = H .same (sizesAt + 2 * x + k) (omega arith)
 
   count-kept : (x : ℕ) (v : Bool) → x < most → conditionCount s′ x v ≡ conditionCount s x v
   unfolding conditionCount

@@ -7,7 +7,7 @@ use lib.ListN.{length, getD, set, length-set}
 use lib.Seq.{getD-set-other, set-comm}
 use Rattle.front_theory.specs.Word.{Word, words}
 use Rattle.front_theory.specs.Emit.{State, state, puts}
-use Rattle.form_words.specs.Packing.{formAt}
+use Rattle.base_scratch.specs.Map.{formAt}
 use Rattle.front_emit.specs.Wrote.{packed, Buffer, buffer, put}
 
 -- ---- words one behind the other

@@ -15,7 +15,7 @@ use Rattle.spec_encoding.specs.Reader as Re
 use Rattle.front_theory.specs.Node.{Node, nnum, ntruth, nname, nfield, nrec, nbin, nnegate, ncomp, ntable, ngen, nbind, ncond, nbad}
 use Rattle.front_theory.specs.Saturated.{limit}
 use Rattle.front_theory.specs.Word.{words}
-use Rattle.form_words.specs.Packing.{places}
+use Rattle.base_scratch.specs.Map.{places}
 use Rattle.form_words.specs.Flat.{numberArg}
 use Rattle.front_words.specs.Packing.{argOf, nodeWord}
 use Rattle.front_words.specs.Tree.{numberOf, kindAt, argAt}

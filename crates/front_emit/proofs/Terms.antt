@@ -14,7 +14,7 @@ use Rattle.front_theory.specs.Flat.{Env, At, semsOf, levels}
 use Rattle.front_theory.specs.Word.{words, wordsF, wordsC}
 use Rattle.spec_normal_form.proofs.Fixed.{quote-binary}
 use Rattle.base_syntax.specs.declared.Monoid.{Monoid}
-use Rattle.form_words.specs.Packing.{places}
+use Rattle.base_scratch.specs.Map.{places}
 use Rattle.front_nodes.specs.Decode.{most, depthAt, childrenOf, nodesOf}
 use Rattle.front_nodes.specs.Look.{nth, Picks}
 use Rattle.front_nodes.specs.Levels.{AllAt, Level}

@@ -17,7 +17,7 @@ use Rattle.front_theory.specs.Flat.{Env, levels, enter, At, qualOf, clausesOf, 
 use Rattle.front_theory.specs.Word.{words, wordsF, wordsC}
 use Rattle.base_syntax.specs.declared.Monoid.{Monoid}
 use Rattle.base_syntax.specs.Word.{monoidOf}
-use Rattle.form_words.specs.Packing.{places}
+use Rattle.base_scratch.specs.Map.{places}
 use Rattle.front_sizes.specs.Packing.{conditionCount}
 use Rattle.front_nodes.specs.Decode.{most, depthAt, childrenOf, chain, qualifiersOf, nodesOf}
 use Rattle.front_nodes.specs.Levels.{AllAt, Levelled}

@@ -8,7 +8,7 @@ use Rattle.spec_normal_form.specs.Form.{Form}
 use Rattle.spec_normal_form.specs.Normal.{quote}
 use Rattle.front_theory.specs.Flat.{outside}
 use Rattle.front_theory.specs.Word.{words}
-use Rattle.form_words.specs.Packing.{formAt, places}
+use Rattle.base_scratch.specs.Map.{formAt, places}
 use Rattle.form_words.specs.Flat.{size, flat, Holds}
 use Rattle.front_nodes.specs.Decode.{depthAt}
 use Rattle.front_emit.specs.Start.{semS, Ready}

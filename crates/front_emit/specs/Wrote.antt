@@ -12,8 +12,9 @@ use Rattle.front_theory.specs.Flat.{Env, At}
 use Rattle.front_theory.specs.Word.{Label, Word, wnum, wtruth, wrow, wcell, wrec, wnegate, wcond, wbin, wcomp, wgen}
 use Rattle.front_theory.specs.Emit.{state, tellC, Emits, EmitsF, EmitsC, EmitsG, EmitsN, EmitsQ}
 use Rattle.front_theory.specs.Emit as No
-use Rattle.form_words.specs.Packing.{formAt, pack}
+use Rattle.form_words.specs.Packing.{pack}
 use Rattle.form_words.specs.Flat.{numberArg}
+use Rattle.base_scratch.specs.Map.{formAt}
 use Rattle.front_emit.specs.declared.State.{State}
 use Rattle.base_syntax.specs.Numbers.{opArg, monoidArg}
 

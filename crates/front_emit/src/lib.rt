@@ -9,7 +9,7 @@ ghost use Rattle.front_theory.specs.Flat.{levels};
 ghost use Rattle.front_theory.specs.Saturated.{limit};
 ghost use Rattle.base_syntax.specs.Word.{monoidOf};
 ghost use Rattle.base_syntax.specs.declared.Monoid.the-variants as Monoid;
-ghost use Rattle.form_words.specs.Packing.{places};
+ghost use Rattle.base_scratch.specs.Map.{places};
 ghost use Rattle.front_nodes.specs.Decode.{chain, nodesOf, qualifiersOf};
 ghost use Rattle.base_syntax.specs.declared.Op.the-variants as Op;
 ghost use Rattle.front_resolve.specs.Place.{under, envOf};

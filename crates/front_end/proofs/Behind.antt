@@ -17,7 +17,7 @@ use Rattle.spec_outcome.proofs.Judging.{judged-as, numbers-decide, passes}
 use Rattle.base_scratch.specs.Wiped.{Wiped}
 use Rattle.base_tables.specs.Reading.{Stored}
 use Rattle.base_tables.proofs.Laws.{tables-most}
-use Rattle.form_words.specs.Packing.{formAt, places}
+use Rattle.base_scratch.specs.Map.{formAt, places}
 use Rattle.form_words.specs.Flat.{Fits, Holds, flat}
 use Rattle.form_words.proofs.ReadBack.{length-flat, words-nodes, holds-kept}
 use Rattle.front_emit.specs.Whole.{Writable, WritesForm}

@@ -12,7 +12,7 @@ use Rattle.spec_encoding.specs.Record.{Bytes}
 use Rattle.spec_encoding.specs.Reader.{Kind, kinds, unknown, number, truthK, nameK, fieldK, record′, not, tableK, comprehension, generator, binding, condition, two-terms}
 use Rattle.spec_checks.specs.Scope.{namesHold}
 use Rattle.base_tables.proofs.Laws.{tables-most}
-use Rattle.front_words.specs.Layout.{nodesAt, bindersAt, shapesAt}
+use Rattle.base_scratch.specs.Map.{nodesAt, bindersAt, shapesAt}
 use Rattle.front_words.specs.Packing.{kindOf as kindIn, argOf, nodeWord}
 use Rattle.front_words.specs.Tree.{kindAt, argAt}
 use Rattle.front_words.proofs.Laws.{laid-same}

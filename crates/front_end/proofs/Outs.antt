@@ -12,6 +12,7 @@ use Rattle.spec_encoding.specs.Data.{readData}
 use Rattle.spec_encoding.specs.Reader.{readQuestion}
 use Rattle.spec_encoding.proofs.Refusals.{Only, data-only, question-only}
 use Rattle.spec_outcome.proofs.Judging.{data-refused, question-refused, judged-as, names-decide, types-decide, generators-decide, size-decides}
+use Rattle.base_scratch.specs.Map.{scratchSize}
 use Rattle.base_tables.specs.Reading.{ReadsData}
 use Rattle.base_tables.proofs.Laws.{tables-most, WellFormed, well-formed, not-well-formed, kept-word}
 use Rattle.front_parser.specs.Reads.{Held, QuestionBy, QuestionRead}
@@ -112,7 +113,7 @@ module _ {d : Bytes} {s t : List ℕ} {z : ℕ} (D : ReadsData d s t z) where
         record { is = (question-refused d l (well-formed D y .is) k, question-low l k); away = both-away }
 
     module _ (W : WellFormed d) {n : ℕ} (H : Held (readQuestion l) u n) where
-      loaded : 8192 ≤ length s → Loaded d (W .tables) (H .question) u n
+      loaded : scratchSize ≤ length s → Loaded d (W .tables) (H .question) u n
       loaded room =
           let m = tables-most d (W .is) in
           let S = D .stored (W .tables) (W .is) (omega (arith, room)) in
@@ -133,7 +134,7 @@ module _ {d : Bytes} {s t : List ℕ} {z : ℕ} (D : ReadsData d s t z) where
       carried v (Front.Refused k) p = (judged-as d l (W .is) (H .is) ∙ p .0, p .1)
       carried v (Front.Nodes m) p = record { tables = W .tables; question = H .question; asked = H .is; passed = p }
 
-    pub question-right : 8192 ≤ length s → {n : ℕ} → x ≡ Answer.Question n → {v : List ℕ} {r : Front} → FromNames u v n r → Fronted d l s v r
+    pub question-right : scratchSize ≤ length s → {n : ℕ} → x ≡ Answer.Question n → {v : List ℕ} {r : Front} → FromNames u v n r → Fronted d l s v r
     question-right room {n} e {v} {r} F =
         let W = well-formed D y in
         let H : Held (readQuestion l) u n = subst (QuestionBy (readQuestion l) u) e (Q .is) in

@@ -10,7 +10,7 @@ use Rattle.spec_encoding.specs.Record.{Bytes, got}
 use Rattle.spec_encoding.specs.Data.{readData}
 use Rattle.spec_checks.specs.Scope.{namesHold}
 use Rattle.base_tables.specs.Reading.{Stored}
-use Rattle.front_words.specs.Layout.{bindersAt}
+use Rattle.base_scratch.specs.Map.{bindersAt, unusedAt, scratchSize}
 use Rattle.front_words.specs.Tree.{kindAt, argAt}
 use Rattle.front_words.specs.Laid.{nodes, Laid}
 use Rattle.front_scope.specs.Pass.{Small}
@@ -27,7 +27,7 @@ pub record Loaded (d : Bytes) (T : Tables) (q : Question) (s : List ℕ) (n : �
   pub few : n ≤ 256
   pub small : Small (asTerm q)
   pub deep : nesting (asTerm q) ≤ 32
-  pub long : 8192 ≤ length s
+  pub long : scratchSize ≤ length s
 
 -- its names hold, and the word of each name that it binds has the node that binds it
 pub record Ready (d : Bytes) (T : Tables) (q : Question) (s : List ℕ) (n : ℕ) : Type 0 where
@@ -38,4 +38,4 @@ pub record Ready (d : Bytes) (T : Tables) (q : Question) (s : List ℕ) (n : ℕ
 -- the words behind those of the question stay
 pub record Apart (s s′ : List ℕ) : Type 0 where
   pub long : length s′ ≡ length s
-  pub above : (j : ℕ) → 2048 ≤ j → getD s′ j 0 ≡ getD s j 0
+  pub above : (j : ℕ) → unusedAt ≤ j → getD s′ j 0 ≡ getD s j 0

@@ -1,9 +1,13 @@
 // From bytes to an accepted question in scratch: the passes in document 01's order of refusals.
 ghost use Prim.Native.Nat.{_-_, _≤_};
 ghost use lib.ListN.{length};
+ghost use Rattle.base_scratch.specs.Map.{scratchSize};
 ghost use Rattle.front_emit.specs.Whole.{Writable};
 ghost use Rattle.front_end.specs.Front.{FromSizes, FromTypes, FromNames, Fronted};
 ghost use Rattle.front_end.specs.Prepares.{FromForm, Prepares};
+use base_scratch::FORM;
+use base_scratch::FORM_WORDS;
+use base_scratch::NODES;
 use front_parser::Read;
 
 // The number of the question's nodes, or the refusal.
@@ -25,7 +29,7 @@ fn sized(s: &mut [u64], n: usize) -> Front
 {
     front_measure::measure(s, n);
     let z = front_measure::size(s, n);
-    if 512 < z {
+    if (FORM_WORDS as u64) < z {
         return Front::Refused(base_refusals::NORMAL_FORM_TOO_LARGE);
     }
     Front::Nodes(n)
@@ -62,7 +66,7 @@ fn judged(s: &mut [u64], n: usize) -> Front
 
 // The data, then 21 to 23, then 24 to 27: the checks but the last, in their order.
 pub fn front_end(d: &[u8], l: &[u8], s: &mut [u64]) -> Front
-    requires { ⌜ 8192 ≤ length (now s) ⌝ }
+    requires { ⌜ scratchSize ≤ length (now s) ⌝ }
     ensures { λ r. ⌜ Fronted (now (d .entry)) (now (l .entry)) (now (s .entry)) (now (s .exit)) r ⌝ }
 {
     let z = base_tables::read_data(d, s);
@@ -85,13 +89,13 @@ fn formed(s: &mut [u64], n: usize) -> Checked
     if !a {
         return Checked::Refused(base_refusals::NUMBER_OUT_OF_BOUNDS);
     }
-    base_scratch::wipe(s, 16, 1296);
+    base_scratch::wipe(s, NODES, FORM);
     Checked::Accepted
 }
 
 // All checks, in their order.
 pub fn prepare(d: &[u8], l: &[u8], s: &mut [u64]) -> Checked
-    requires { ⌜ 8192 ≤ length (now s) ⌝ }
+    requires { ⌜ scratchSize ≤ length (now s) ⌝ }
     ensures { λ r. ⌜ Prepares (now (d .entry)) (now (l .entry)) (now (s .entry)) (now (s .exit)) r ⌝ }
 {
     match front_end(d, l, s) {

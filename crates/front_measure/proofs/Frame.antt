@@ -9,7 +9,7 @@ use lib.ListN.{getD}
 use Rattle.spec_calculus.specs.Lists.{pick}
 use Rattle.spec_calculus.specs.Syntax.{Collection}
 use Rattle.front_theory.specs.Node.{Node, Nodes, nnum, ntruth, nname, nfield, nrec, nbin, nnegate, ncomp, ntable, ngen, nbind, ncond, nbad, Inside}
-use Rattle.front_words.specs.Layout.{nodesAt, bindersAt, sizesAt}
+use Rattle.base_scratch.specs.Map.{nodesAt, bindersAt, sizesAt}
 use Rattle.front_words.specs.Tree.{startAt}
 use Rattle.front_sizes.specs.declared.Count.{Count}
 use Rattle.front_nodes.specs.Decode.{most, depthAt, nodesOf}

@@ -9,7 +9,7 @@ use lib.ListN.{length, getD, set, length-set}
 use borrow.Author.Tests.{ltb-true, ltb-false}
 use Rattle.spec_calculus.specs.Lists.{pick}
 use Rattle.spec_calculus.specs.Syntax.{Collection}
-use Rattle.front_words.specs.Layout.{sizesAt}
+use Rattle.base_scratch.specs.Map.{sizesAt}
 use Rattle.base_signed.proofs.Word.{by-test}
 use Rattle.front_sizes.specs.declared.Count.{Count}
 use Rattle.front_sizes.specs.Packing.{place, wordAt, pack, Small, firstPair, secondPair, thirdPair, conditionCount, splicedCount, stored}

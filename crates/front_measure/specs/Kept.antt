@@ -6,7 +6,7 @@ use Prim.Native.Nat.{ℕ, _<_, _≤_}
 use lib.ListN.{length, getD}
 use Rattle.spec_calculus.specs.Syntax.{Collection}
 use Rattle.front_theory.specs.Node.{Nodes}
-use Rattle.front_words.specs.Layout.{sizesAt}
+use Rattle.base_scratch.specs.Map.{sizesAt}
 use Rattle.front_sizes.specs.declared.Count.{Count}
 use Rattle.front_sizes.specs.Packing.{place, termCount, conditionCount, splicedCount, stored}
 use Rattle.front_nodes.specs.Decode.{most, depthAt, nodesOf}

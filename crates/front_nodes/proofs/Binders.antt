@@ -7,12 +7,13 @@ use native.Mathlib.Omega.{arith}
 use Rattle.spec_calculus.specs.Syntax.{Term, Terms, Quals, num, truth, name, field, rec, bin, negate, comp, table, tnil, tcons, qnil, gen, bind, cond, Question, asTerm}
 use Rattle.spec_encoding.specs.Reader.{Kind, unknown, number, truthK, nameK, fieldK, record′, not, tableK, comprehension, generator, binding, condition, two-terms}
 use lib.ListN.{getD}
-use Rattle.front_words.specs.Layout.{bindersAt}
+use Rattle.base_scratch.specs.Map.{bindersAt}
 use Rattle.front_words.specs.Tree.{kindAt, argAt}
 use Rattle.front_words.specs.Laid.{nodes, nodesL, nodesQ, Laid, LaidL, LaidQ}
-use Rattle.front_nodes.specs.Decode.{most, binderWord}
+use Rattle.front_words.specs.Binders.{binderWord}
+use Rattle.front_nodes.specs.Decode.{most}
 use Rattle.front_nodes.specs.Tree.{BindersAt, BindersAtL, BindersAtQ, BindersRight}
-use Rattle.front_nodes.proofs.Laws.{binder-at}
+use Rattle.front_words.proofs.Laws.{binder-at}
 
 -- what binds a name
 abbrev pub Binding : Kind → Type 0

@@ -14,7 +14,8 @@ use Rattle.front_words.specs.Packing.{pack}
 use Rattle.front_words.specs.Laid.{nodes, Laid}
 use Rattle.front_theory.specs.Node as No
 use Rattle.front_theory.specs.Tree.{noNames, Holds}
-use Rattle.front_nodes.specs.Decode.{depthAt, binderWord, siblings, chainUpto, above, nameBy, nodesOf}
+use Rattle.front_words.specs.Binders.{binderWord}
+use Rattle.front_nodes.specs.Decode.{depthAt, siblings, chainUpto, above, nameBy, nodesOf}
 use Rattle.front_nodes.specs.Tree.{BindersRight, nesting}
 use Rattle.front_nodes.proofs.Holds.{laid-holds}
 

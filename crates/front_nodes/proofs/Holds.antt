@@ -16,7 +16,8 @@ use Rattle.front_words.proofs.Laws.{some-nodes, laid-start, truth-bit}
 use Rattle.front_theory.specs.Node as No
 use Rattle.front_theory.specs.Flat.{levels}
 use Rattle.front_theory.specs.Tree.{Slot, Slots, slot, noNames, firstOf, restOf, behind, Holds, HoldsL, HoldsQ}
-use Rattle.front_nodes.specs.Decode.{most, depthAt, binderWord, siblings, childrenOf, chain, qualifiersOf, above, nameBy, nodeBy, nodesOf}
+use Rattle.front_words.specs.Binders.{binderWord}
+use Rattle.front_nodes.specs.Decode.{most, depthAt, siblings, childrenOf, chain, qualifiersOf, above, nameBy, nodeBy, nodesOf}
 use Rattle.front_nodes.specs.Tree.{BindersAt, BindersAtL, BindersAtQ, BindersRight, nesting, nestingL, nestingQ}
 use Rattle.front_nodes.proofs.PostOrder.{by-pick}
 use Rattle.front_nodes.proofs.Chain.{chain-none, chain-more}

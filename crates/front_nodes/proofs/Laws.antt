@@ -23,7 +23,7 @@ use Rattle.spec_encoding.specs.Reader.{kinds, unknown}
 use Rattle.spec_encoding.specs.Reader as Re
 use Rattle.base_syntax.specs.declared.Monoid.{Monoid}
 use Rattle.base_syntax.specs.Word.{monoidOf}
-use Rattle.front_words.specs.Layout.{bindersAt}
+use Rattle.base_scratch.specs.Map.{bindersAt}
 use Rattle.front_words.specs.Packing.{kindOf, argOf, nodeWord}
 use Rattle.front_words.specs.Tree.{numberOf, monoidAt, kindAt, argAt, startAt}
 use Rattle.front_theory.specs.Node as No
@@ -35,8 +35,9 @@ use Rattle.front_nodes.specs.declared.Node.{Node}
 use Rattle.front_nodes.specs.declared.Node.the-variants.{Number, Truth, Name, Field, Record, Two, Not, Comp, Table, Gen, Bind, Cond, Bad}
 use Rattle.front_nodes.specs.declared.Found.the-variants.{At, Nothing}
 use Rattle.front_nodes.specs.declared.Binder.the-variants as Bi
-use Rattle.front_nodes.specs.Decode.{most, depthAt, binderWord, siblings, qualifiersOf, above, nameBy, nodeBy, nodesOf}
+use Rattle.front_nodes.specs.Decode.{most, depthAt, siblings, qualifiersOf, above, nameBy, nodeBy, nodesOf}
 use Rattle.front_nodes.specs.Look.{kindNamed, nodeNamed, Small, Looks, Named, Raised, nth, Picks, Unbinding, BoundBy}
+use Rattle.front_words.specs.Binders.{binderWord}
 use Rattle.front_nodes.proofs.PostOrder.{by-pick, post-order}
 
 -- ---- kinds, monoids, numbers
@@ -55,18 +56,6 @@ past-all b k (suc n) h m = let q = past-all b k n h (m .0) in let r = m .1 in om
 pub no-kind : (k : ℕ) → Missed 0 k 18 → unknown ≡ getD kinds k unknown
 no-kind zero m = refl
 no-kind (suc k) m = let h : 19 ≤ suc k = omega (arith, past-all 0 (suc k) 18 (omega arith) m) in sym (List·getD-eq-default kinds unknown h)
-
-pub far-binder : (s : List ℕ) (x : ℕ) → most ≤ x → 0 ≡ binderWord s x
-unfolding binderWord pick
-far-binder s x h = rw (le-ltb x most h)
-
-module _ (s : List ℕ) (x : ℕ) (h : x < most) where
-  pub binder-at : getD s (bindersAt + x) 0 ≡ binderWord s x
-  unfolding binderWord pick
-  binder-at = rw (lt-ltb x most h)
-
-  pub no-binder : length s ≤ bindersAt + x → 0 ≡ binderWord s x
-  no-binder l = sym (List·getD-eq-default s 0 l) ∙ binder-at
 
 small-number : (a : ℕ) → a < 8589934592 → mag (numberOf a) < 2 ^ 33
 small-number a h = go (ltb a 0x80000000)

@@ -13,7 +13,8 @@ use Rattle.front_words.specs.Tree.{monoidAt, argAt, startAt}
 use Rattle.front_words.specs.Laid.{nodes, nodesL, nodesQ, Node, Laid, LaidL, LaidQ}
 use Rattle.front_words.proofs.Laws.{laid-start}
 use Rattle.front_theory.specs.Node as No
-use Rattle.front_nodes.specs.Decode.{most, depthAt, binderWord, childrenOf, qualifiersOf, above, nameBy, nodeBy, nodesOf}
+use Rattle.front_words.specs.Binders.{binderWord}
+use Rattle.front_nodes.specs.Decode.{most, depthAt, childrenOf, qualifiersOf, above, nameBy, nodeBy, nodesOf}
 use Rattle.front_nodes.specs.Levels.{AllAt, Level, Levelled}
 use Rattle.front_nodes.proofs.PostOrder.{by-pick}
 use Rattle.front_nodes.proofs.Holds.{node-is, node-at, lastsL, lastsQ, children-are, qualifiers-are}

@@ -10,11 +10,12 @@ use lib.Seq.{getD-set-other}
 use borrow.Author.Tests.{ltb-true, leb-true}
 use Rattle.spec_calculus.specs.Lists.{pick}
 use Rattle.spec_encoding.specs.Reader.{Kind, kinds, unknown, number, truthK, nameK, fieldK, record′, not, tableK, comprehension, generator, binding, condition, two-terms}
-use Rattle.front_words.specs.Layout.{nodesAt, bindersAt, shapesAt}
+use Rattle.base_scratch.specs.Map.{nodesAt, bindersAt, shapesAt}
 use Rattle.front_words.specs.Packing.{kindOf, argOf, startOf, depthOf, nodeWord}
 use Rattle.front_words.specs.Tree.{numberOf, monoidAt, kindAt, argAt, startAt}
 use Rattle.front_theory.specs.Node.{Node, nnum, ntruth, nname, nfield, nrec, nbin, ncomp, ntable, nbad}
-use Rattle.front_nodes.specs.Decode.{most, depthAt, binderWord, siblings, childrenOf, chainUpto, qualifiersOf, above, nameBy, nodeBy, nodesOf}
+use Rattle.front_words.specs.Binders.{binderWord}
+use Rattle.front_nodes.specs.Decode.{most, depthAt, siblings, childrenOf, chainUpto, qualifiersOf, above, nameBy, nodeBy, nodesOf}
 
 -- a test's two sides
 pick-same : {A : Type 0} (b : Bool) (y : A) {x x′ : A} → (b ≡ true → x ≡ x′) → pick b x y ≡ pick b x′ y

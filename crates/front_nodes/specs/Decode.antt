@@ -7,7 +7,8 @@ use lib.Dec.{leb, ltb, eqb}
 use lib.ListN.{getD}
 use Rattle.spec_calculus.specs.Lists.{pick}
 use Rattle.spec_encoding.specs.Reader.{Kind, unknown, number, truthK, nameK, fieldK, record′, not, tableK, comprehension, generator, binding, condition, two-terms}
-use Rattle.front_words.specs.Layout.{bindersAt}
+use Rattle.base_scratch.specs.Map.{mostNodes}
+use Rattle.front_words.specs.Binders.{binderWord}
 use Rattle.front_words.specs.Packing.{depthOf, nodeWord}
 use Rattle.front_words.specs.Tree.{numberOf, monoidAt, kindAt, argAt, startAt}
 use Rattle.front_theory.specs.Node.{Node, Nodes, nnum, ntruth, nname, nfield, nrec, nbin, nnegate, ncomp, ntable, ngen, nbind, ncond, nbad}
@@ -18,11 +19,7 @@ depthAt s i = depthOf (nodeWord s i)
 
 -- "a 257th record" is refused (23), so there are no more nodes and words of binders than this
 abbrev pub most : ℕ
-most = 256
-
--- one more than the node that binds name x; 0 where none does
-unfoldable pub binderWord : List ℕ → ℕ → ℕ
-binderWord s x = pick (ltb x most) (getD s (bindersAt + x) 0) 0
+most = mostNodes
 
 -- the n nodes one behind the other that end at e, in front of cs
 unfoldable pub siblings : List ℕ → ℕ → ℕ → List ℕ → List ℕ

@@ -5,7 +5,7 @@ use mathlib.Core.List.{List}
 use Prim.Native.Nat.{ℕ, suc, _+_, max}
 use Rattle.spec_calculus.specs.Syntax.{Term, Terms, Quals, num, truth, name, field, rec, bin, negate, comp, table, tnil, tcons, qnil, gen, bind, cond, Question, asTerm}
 use Rattle.front_words.specs.Laid.{nodes, nodesQ}
-use Rattle.front_nodes.specs.Decode.{binderWord}
+use Rattle.front_words.specs.Binders.{binderWord}
 
 -- The nodes from a on are those of a tree. For each name that it binds the binders' words hold its qualifier.
 abbrev mutual

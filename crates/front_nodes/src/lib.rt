@@ -4,8 +4,9 @@ ghost use Prim.Native.Nat.{_-_, _<_};
 ghost use lib.ListN.{getD};
 ghost use Rattle.spec_encoding.specs.Reader.{kinds, unknown};
 ghost use Rattle.front_words.specs.Tree.{numberOf};
-ghost use Rattle.front_nodes.specs.Decode.{depthAt, binderWord};
+ghost use Rattle.front_nodes.specs.Decode.{depthAt};
 ghost use Rattle.front_nodes.specs.Look.{kindNamed, Looks, Named, Raised, Picks, BoundBy};
+use base_scratch::MOST_NODES;
 use base_syntax::Monoid;
 use base_syntax::OFFSET;
 use base_syntax::Op;
@@ -56,12 +57,6 @@ pub enum Binder {
     Other,
 }
 
-// Where the binders' words begin.
-const BINDERS: usize = 272;
-
-// There are at most so many nodes, and so many words of binders.
-const MOST: usize = 256;
-
 fn kind_of(k: u64) -> Kind
     ensures { λ r. ⌜ kindNamed r ≡ getD kinds k unknown ⌝ }
 {
@@ -108,18 +103,6 @@ pub fn depth_at(s: &[u64], i: usize) -> usize
     front_words::depth(front_words::node_word(s, i)) as usize
 }
 
-// One more than the number of the node that binds name x; 0 where none does.
-fn binder_word(s: &[u64], x: u64) -> u64
-    ensures { λ r. ⌜ r ≡ binderWord (now (s .entry)) x ⌝ }
-{
-    let i = x as usize;
-    if MOST <= i {
-        return 0;
-    }
-    let j = BINDERS + i;
-    if j < s.len() { s[j] } else { 0 }
-}
-
 // The name at node i whose binder's word is w.
 fn named(s: &[u64], i: usize, w: u64) -> Node
     ensures { λ r. ⌜ Named (now (s .entry)) i w r ⌝ }
@@ -151,7 +134,7 @@ fn raised(i: usize, n: Node) -> Node
 pub fn look(s: &[u64], i: usize) -> Node
     ensures { λ r. ⌜ Looks (now (s .entry)) i r ⌝ }
 {
-    if MOST <= i {
+    if MOST_NODES <= i {
         return Node::Bad;
     }
     let w = front_words::node_word(s, i);
@@ -160,7 +143,7 @@ pub fn look(s: &[u64], i: usize) -> Node
     match kind_of(front_words::kind(w)) {
         Kind::Number => Node::Number(number(a)),
         Kind::Truth => Node::Truth(a == 1),
-        Kind::Name => named(s, i, binder_word(s, a)),
+        Kind::Name => named(s, i, front_words::binder_word(s, a)),
         Kind::Field => raised(i, Node::Field(a as usize, c)),
         Kind::Record => Node::Record,
         Kind::Two(o) => raised(i, Node::Two(o, prior(start_at(s, c)), c)),

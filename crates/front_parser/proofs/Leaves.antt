@@ -13,7 +13,7 @@ use Rattle.spec_calculus.specs.Lists.{pick}
 use Rattle.spec_calculus.specs.Syntax.{plus, minus, times, equal, less, and, or, Term, num, truth, name, table}
 use Rattle.spec_encoding.specs.Record.{Bytes, Result, refused, require, byte, two, four, signed, lengthOf, isWhole}
 use Rattle.spec_encoding.specs.Reader.{Kind, kinds, unknown, number, truthK, nameK, tableK, Reader, term, yields, noMore, content, atRecord, readPart}
-use Rattle.front_words.specs.Layout.{nodesAt}
+use Rattle.base_scratch.specs.Map.{nodesAt}
 use Rattle.front_words.specs.Packing.{pack}
 use Rattle.front_words.specs.Tree.{numberOf, argAt}
 use Rattle.front_words.specs.Laid.{nodes, Node, Laid}

@@ -10,7 +10,7 @@ use Rattle.spec_calculus.specs.Syntax.{Term, Terms, Quals, comp, Question, asTe
 use Rattle.spec_encoding.specs.Record.{Bytes, refused, andThen, require, lengthOf, contentOf}
 use Rattle.spec_encoding.specs.Reader as E
 use Rattle.spec_encoding.specs.Reader.{Kind, kinds, unknown, comprehension, Part, term, Reader, yields, comprehends, content, atRecord, readPart}
-use Rattle.front_words.specs.Layout.{nodesAt}
+use Rattle.base_scratch.specs.Map.{nodesAt}
 use Rattle.front_words.specs.Packing.{nodeWord}
 use Rattle.front_words.specs.Laid.{nodes, nodesL, nodesQ, Laid, LaidL, LaidQ}
 use Rattle.front_words.proofs.Laws.{three, laid-same, laid-same-terms, laid-same-quals}

@@ -4,7 +4,7 @@ use mathlib.Core.List.{List}
 use Prim.Native.Nat.{ℕ, _+_, _≤_, _<_}
 use lib.ListN.{length, getD, set}
 use Rattle.spec_encoding.specs.Reader.{kinds, unknown}
-use Rattle.front_words.specs.Layout.{nodesAt}
+use Rattle.base_scratch.specs.Map.{nodesAt, scratchSize}
 use Rattle.front_words.specs.Packing.{pack}
 use Rattle.front_words.specs.Tree.{argAt}
 use Rattle.front_words.specs.Laid.{Node}
@@ -21,13 +21,13 @@ pub record Kept (a : ℕ) (s s′ : List ℕ) : Type 0 where
 -- There is room for the nodes of the records that may still be begun, and for their depths: a level further down is at
 -- most one comprehension further in. `more` is 1 where a record has begun, whose own level is used up already.
 pub record Room (more : ℕ) (s : List ℕ) (p : Place) : Type 0 where
-  pub words : 8192 ≤ length s
+  pub words : scratchSize ≤ length s
   pub nodes : p .node + p .left ≤ 255
   pub deep : p .levels + p .depth + more ≤ 32
 
 -- node i may be put, for a record that begins at node p .node
 pub record Finishing (s : List ℕ) (k a : ℕ) (p : Place) (i : ℕ) : Type 0 where
-  pub words : 8192 ≤ length s
+  pub words : scratchSize ≤ length s
   pub kind : k < 32
   pub arg : a < 8589934592
   pub start : p .node ≤ i

@@ -11,7 +11,7 @@ use lib.Seq.{getD-set-same, getD-set-other}
 use borrow.Author.Tests.{lt-ltb, le-ltb, ltb-true, ltb-false, eqb-true, eqb-false, eq-eqb, ne-eqb}
 use Rattle.spec_calculus.specs.Lists.{pick}
 use Rattle.spec_encoding.specs.Reader.{Kind, kinds, unknown, number, truthK, nameK, fieldK, record′, not, tableK, comprehension, generator, binding, condition, two-terms}
-use Rattle.front_words.specs.Layout.{nodesAt, bindersAt}
+use Rattle.base_scratch.specs.Map.{nodesAt, bindersAt, shapesAt}
 use Rattle.front_words.specs.Packing.{kindOf, argOf, nodeWord}
 use Rattle.front_words.specs.Tree.{kindAt, argAt}
 use Rattle.front_scope.specs.Binders.{bindsName, cleared, noted, notedUpTo, bindersOf}
@@ -138,7 +138,7 @@ shifted x y = go (eqb x y) refl
     go false e = ne-eqb (bindersAt + x) (bindersAt + y) (λ p. eqb-false x y e (omega arith))
 
 module _ (x : ℕ) (small : x < 256) where
-  cleared-word : (s : List ℕ) → 528 ≤ length s → (k : ℕ) → x < k → k ≤ 256 → getD (cleared s k) (bindersAt + x) 0 ≡ 0
+  cleared-word : (s : List ℕ) → shapesAt ≤ length s → (k : ℕ) → x < k → k ≤ 256 → getD (cleared s k) (bindersAt + x) 0 ≡ 0
   unfolding cleared pick
   cleared-word s long zero h l = absurd (omega arith)
   cleared-word s long (suc k) h l =
@@ -149,7 +149,7 @@ module _ (x : ℕ) (small : x < 256) where
       go true e w = refl
       go false e w = let q = eqb-false k x e in w (omega arith)
 
-  noted-word : (s : List ℕ) → 528 ≤ length s → (i : ℕ) → getD (noted s i) (bindersAt + x) 0 ≡ pick (bindsName (kindAt s i) && eqb (argAt s i) x) (i + 1) (getD s (bindersAt + x) 0)
+  noted-word : (s : List ℕ) → shapesAt ≤ length s → (i : ℕ) → getD (noted s i) (bindersAt + x) 0 ≡ pick (bindsName (kindAt s i) && eqb (argAt s i) x) (i + 1) (getD s (bindersAt + x) 0)
   unfolding noted pick
   noted-word s long i = go (bindsName (kindAt s i)) (ltb (argAt s i) 256) refl
     where
@@ -162,7 +162,7 @@ module _ (x : ℕ) (small : x < 256) where
       go false b e = refl
 
   -- the word of x
-  pub binder-word : (s : List ℕ) → 528 ≤ length s → (n : ℕ) → n ≤ 256 → getD (bindersOf s n) (bindersAt + x) 0 ≡ binderOf s x n
+  pub binder-word : (s : List ℕ) → shapesAt ≤ length s → (n : ℕ) → n ≤ 256 → getD (bindersOf s n) (bindersAt + x) 0 ≡ binderOf s x n
   unfolding notedUpTo binderOf
   binder-word s long zero h = cleared-word s long 256 small (omega arith)
   binder-word s long (suc n) h =

@@ -15,7 +15,7 @@ use Rattle.spec_calculus.proofs.Lists.{All, all-append}
 use Rattle.spec_checks.specs.Scope.{inScope, binders, bindersL, bindersQ, member, distinct, namesHold}
 use Rattle.spec_encoding.specs.Reader.{Kind, kinds, unknown}
 use Rattle.front_words.specs.Laid.{nodes, nodesL, nodesQ, Node, Laid, LaidL, LaidQ}
-use Rattle.front_words.specs.Layout.{bindersAt}
+use Rattle.base_scratch.specs.Map.{bindersAt, shapesAt}
 use Rattle.front_words.specs.Packing.{kindOf, argOf}
 use Rattle.front_words.specs.Tree.{kindAt, argAt}
 use Rattle.front_scope.specs.Binders.{bindsName, boundBy, bindersOf}
@@ -183,7 +183,7 @@ module _ (s : List ℕ) (x : ℕ) where
       go false p false e ih = let q = eqb-false i n e in ih (omega arith) b
 
 -- 24 holds, so each binder is the only one of its name
-pub one-binder : {s : List ℕ} {d n : ℕ} (q : Question) → Laid s d 0 (asTerm q) → nodes (asTerm q) ≡ n → n ≤ 256 → 528 ≤ length s → namesHold q ≡ true →
+pub one-binder : {s : List ℕ} {d n : ℕ} (q : Question) → Laid s d 0 (asTerm q) → nodes (asTerm q) ≡ n → n ≤ 256 → shapesAt ≤ length s → namesHold q ≡ true →
     (i : ℕ) → i < n → bindsName (kindAt s i) ≡ true → argAt s i < 256 → getD (bindersOf s n) (bindersAt + argAt s i) 0 ≡ i + 1
 unfolding namesHold
 one-binder {s} {d} {n} q L e h long N i l b small =
@@ -226,7 +226,7 @@ of-all P (y ∷ l) x a h = go (eqb x y) refl h (of-all P l x (a .1))
     go false e p f = f p
 
 -- What `binders` leaves of words in which a question lies whose names hold: every node that binds a name is in the name's word.
-pub binders-right : {s : List ℕ} {d n : ℕ} (q : Question) → Laid s d 0 (asTerm q) → nodes (asTerm q) ≡ n → n ≤ 256 → 528 ≤ length s → namesHold q ≡ true → Small (asTerm q) →
+pub binders-right : {s : List ℕ} {d n : ℕ} (q : Question) → Laid s d 0 (asTerm q) → nodes (asTerm q) ≡ n → n ≤ 256 → shapesAt ≤ length s → namesHold q ≡ true → Small (asTerm q) →
     (i : ℕ) → i < n → bindsName (kindAt (bindersOf s n) i) ≡ true →
     (argAt (bindersOf s n) i < 256) × (getD (bindersOf s n) (bindersAt + argAt (bindersOf s n) i) 0 ≡ i + 1)
 binders-right {s} {d} {n} q L e h long N small i l b =

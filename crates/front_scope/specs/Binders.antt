@@ -1,12 +1,12 @@
--- For each name the node that binds it: word `bindersAt` + x is 1 + that node's number, and 0 where no node binds x.
+-- For each name the node that binds it.
 use mathlib.Core.List.{List, [], _∷_}
 use mathlib.Core.Bool.{Bool, true, false, _&&_}
 use Prim.Native.Nat.{ℕ, zero, suc, _+_}
 use lib.Dec.{ltb}
-use lib.ListN.{set}
 use Rattle.spec_calculus.specs.Lists.{pick, guard}
 use Rattle.spec_encoding.specs.Reader.{Kind, unknown, number, truthK, nameK, fieldK, record′, not, tableK, comprehension, generator, binding, condition, two-terms}
-use Rattle.front_words.specs.Layout.{bindersAt}
+use Rattle.base_scratch.specs.Map.{names}
+use Rattle.front_words.specs.Binders.{putBinder}
 use Rattle.front_words.specs.Tree.{kindAt, argAt}
 
 -- generators and bindings bind a name
@@ -32,15 +32,15 @@ boundBy s i = guard (bindsName (kindAt s i)) (argAt s i ∷ [])
 -- the first k of the words are 0
 unfoldable pub cleared : List ℕ → ℕ → List ℕ
 cleared s zero = s
-cleared s (suc k) = set (cleared s k) (bindersAt + k) 0
+cleared s (suc k) = putBinder (cleared s k) k 0
 
 -- node i is noted as the binder of its name
 unfoldable pub noted : List ℕ → ℕ → List ℕ
-noted s i = pick (bindsName (kindAt s i) && ltb (argAt s i) 256) (set s (bindersAt + argAt s i) (i + 1)) s
+noted s i = pick (bindsName (kindAt s i) && ltb (argAt s i) names) (putBinder s (argAt s i) (i + 1)) s
 
 unfoldable pub notedUpTo : List ℕ → ℕ → List ℕ
 notedUpTo s zero = s
 notedUpTo s (suc i) = noted (notedUpTo s i) i
 
 abbrev pub bindersOf : List ℕ → ℕ → List ℕ
-bindersOf s n = notedUpTo (cleared s 256) n
+bindersOf s n = notedUpTo (cleared s names) n

@@ -2,12 +2,13 @@
 ghost use mathlib.Core.Path.{_≡_};
 ghost use mathlib.Core.Bool.{false, _&&_};
 ghost use Prim.Native.Nat.{_+_, _≤_, _<_, _^_};
-ghost use lib.ListN.{length, getD, set};
+ghost use lib.ListN.{length, getD};
 ghost use Rattle.front_words.specs.Packing.{kindOf, nodeWord};
 ghost use Rattle.front_words.specs.Tree.{argAt};
 ghost use Rattle.front_scope.specs.Binders.{cleared, noted, bindersOf};
 ghost use Rattle.front_scope.specs.Pass.{names, Full, binds};
 ghost use Rattle.front_scope.specs.Words.{TermPassed, LeafPassed, OperandsPassed, CompPassed, TermsPassed, QualsPassed, QualPassed, Judged};
+use base_scratch::NAMES;
 use base_syntax::KIND_BINDING;
 use base_syntax::KIND_COMPREHENSION;
 use base_syntax::KIND_CONDITION;
@@ -18,10 +19,8 @@ use base_syntax::KIND_NOT;
 use base_syntax::KIND_OR;
 use base_syntax::KIND_PLUS;
 use base_syntax::KIND_RECORD;
+use front_words::put_binder;
 use front_words::start_at;
-
-// Where the words of the binders begin.
-const BINDERS: usize = 272;
 
 fn kind_at(s: &[u64], i: usize) -> u64
     ensures { λ r. ⌜ r ≡ kindOf (nodeWord (now (s .entry)) i) ⌝ }
@@ -199,22 +198,13 @@ pub fn names_hold(s: &[u64], n: usize) -> bool
     term(s, n, &mut seen, &mut scope, true)
 }
 
-// A word of the scratch gets a value. A store outside the scratch does nothing.
-fn put(s: &mut [u64], at: usize, v: u64)
-    ensures { λ _. ⌜ now (s .exit) ≡ set (now (s .entry)) at v ⌝ }
-{
-    if at < s.len() {
-        s[at] = v;
-    }
-}
-
 // No name has a binder.
 fn clear(s: &mut [u64])
     ensures { λ _. ⌜ now (s .exit) ≡ cleared (now (s .entry)) 256 ⌝ }
 {
     let mut x = 0;
-    while x < 256 {
-        put(s, BINDERS + x, 0);
+    while x < NAMES {
+        put_binder(s, x, 0);
         x += 1;
     }
 }
@@ -232,8 +222,8 @@ fn note(s: &mut [u64], i: usize)
     if KIND_BINDING < k {
         return;
     }
-    if x < 256 {
-        put(s, BINDERS + x as usize, i as u64 + 1);
+    if x < NAMES as u64 {
+        put_binder(s, x as usize, i as u64 + 1);
     }
 }
 

@@ -7,7 +7,7 @@ use mathlib.Core.Bool.{Bool}
 use Prim.Native.Nat.{ℕ, _+_, _*_, _/_, _%_, _<_}
 use lib.ListN.{getD}
 use Rattle.spec_calculus.specs.Lists.{pick}
-use Rattle.front_words.specs.Layout.{sizesAt}
+use Rattle.base_scratch.specs.Map.{sizesAt}
 use Rattle.front_sizes.specs.declared.Count.{Count}
 
 -- where word k of node i stands, and the word

@@ -3,6 +3,9 @@ ghost use mathlib.Core.Path.{_≡_};
 ghost use Prim.Native.Nat.{_+_, _<_};
 ghost use lib.ListN.{set};
 ghost use Rattle.front_sizes.specs.Packing.{place, wordAt, pairOf, pack, Small, termCount, conditionCount, splicedCount, stored};
+use base_scratch::SIZES;
+use base_scratch::load;
+use base_scratch::store;
 
 // What something writes: its size and its generators. Of a qualifier's offsets: where "some" does not give way, where it does.
 pub struct Count {
@@ -10,19 +13,16 @@ pub struct Count {
     pub gens: u64,
 }
 
-// Where the words begin.
-const SIZES: usize = 784;
-
 // Word k of node i; 0 where the scratch has none.
 fn word(s: &[u64], i: usize, k: usize) -> u64
     requires { ⌜ k < 2 ⌝ }
     ensures { λ r. ⌜ r ≡ wordAt (now (s .entry)) i k ⌝ }
 {
-    if s.len() <= i {
-        return 0;
+    if i < s.len() {
+        load(s, SIZES + 2 * i + k)
+    } else {
+        0
     }
-    let j = SIZES + 2 * i + k;
-    if j < s.len() { s[j] } else { 0 }
 }
 
 // The pair in the low 20 bits.
@@ -89,12 +89,8 @@ fn put(s: &mut [u64], i: usize, k: usize, w: u64)
     requires { ⌜ k < 2 ⌝ }
     ensures { λ r. ⌜ now (s .exit) ≡ set (now (s .entry)) (place i k) w ⌝ }
 {
-    if s.len() <= i {
-        return;
-    }
-    let j = SIZES + 2 * i + k;
-    if j < s.len() {
-        s[j] = w;
+    if i < s.len() {
+        store(s, SIZES + 2 * i + k, w);
     }
 }
 

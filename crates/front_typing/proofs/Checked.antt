@@ -7,6 +7,7 @@ use lib.ListN.{length}
 use Rattle.spec_calculus.specs.Syntax.{Question, asTerm}
 use Rattle.spec_calculus.specs.Value.{Tables, kindOf}
 use Rattle.spec_checks.specs.Types.{typesFit, generatorsFit}
+use Rattle.base_scratch.specs.Map.{sizesAt}
 use Rattle.front_nodes.specs.Decode.{nodesOf}
 use Rattle.spec_encoding.specs.Data.{readData}
 use Rattle.spec_encoding.specs.Record.{Bytes, got}
@@ -24,7 +25,7 @@ pub record Checked (d : Bytes) (T : Tables) (q : Question) (s : List ℕ) (n : �
   pub stored : Stored d T s
   pub some : 1 ≤ n
   pub most : n ≤ 256
-  pub long : 784 ≤ length s
+  pub long : sizesAt ≤ length s
   pub depth : ℕ → ℕ
   pub holds : Holds (nodesOf s) depth (asTerm q) (n - 1) 0 noNames
 

@@ -17,7 +17,7 @@ use Rattle.front_nodes.proofs.PostOrder.{post-order}
 use Rattle.front_nodes.proofs.Same.{nodes-set}
 use Rattle.front_theory.specs.Node.{Nodes}
 use Rattle.front_theory.specs.Tree.{noNames, Holds}
-use Rattle.front_words.specs.Layout.{shapesAt}
+use Rattle.base_scratch.specs.Map.{shapesAt, sizesAt}
 use Rattle.base_tables.specs.Description.{collectionIn, columnsIn}
 use Rattle.front_typing.specs.declared.Shape.{Shape}
 use Rattle.front_typing.specs.declared.Shape.the-variants.{Wrong, Number, Truth, Record, Row, Table, Coll}
@@ -58,7 +58,7 @@ read-back (Row k) h = read-numbered 4 k (omega arith) h
 read-back (Table k) h = read-numbered 5 k (omega arith) h
 read-back (Coll j) h = read-numbered 6 j (omega arith) h
 
-module _ (b : Bool) (T : Tables) (few : length T ≤ 8) (s : List ℕ) (long : 784 ≤ length s) (K : Knows (knownIn s) T) where
+module _ (b : Bool) (T : Tables) (few : length T ≤ 8) (s : List ℕ) (long : sizesAt ≤ length s) (K : Knows (knownIn s) T) where
   abbrev N : Nodes
   N = nodesOf s
 
@@ -133,13 +133,13 @@ module _ (b : Bool) (T : Tables) (few : length T ≤ 8) (s : List ℕ) (long : 7
       ap isTyped (question-type (rules b) T N (post-order s) dep q (n - 1) H)
 
 -- "25: a type, field or table that does not fit."
-pub types-fit-is : (T : Tables) → length T ≤ 8 → (s : List ℕ) → 784 ≤ length s → Knows (knownIn s) T → {s′ : List ℕ} {r : Bool} (n : ℕ) → 1 ≤ n → n ≤ 256 → Judges false s n s′ r →
+pub types-fit-is : (T : Tables) → length T ≤ 8 → (s : List ℕ) → sizesAt ≤ length s → Knows (knownIn s) T → {s′ : List ℕ} {r : Bool} (n : ℕ) → 1 ≤ n → n ≤ 256 → Judges false s n s′ r →
     (dep : ℕ → ℕ) (q : Question) → Holds (nodesOf s) dep (asTerm q) (n - 1) 0 noNames → r ≡ typesFit T q
 unfolding typesFit
 types-fit-is T few s long K n some most J dep q H = answer-is false T few s long K n some most J dep q H
 
 -- "26: a generator its monoid may not have."
-pub generators-fit-is : (T : Tables) → length T ≤ 8 → (s : List ℕ) → 784 ≤ length s → Knows (knownIn s) T → {s′ : List ℕ} {r : Bool} (n : ℕ) → 1 ≤ n → n ≤ 256 → Judges true s n s′ r →
+pub generators-fit-is : (T : Tables) → length T ≤ 8 → (s : List ℕ) → sizesAt ≤ length s → Knows (knownIn s) T → {s′ : List ℕ} {r : Bool} (n : ℕ) → 1 ≤ n → n ≤ 256 → Judges true s n s′ r →
     (dep : ℕ → ℕ) (q : Question) → Holds (nodesOf s) dep (asTerm q) (n - 1) 0 noNames → r ≡ generatorsFit T q
 unfolding generatorsFit
 generators-fit-is T few s long K n some most J dep q H = answer-is true T few s long K n some most J dep q H

@@ -28,7 +28,7 @@ use Rattle.base_syntax.specs.Word.{monoidOf}
 use Rattle.base_syntax.specs.Numbers.{numberOf}
 use Rattle.front_theory.specs.Node.{Nodes}
 use Rattle.front_theory.specs.Node as Nd
-use Rattle.front_words.specs.Layout.{shapesAt}
+use Rattle.base_scratch.specs.Map.{shapesAt}
 use Rattle.front_words.specs.Packing.{argOf, nodeWord}
 use Rattle.front_words.specs.Tree.{startAt}
 use Rattle.base_tables.specs.Description.{collectionNumber}

@@ -12,7 +12,7 @@ use Rattle.spec_checks.specs.Types.{mayStand}
 use Rattle.front_nodes.specs.Decode.{childrenOf, qualifiersOf, nodesOf}
 use Rattle.base_syntax.specs.Word.{monoidOf}
 use Rattle.front_theory.specs.Node.{Node, nnum, ntruth, nname, nfield, nrec, nbin, nnegate, ncomp, ntable, ngen, nbind, ncond, nbad}
-use Rattle.front_words.specs.Layout.{shapesAt}
+use Rattle.base_scratch.specs.Map.{shapesAt}
 use Rattle.base_tables.specs.Description.{collectionIn, columnsIn}
 use Rattle.front_typing.specs.declared.Shape.{Shape}
 use Rattle.front_typing.specs.declared.Shape.the-variants.{Wrong, Number, Truth, Record, Row, Table, Coll}

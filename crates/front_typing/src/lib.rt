@@ -10,6 +10,11 @@ ghost use Rattle.base_syntax.specs.Numbers.{binOf};
 ghost use Rattle.base_tables.specs.Description.{collectionNumber};
 ghost use Rattle.front_typing.specs.Shapes.{classOf, fits, isNumber, isTruth, collects, collectionOf, headOf, cellShape, numberShape, truthShape, gathersShape, twoNumbers, twoTruths, binShape, compShape};
 ghost use Rattle.front_typing.specs.Words.{numbered as numberedWord, shapeWord, shapeIn, shapesIn, collectionBy, rules, Makes, tableAt, partAt, fieldAt, elementAt, partsFit, mayRange, qualFitsAt, qualsFitAt, recordAt, compAt, shapeOf, shapedUpTo, Judges};
+use base_scratch::SHAPES;
+use base_scratch::TABLES;
+use base_scratch::load;
+use base_scratch::load_at;
+use base_scratch::store;
 use base_syntax::Monoid;
 use base_syntax::Op;
 use front_nodes::Found;
@@ -33,9 +38,6 @@ pub enum Made {
     Comp(Monoid, usize),
     Other,
 }
-
-// Where the words of the shapes begin.
-const SHAPES: usize = 528;
 
 // ---- shapes
 
@@ -113,21 +115,11 @@ fn shape_in(w: u64) -> Shape
     }
 }
 
-// A word of the scratch; 0 outside.
-fn word(s: &[u64], at: usize) -> u64
-    ensures { λ r. ⌜ r ≡ getD (now (s .entry)) at 0 ⌝ }
-{
-    if at < s.len() { s[at] } else { 0 }
-}
-
 // The shape of node j.
 fn shape_at(s: &[u64], j: usize) -> Shape
     ensures { λ r. ⌜ r ≡ shapesIn (now (s .entry)) j ⌝ }
 {
-    if s.len() <= j {
-        return Shape::Wrong;
-    }
-    shape_in(word(s, SHAPES + j))
+    shape_in(load_at(s, SHAPES, j))
 }
 
 // ---- tables
@@ -139,14 +131,14 @@ fn description(s: &[u64], t: usize) -> u64
     if s.len() <= t {
         return 0;
     }
-    word(s, 1 + t)
+    load(s, 1 + t)
 }
 
 // "25: .. table that does not fit"
 fn table(s: &[u64], k: usize) -> Shape
     ensures { λ r. ⌜ r ≡ tableAt (now (s .entry)) k ⌝ }
 {
-    if (k as u64) < word(s, 0) {
+    if (k as u64) < load(s, TABLES) {
         return Shape::Table(k);
     }
     Shape::Wrong
@@ -461,7 +453,7 @@ fn shapes(s: &mut [u64], n: usize, rule: bool)
     let mut i = 0;
     while i < n {
         let w = packed(shape_of(s, i, rule));
-        base_tables::put(s, SHAPES + i, w);
+        store(s, SHAPES + i, w);
         i += 1;
     }
 }

@@ -9,11 +9,12 @@ use native.Mathlib.Nat.{add-zero, add-assoc}
 use lib.ListN.{getD, length, set, List·getD-eq-default}
 use lib.Seq.{getD-set-same, set-out}
 use lib.Dec.{eqb, leb}
-use borrow.Author.Tests.{le-leb, lt-leb}
+use borrow.Author.Tests.{le-leb, lt-leb, lt-ltb, le-ltb}
 use Rattle.spec_calculus.specs.Lists.{pick}
 use Rattle.spec_calculus.specs.Syntax.{Term, Terms, Quals, num, truth, name, field, rec, bin, negate, comp, table, tnil, tcons, qnil, gen, bind, cond}
 use Rattle.spec_encoding.specs.Reader.{Kind, kinds, unknown, number, truthK, nameK, fieldK, record′, not, tableK, comprehension, generator, binding, condition, two-terms}
-use Rattle.front_words.specs.Layout.{nodesAt}
+use Rattle.base_scratch.specs.Map.{nodesAt, bindersAt, names}
+use Rattle.front_words.specs.Binders.{binderWord}
 use Rattle.front_words.specs.Packing.{kindOf, argOf, startOf, depthOf, pack, nodeWord}
 use Rattle.front_words.specs.Tree.{numberOf, monoidAt, kindAt, argAt, startAt, termBy, qualBy, treeAt, termsAt, qualsAt}
 use Rattle.front_words.specs.Laid.{nodes, nodesL, nodesQ, Node, Laid, LaidL, LaidQ}
@@ -312,12 +313,6 @@ mutual
       f (omega arith))
 
 -- ---- reading and putting a node's word
-pub no-word : (s : List ℕ) (i : ℕ) → length s ≤ nodesAt + i → 0 ≡ nodeWord s i
-no-word s i h = sym (List·getD-eq-default s 0 h)
-
-pub no-room : (s : List ℕ) (i w : ℕ) → length s ≤ nodesAt + i → s ≡ set s (nodesAt + i) w
-no-room s i w h = sym (set-out s (nodesAt + i) w h)
-
 module _ (s : List ℕ) (i k a b d : ℕ) (hk : k < 32) (ha : a < 8589934592) (hb : b < 512) (hd : d < 64) (room : nodesAt + i < length s) where
   put-word : nodeWord (set s (nodesAt + i) (pack k a b d)) i ≡ pack k a b d
   put-word = getD-set-same s (nodesAt + i) (pack k a b d) 0 room
@@ -332,3 +327,12 @@ module _ (s : List ℕ) (i k a b d : ℕ) (hk : k < 32) (ha : a < 8589934592) (h
 
   pub put-arg : argAt (set s (nodesAt + i) (pack k a b d)) i ≡ a
   put-arg = ap argOf put-word ∙ arg-pack k a b d hk ha hb hd
+
+-- ---- the binders of names
+pub far-binder : (s : List ℕ) (x : ℕ) → names ≤ x → 0 ≡ binderWord s x
+unfolding binderWord pick
+far-binder s x h = rw (le-ltb x names h)
+
+pub binder-at : (s : List ℕ) (x : ℕ) → x < names → getD s (bindersAt + x) 0 ≡ binderWord s x
+unfolding binderWord pick
+binder-at s x h = rw (lt-ltb x names h)

@@ -3,7 +3,7 @@
 use mathlib.Core.List.{List}
 use Prim.Native.Nat.{ℕ, _+_, _*_, _/_, _%_}
 use lib.ListN.{getD}
-use Rattle.front_words.specs.Layout.{nodesAt}
+use Rattle.base_scratch.specs.Map.{nodesAt}
 
 abbrev pub kindOf : ℕ → ℕ
 kindOf w = w % 32

@@ -1,23 +1,24 @@
-// The nodes of a question in scratch: the only readers and writers of a node's word.
+// The nodes of a question in scratch, and the binders of its names: the only readers and writers of these words.
 ghost use mathlib.Core.Path.{_≡_};
 ghost use Prim.Native.Nat.{_+_, _≤_, _<_};
 ghost use lib.ListN.{set};
-ghost use Rattle.front_words.specs.Layout.{nodesAt};
+ghost use Rattle.base_scratch.specs.Map.{nodesAt, names};
+ghost use Rattle.front_words.specs.Binders.{binderWord, putBinder};
 ghost use Rattle.front_words.specs.Packing.{kindOf, argOf, startOf, depthOf, pack, nodeWord};
 ghost use Rattle.front_words.specs.Tree.{startAt};
-
-// Where the node words begin.
-const NODES: usize = 16;
+use base_scratch::BINDERS;
+use base_scratch::NAMES;
+use base_scratch::NODES;
+use base_scratch::load;
+use base_scratch::load_at;
+use base_scratch::store;
+use base_scratch::store_at;
 
 // The word of node i; 0 where the scratch has none.
 pub fn node_word(s: &[u64], i: usize) -> u64
     ensures { λ r. ⌜ r ≡ nodeWord (now (s .entry)) i ⌝ }
 {
-    if s.len() <= i {
-        return 0;
-    }
-    let j = NODES + i;
-    if j < s.len() { s[j] } else { 0 }
+    load_at(s, NODES, i)
 }
 
 pub fn kind(w: u64) -> u64
@@ -66,11 +67,20 @@ pub fn put_node(s: &mut [u64], i: usize, k: u64, a: u64, start: u64, depth: u64)
     ensures { λ r. ⌜ now (s .exit) ≡ set (now (s .entry)) (nodesAt + i) (pack k a start depth) ⌝ }
 {
     let w = packed(k, a, start, depth);
-    if s.len() <= i {
-        return;
-    }
-    let j = NODES + i;
-    if j < s.len() {
-        s[j] = w;
-    }
+    store_at(s, NODES, i, w);
+}
+
+// One more than the number of the node that binds name x; 0 where none does.
+pub fn binder_word(s: &[u64], x: u64) -> u64
+    ensures { λ r. ⌜ r ≡ binderWord (now (s .entry)) x ⌝ }
+{
+    let i = x as usize;
+    if i < NAMES { load(s, BINDERS + i) } else { 0 }
+}
+
+pub fn put_binder(s: &mut [u64], x: usize, w: u64)
+    requires { ⌜ x < names ⌝ }
+    ensures { λ _. ⌜ now (s .exit) ≡ putBinder (now (s .entry)) x w ⌝ }
+{
+    store(s, BINDERS + x, w);
 }

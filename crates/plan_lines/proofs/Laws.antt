@@ -18,8 +18,9 @@ use Rattle.form_words.specs.declared.Node.{Node}
 use Rattle.form_words.specs.declared.Node.the-variants as N
 use Rattle.form_words.specs.declared.Clause.{Clause}
 use Rattle.form_words.specs.declared.Clause.the-variants as Cl
-use Rattle.form_words.specs.Packing.{places, next}
+use Rattle.form_words.specs.Packing.{next}
 use Rattle.form_words.specs.Tree.{left}
+use Rattle.base_scratch.specs.Map.{places}
 use Rattle.form_words.specs.Look.{Looks, LooksC}
 use Rattle.form_words.proofs.Laws.{next-past}
 use Rattle.spec_plan.specs.Plan.{PTerm, ptruth, Source, table, unit, nest}

@@ -6,6 +6,7 @@ use lib.ListN.{length, getD}
 use lib.IntN.{ℤ}
 use Rattle.spec_encoding.specs.Record.{Bytes}
 use Rattle.spec_outcome.specs.Accepted.{Accepted}
+use Rattle.base_scratch.specs.Map.{unusedAt}
 use Rattle.form_prepared.specs.Prepared.{Prepared}
 use Rattle.exec_machine.specs.Machine.{State, due}
 use Rattle.form_env.specs.Env.{tablesIn}
@@ -27,4 +28,4 @@ pub record Counts (d : Bytes) (s : List ℕ) (o : List ℤ) (code : ℕ) (s′ :
 pub record Tells (d : Bytes) (s s′ : List ℕ) (r : ℕ) : Type 0 where
   pub is : (a : Accepted) → Prepared d a s → r ≡ offeredRows a
   pub long : length s′ ≡ length s
-  pub above : (j : ℕ) → 2048 ≤ j → getD s′ j 0 ≡ getD s j 0
+  pub above : (j : ℕ) → unusedAt ≤ j → getD s′ j 0 ≡ getD s j 0

@@ -126,7 +126,7 @@ fn main() {
     let mut cases = space();
     let n = io::read_full(fd, &mut cases);
     libc::close(fd);
-    let mut scratch = [0u64; 8192];
+    let mut scratch = [0u64; base_scratch::WORDS];
     let mut words = [0i64; 4096];
     ask_all(&cases[..n], &mut scratch, &mut words);
 }

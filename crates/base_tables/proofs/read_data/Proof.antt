@@ -56,17 +56,17 @@ loop-again c =
     let c8 = c7 .before in
     let c9 = c8 .before in
     let c10 = c9 .before in
-    going-next (c10 .loop .inv) (c9 .loop-test .taken) (c8 .if1 .left) (sym (c7 .table-at .ensures) ∙ c5 .w .given .1) (c2 .put .ensures)
+    going-next (c10 .loop .inv) (c9 .loop-test .taken) (c8 .if1 .left) (sym (c7 .table-at .ensures) ∙ c5 .w .given .1) (c2 .store .ensures)
 
 same-length-3 : tie.Need-same-length-3 Inv-loop μ-loop
-same-length-3 c = c .before .before .put2 .kept .0 ∙ c .before .before .before .before .before .loop .inv .long
+same-length-3 c = c .before .before .store2 .kept .0 ∙ c .before .before .before .before .before .loop .inv .long
 
 returns-3 : tie.Need-returns-3 Inv-loop μ-loop
 returns-3 c =
     let c2 = c .before .before in
     let c4 = c2 .before .before in
     let c5 = c4 .before in
-    going-ended (c5 .loop .inv) (c4 .loop-test .left) (c2 .put2 .ensures)
+    going-ended (c5 .loop .inv) (c4 .loop-test .left) (c2 .store2 .ensures)
 
 pub read-data-spec : {M : Type 1} → statement M
 read-data-spec =

@@ -4,6 +4,7 @@ use Prim.Native.Nat.{_≤_}
 use native.Mathlib.Omega.{arith}
 use lib.ListN.{length}
 use lib.Seq.{length-take-le}
+use Rattle.base_scratch.specs.Map.{scratchSize}
 use Rattle.desk_text.proofs.Left.{answer-clears, plan-clears}
 use Rattle.desk_text.proofs.Replies.{refuses, answers, prints-refusal, prints-answer}
 use borrow.Author.Needs.{needs}
@@ -38,7 +39,7 @@ returns-2 c =
     let A = answers (c24 .args .tables .now) (c24 .args .question .now) (c24 .args .scratch .now) (c24 .args .words .now) (c24 .pre .0) (c24 .pre .1) (c17 .answer .ensures) (c12 .if1 .left) in
     let after = c17 .answer .last .1 .1 .0 in
     let kept = c17 .answer .kept .1 .1 in
-    let room : 8192 ≤ length after = omega (arith, c24 .pre .0, kept .0) in
+    let room : scratchSize ≤ length after = omega (arith, c24 .pre .0, kept .0) in
     let C = answer-clears (c24 .args .tables .now) (c24 .args .question .now) (c24 .args .scratch .now) (c24 .args .words .now) (c24 .pre .0) (c17 .answer .ensures) in
     let P = prints-answer A after (c24 .args .text .now) room (c24 .pre .2) (c9 .dislogha-plan-lines .ensures) (c2 .answer-line .ensures .0) (c2 .answer-line .ensures .1) (kept .1 .0 ∙ c24 .pre .1) refl (omega (arith, c24 .good .1 .1 .1 .1 .0)) in
     (P, (c17 .answer .ensures .buffer, plan-clears (c24 .args .tables .now) (c24 .args .question .now) (c24 .args .scratch .now) after (c24 .args .text .now) room C (c9 .dislogha-plan-lines .ensures)))

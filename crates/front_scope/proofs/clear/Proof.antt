@@ -21,7 +21,7 @@ unfolding cleared
 loop-holds c = (search needs, refl)
 
 loop-again : tie.Need-loop-again Inv-loop μ-loop
-loop-again c = (search needs, cleared-next (c .before .before .before .before .before .before .before .args .s .now) (c .before .before .before .before .before .loop .x) (c .before .before .before .before .before .loop .inv .1) (c .before .before .put .ensures))
+loop-again c = (search needs, cleared-next (c .before .before .before .before .before .before .before .args .s .now) (c .before .before .before .before .before .loop .x) (c .before .before .before .before .before .loop .inv .1) (c .before .before .put-binder .ensures))
 
 same-length : tie.Need-same-length Inv-loop μ-loop
 same-length c = let e : c .before .loop .x ≡ 256 = omega arith in
@@ -37,7 +37,6 @@ clear-spec =
     Inv-loop
     μ-loop
     loop-holds
-    (λ c. search needs)
     (λ c κs. search needs)
     (λ c. search needs)
     (λ c. search needs)

@@ -12,10 +12,10 @@ returns-2 : tie.Need-returns-2
 returns-2 c = noted-not (c .before .before .before .before .before .before .before .args .s .now) (c .before .before .before .before .before .before .before .args .i) (c .before .before .before .before .kind-at .ensures) (c .before .before .arg-at .ensures) (omega arith)
 
 same-length-3 : tie.Need-same-length-3
-same-length-3 c = c .before .before .put .kept .0
+same-length-3 c = c .before .before .put-binder .kept .0
 
 returns-3 : tie.Need-returns-3
-returns-3 c = noted-here (c .before .before .before .before .before .before .before .before .before .before .before .before .args .s .now) (c .before .before .before .before .before .before .before .before .before .before .before .before .args .i) (c .before .before .before .before .before .before .before .before .before .kind-at .ensures) (c .before .before .before .before .before .before .before .arg-at .ensures) (c .before .before .before .before .before .before .if1 .left) (omega arith) (c .before .before .before .before .if3 .taken) (c .before .before .put .ensures)
+returns-3 c = noted-here (c .before .before .before .before .before .before .before .before .before .before .before .before .args .s .now) (c .before .before .before .before .before .before .before .before .before .before .before .before .args .i) (c .before .before .before .before .before .before .before .before .before .kind-at .ensures) (c .before .before .before .before .before .before .before .arg-at .ensures) (c .before .before .before .before .before .before .if1 .left) (omega arith) (c .before .before .before .before .if3 .taken) (c .before .before .put-binder .ensures)
 
 returns-4 : tie.Need-returns-4
 returns-4 c = noted-beyond (c .before .before .before .before .before .before .before .before .args .s .now) (c .before .before .before .before .before .before .before .before .args .i) (c .before .before .before .before .before .kind-at .ensures) (c .before .before .before .arg-at .ensures) (c .if3 .left)
@@ -30,7 +30,6 @@ note-spec =
     returns
     (λ c. search needs)
     returns-2
-    (λ c. search needs)
     (λ c. search needs)
     (λ c κs. search needs)
     same-length-3

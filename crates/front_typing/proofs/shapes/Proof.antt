@@ -21,7 +21,7 @@ unfolding shapedUpTo
 loop-holds c = (search needs, refl)
 
 loop-again : tie.Need-loop-again Inv-loop μ-loop
-loop-again c = (search needs, shaped-next (c .before .before .before .before .before .before .before .before .before .before .args .rule) (c .before .before .before .before .before .before .before .before .before .before .args .s .now) (c .before .before .before .before .before .before .before .before .loop .i) (c .before .before .before .before .before .before .before .before .loop .inv .1) (c .before .before .before .before .before .shape-of .ensures) (c .before .before .before .before .packed .ensures) (c .before .before .put .ensures))
+loop-again c = (search needs, shaped-next (c .before .before .before .before .before .before .before .before .before .before .args .rule) (c .before .before .before .before .before .before .before .before .before .before .args .s .now) (c .before .before .before .before .before .before .before .before .loop .i) (c .before .before .before .before .before .before .before .before .loop .inv .1) (c .before .before .before .before .before .shape-of .ensures) (c .before .before .before .before .packed .ensures) (c .before .before .store .ensures))
 
 same-length : tie.Need-same-length Inv-loop μ-loop
 same-length c = ap (λ (l : List ℕ). length l) (c .before .loop .inv .1) ∙ shaped-length (c .before .before .before .args .rule) (c .before .before .before .args .s .now) (c .before .loop .i)

@@ -1,0 +1,98 @@
+-- Which scratch words hold what. Each phase has its own names for the words that it uses.
+--
+--   words         checks         by loops      a plan is made   a plan runs   settled
+--   0             how many tables there are, in every phase
+--   1 .. 8        their descriptions, in every phase
+--   9 .. 15       free
+--   16 .. 271     nodes          environment   seats            environment
+--   272 .. 527    binders                                       totals
+--   528 .. 783    shapes                                        totals
+--   784 .. 1039   sizes                                         starts
+--   1040 .. 1295  sizes                                         starts        columns
+--   1296 .. 1807  normal form    the same      and its marks    and links     the same
+--   1808 .. 1811  free, and between the portions of an unfinished question where it stands
+--   1812 .. 8191  free
+use Prim.Native.Nat.{ℕ, _+_, _-_, _*_, _/_}
+
+-- how many words a call needs, and clears: spec_outcome's `scratchWords`
+abbrev pub scratchSize : ℕ
+scratchSize = 8192
+
+-- from this word on none is written
+abbrev pub unusedAt : ℕ
+unusedAt = 2048
+
+-- how many tables there are, and a description for each (base_tables/specs/Reading)
+abbrev pub tablesAt : ℕ
+tablesAt = 0
+
+abbrev pub descriptionsAt : ℕ
+descriptionsAt = 1
+
+-- ---- checks
+-- a word for each node of the question, in post-order (front_words/specs/Packing)
+abbrev pub nodesAt : ℕ
+nodesAt = 16
+
+abbrev pub mostNodes : ℕ
+mostNodes = 256
+
+-- for each name one more than the node that binds it (front_words/specs/Binders)
+abbrev pub bindersAt : ℕ
+bindersAt = nodesAt + mostNodes
+
+abbrev pub names : ℕ
+names = 256
+
+-- a word for each node: its type at its head, with the node or the table that makes it (front_typing/specs/Words)
+abbrev pub shapesAt : ℕ
+shapesAt = bindersAt + names
+
+-- two words for each node: its sizes in the normal form (front_sizes/specs/Packing)
+abbrev pub sizesAt : ℕ
+sizesAt = shapesAt + mostNodes
+
+-- ---- the normal form: its words stand from this word on, at most so many of them (form_words/specs/Packing)
+abbrev pub formAt : ℕ
+formAt = sizesAt + 2 * mostNodes
+
+abbrev pub places : ℕ
+places = 512
+
+-- "27: a normal form over 512 nodes": a generator is two of them
+abbrev pub generators : ℕ
+generators = places / 2
+
+-- ---- loops, and a plan that runs
+-- the row of each generator (form_env/specs/Env)
+abbrev pub envAt : ℕ
+envAt = nodesAt
+
+-- while a plan is made, the mark of each generator's place (plan_marks/specs/Marks)
+abbrev pub seatsAt : ℕ
+seatsAt = envAt
+
+-- for each comprehension its total, or where its elements end; and where they begin (exec_state/specs/Cursors)
+abbrev pub totalsAt : ℕ
+totalsAt = envAt + generators
+
+abbrev pub startsAt : ℕ
+startsAt = totalsAt + places
+
+-- ---- settled
+-- how many columns each generator's table has: over a plan's words, so noted when it has run (answer_types/specs/Columns)
+abbrev pub columnsAt : ℕ
+columnsAt = formAt - generators
+
+-- ---- an unfinished question, between its portions (exec_portions/specs/Unfinished)
+abbrev pub stageAt : ℕ
+stageAt = formAt + places
+
+abbrev pub codeAt : ℕ
+codeAt = stageAt + 1
+
+abbrev pub limitAt : ℕ
+limitAt = stageAt + 2
+
+abbrev pub firstAt : ℕ
+firstAt = stageAt + 3

@@ -1,0 +1,2 @@
+-- The bound of numbers.
+pub mod Limit
