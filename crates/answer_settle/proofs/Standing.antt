@@ -66,18 +66,18 @@ module _ {d : Bytes} {a : Accepted} {s : List ℕ} (P : Prepared d a s) where
   pub form-is : (f : ℕ) → left 0 < f → formTree f s 0 ≡ asForm (a .form)
   form-is f l = read-back (asForm (a .form)) s 0 (P .fits) (omega (arith, P .few)) (P .held) f l
 
+  pub well-formed : WellFormed (a .tables)
+  well-formed = read-well-formed d (P .tables)
+
   -- no generator stands for a row
   empty : envOf (tablesIn d) s ≡ (λ g. junk)
-  empty = env-empty (tablesIn d) s (λ g p. P .blank (16 + g) (omega arith) (omega arith))
+  empty = env-empty (tablesIn d) s (subst WellFormed (sym tables-are) well-formed) (P .rowless)
 
   pub raw-value : value raw (tablesIn d) (asForm (a .form)) (envOf (tablesIn d) s) ≡ normalValue raw (a .tables) (a .form)
   unfolding normalValue
   raw-value =
       ap (λ (ρ : Env). value raw (tablesIn d) (asForm (a .form)) ρ) empty
       ∙ ap (λ (T : Tables). value raw T (asForm (a .form)) (λ g. junk)) tables-are
-
-  pub well-formed : WellFormed (a .tables)
-  well-formed = read-well-formed d (P .tables)
 
   pub form-in-scope : Ordered (asForm (a .form)) (λ g. false) 0
   form-in-scope = subst (λ t. Ordered (asForm t) (λ g. false) 0) (sym (passed .form-is)) (normal-in-scope (kindOf (a .tables)) (a .question) (passed .names))

@@ -1,1 +1,11 @@
-// An accepted question in scratch, and its raw words in the buffer: laws that both ways of answering use.
+// The raw words of an accepted question's value stand at the buffer's front, whichever way they came there: they are brought to
+// their written form, and that settles the question.
+ghost use Rattle.answer_settle.specs.Settling.{Settled};
+use answer_canonical::finish;
+
+// How many words the answer has.
+pub fn settle(s: &[u64], out: &mut [i64]) -> usize
+    ensures { λ r. ⌜ Settled (now (s .entry)) (now (out .entry)) (now (out .exit)) r ⌝ }
+{
+    finish(s, out, 0)
+}

@@ -6,5 +6,4 @@ pub mod Widths
 pub mod Many
 pub mod Skips
 pub mod Values
-pub mod Columns
 pub mod Elements

@@ -2,9 +2,9 @@
 use mathlib.Core.Path.{_≡_, refl, sym, ap, subst, _∙_}
 use mathlib.Core.Bool.{true, false}
 use mathlib.Core.List.{List}
-use Prim.Native.Nat.{ℕ, zero, suc, _+_, _-_, _≤_, _<_}
+use Prim.Native.Nat.{ℕ, zero, suc, _+_, _-_, _/_, _≤_, _<_}
 use native.Mathlib.Omega.{arith}
-use lib.ListN.{length, getD, List·getD-eq-default}
+use lib.ListN.{length}
 use Rattle.spec_calculus.specs.Syntax.{of, Bin, plus, minus, times, equal, less, and, or}
 use Rattle.spec_checks.specs.Types.{Ty, Tys, number, truth, record′, coll, ynil, ycons, cells}
 use Rattle.spec_checks.proofs.Judgement.{result}
@@ -18,12 +18,14 @@ use Rattle.form_words.specs.declared.Node.{Node}
 use Rattle.form_words.specs.declared.Node.the-variants.{Number, Truth, Row, Cell, Record, Binary, Negation, Comprehension, Generator, Condition, Nothing}
 use Rattle.form_words.specs.Packing.{next}
 use Rattle.form_words.specs.Tree.{formTree, headTree, left}
-use Rattle.base_scratch.specs.Map.{places, columnsAt}
+use Rattle.base_scratch.specs.Map.{places}
 use Rattle.form_words.specs.declared.Clause.the-variants as Cl
 use Rattle.form_words.specs.Look.{Looks, LooksC}
 use Rattle.form_words.specs.Head.{headNode}
 use Rattle.form_words.proofs.Laws.{look-out, next-past, formNode, form-is, head-is, head-node-is, forms-end, forms-more}
 use Rattle.base_buffer.proofs.Places.{clash}
+use Rattle.base_tables.specs.Description.{columnsIn}
+use Rattle.form_env.specs.Env.{slotOf, descriptionIn}
 use Rattle.answer_types.specs.declared.Kind.{Kind}
 use Rattle.answer_types.specs.declared.Layout.{Layout}
 use Rattle.answer_types.specs.declared.Shape.{Shape}
@@ -33,9 +35,9 @@ use Rattle.answer_types.specs.Shape.{typeOf, typesOf, typeAt, typesAt, i
 use Rattle.answer_types.specs.Flat.{Flat, FlatEach, widthOf, widthEach}
 
 -- ---- columns
-pub columns-in : (s : List ℕ) (g : ℕ) → getD s (columnsAt + g) 0 ≡ columns s g
+pub columns-is : (s : List ℕ) (g : ℕ) {e w r : ℕ} → e ≡ slotOf s g → w ≡ descriptionIn s (e / 2048) → r ≡ columnsIn w → r ≡ columns s g
 unfolding columns
-columns-in s g = refl
+columns-is s g p q h = h ∙ ap columnsIn (q ∙ ap (λ (x : ℕ). descriptionIn s (x / 2048)) p)
 
 -- ---- clauses and heads
 module _ {s : List ℕ} {j : ℕ} where

@@ -4,11 +4,10 @@
 --   0             how many tables there are, in every phase
 --   1 .. 8        their descriptions, in every phase
 --   9 .. 15       free
---   16 .. 271     nodes          environment   seats            environment
---   272 .. 527    binders                                       totals
---   528 .. 783    shapes                                        totals
---   784 .. 1039   sizes                                         starts
---   1040 .. 1295  sizes                                         starts        columns
+--   16 .. 271     nodes          environment, from the normal form on
+--   272 .. 527    binders                      seats            totals
+--   528 .. 783    shapes                       seats            totals
+--   784 .. 1295   sizes                        seats            starts
 --   1296 .. 1807  normal form    the same      and its marks    and links     the same
 --   1808 .. 1811  free, and between the portions of an unfinished question where it stands
 --   1812 .. 8191  free
@@ -64,13 +63,9 @@ abbrev pub generators : ℕ
 generators = places / 2
 
 -- ---- loops, and a plan that runs
--- the row of each generator (form_env/specs/Env)
+-- the slot of each generator: its table and its row (form_env/specs/Env)
 abbrev pub envAt : ℕ
 envAt = nodesAt
-
--- while a plan is made, the mark of each generator's place (plan_marks/specs/Marks)
-abbrev pub seatsAt : ℕ
-seatsAt = envAt
 
 -- for each comprehension its total, or where its elements end; and where they begin (exec_state/specs/Cursors)
 abbrev pub totalsAt : ℕ
@@ -79,10 +74,9 @@ totalsAt = envAt + generators
 abbrev pub startsAt : ℕ
 startsAt = totalsAt + places
 
--- ---- settled
--- how many columns each generator's table has: over a plan's words, so noted when it has run (answer_types/specs/Columns)
-abbrev pub columnsAt : ℕ
-columnsAt = formAt - generators
+-- while a plan is made, the mark of each generator's place (plan_marks/specs/Marks)
+abbrev pub seatsAt : ℕ
+seatsAt = totalsAt
 
 -- ---- an unfinished question, between its portions (exec_portions/specs/Unfinished)
 abbrev pub stageAt : ℕ

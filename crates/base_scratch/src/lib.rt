@@ -39,19 +39,16 @@ pub const FORM_WORDS: usize = 512;
 // A generator is two words of the form.
 pub const MOST_GENERATORS: usize = FORM_WORDS / 2;
 
-// While loops run, and while a plan runs: the row of each generator. The question's words are dead by then.
+// From the normal form on: each generator's table and row. The question's words are dead by then.
 pub const ENVIRONMENT: usize = NODES;
-
-// While a plan is made: the mark of each generator's place, where its row will stand.
-pub const SEATS: usize = ENVIRONMENT;
 
 // While a plan runs: for each comprehension its total or where its elements end, and where they begin.
 pub const TOTALS: usize = ENVIRONMENT + MOST_GENERATORS;
 
 pub const STARTS: usize = TOTALS + FORM_WORDS;
 
-// When all rows are read: how many columns each generator's table has.
-pub const COLUMNS: usize = FORM - MOST_GENERATORS;
+// While a plan is made: the mark of each generator's place, where its row will stand. No total stands there yet.
+pub const SEATS: usize = TOTALS;
 
 // Between the portions of an unfinished question: where it stands.
 pub const STAGE: usize = FORM + FORM_WORDS;

@@ -2,7 +2,7 @@
 use native.Mathlib.Omega.{arith}
 use mathlib.Core.Path.{_≡_, refl, sym, ap, subst, _∙_}
 use mathlib.Core.List.{List, [], _∷_, _++_}
-use Prim.Native.Nat.{ℕ, zero, suc, _+_, _≤_, _<_}
+use Prim.Native.Nat.{ℕ, zero, suc, _+_, _/_, _≤_, _<_}
 use borrow.Author.Tests.{ltb-true, ltb-false}
 use lib.Dec.{ltb}
 use lib.ListN.{length, getD, List·getD-eq-default}
@@ -25,7 +25,11 @@ use Rattle.plan_links.proofs.Static.{Distinct}
 use Rattle.plan_links.proofs.Static as St
 use Rattle.plan_links.proofs.Ranks.{numbers-apart, numbers-within}
 use Rattle.exec_state.specs.Cursors.{cursorBy, cursorAt}
-use Rattle.exec_simulation.specs.Wired.{Id, loopI, endI, ids, idAt, wordOf, Apart}
+use Rattle.exec_simulation.specs.Wired.{Id, loopI, endI, ids, idAt, wordOf, Apart, Named}
+use Rattle.form_env.specs.Naming.{tableOf}
+use Rattle.form_env.specs.Naming as Na
+use Rattle.form_env.proofs.Laws.{slot-in}
+use Rattle.exec_initial.proofs.Tables.{tables-named}
 
 -- the place of a loop, and of an end; none of the other
 unfoldable loopPlace : Id → List ℕ
@@ -148,3 +152,9 @@ module _ (f : NormalForm) (s : List ℕ) (n : size (asForm f) ≤ places) (L : L
       within = λ o c l e. omega (arith, n, end-low o c l e);
       few = λ o i g k e c. low-number i g k (loop-low o i (within-ids o i e) e) c;
     }
+
+    -- each loop's generator has its table named, where all of the form's generators do
+    pub loops-named : Na.Named (tableOf s) (asForm f) → Named s p
+    loops-named w o i g k e c =
+        let l : i < size (asForm f) = loop-low o i (within-ids o i e) e in
+        ap (λ (x : ℕ). x / 2048) (slot-in s (omega (arith, low-number i g k l c)) refl) ∙ tables-named (tableOf s) s (asForm f) L w i g k l (generator-node (nodeAt s i) g k c) ∙ omega arith

@@ -1,4 +1,5 @@
 pub mod Wires
+pub mod Tables
 pub mod Apart
 pub mod Bounds
 pub mod Numbers

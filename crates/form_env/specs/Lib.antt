@@ -1,2 +1,3 @@
--- The rows that generators stand for.
+-- The rows that generators stand for, and the tables that they range over.
 pub mod Env
+pub mod Naming

@@ -1,16 +1,18 @@
--- An accepted question in scratch, as answering and planning find it: the tables' descriptions, the words of the normal form, and
--- nothing else below them.
+-- An accepted question in scratch, as answering and planning find it: the tables' descriptions, each generator's table in its slot,
+-- the words of the normal form, and nothing else below them.
 use mathlib.Core.Path.{_≡_}
 use mathlib.Core.List.{List}
-use Prim.Native.Nat.{ℕ, _≤_, _<_}
+use Prim.Native.Nat.{ℕ, _+_, _≤_, _<_}
 use lib.ListN.{length, getD}
 use Rattle.spec_encoding.specs.Record.{Bytes, got}
 use Rattle.spec_encoding.specs.Data.{readData}
 use Rattle.spec_normal_form.specs.Form.{asForm}
 use Rattle.spec_outcome.specs.Accepted.{Accepted, judge}
 use Rattle.base_tables.specs.Reading.{Stored}
-use Rattle.base_scratch.specs.Map.{formAt, places, scratchSize}
+use Rattle.base_scratch.specs.Map.{formAt, places, totalsAt, scratchSize}
 use Rattle.form_words.specs.Flat.{Fits, Holds, flat}
+use Rattle.form_env.specs.Env.{slotOf}
+use Rattle.form_env.specs.Naming.{Rowless, tableOf, Named}
 
 -- "A question is accepted over tables where the checker, with scratch enough, answers 0": the checks' result is a
 pub record Prepared (d : Bytes) (a : Accepted) (s : List ℕ) : Type 0 where
@@ -20,5 +22,7 @@ pub record Prepared (d : Bytes) (a : Accepted) (s : List ℕ) : Type 0 where
   pub fits : Fits (asForm (a .form))
   pub few : length (flat (asForm (a .form))) ≤ places
   pub held : Holds s 0 (flat (asForm (a .form)))
-  pub blank : (j : ℕ) → 16 ≤ j → j < formAt → getD s j 0 ≡ 0
+  pub named : Named (tableOf s) (asForm (a .form))
+  pub rowless : (g : ℕ) → Rowless (slotOf s g)
+  pub blank : (j : ℕ) → totalsAt ≤ j → j < formAt → getD s j 0 ≡ 0
   pub long : scratchSize ≤ length s

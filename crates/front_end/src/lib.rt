@@ -79,17 +79,20 @@ pub fn front_end(d: &[u8], l: &[u8], s: &mut [u64]) -> Front
     }
 }
 
-// "28: a number in the normal form with bound over 2^62." The words of the question below the normal form are dead now.
+// "28: a number in the normal form with bound over 2^62." Once the form is written the question's words below it are dead. They are
+// wiped and the generators' slots name their tables there before anything reads the form, so that whatever does, bounds first, finds
+// each generator's table in its slot.
 fn formed(s: &mut [u64], n: usize) -> Checked
     requires { ⌜ (1 ≤ n) × Writable (now s) (n - 1) ⌝ }
     ensures { λ r. ⌜ FromForm (now (s .entry)) (now (s .exit)) n r ⌝ }
 {
     front_emit::write_form(s, n - 1);
+    base_scratch::wipe(s, NODES, FORM);
+    form_env::name_tables(s);
     let a = front_bounds::bound_fits(s);
     if !a {
         return Checked::Refused(base_refusals::NUMBER_OUT_OF_BOUNDS);
     }
-    base_scratch::wipe(s, NODES, FORM);
     Checked::Accepted
 }
 

@@ -28,7 +28,8 @@ use Rattle.exec_initial.proofs.Questions.{question}
 use Rattle.exec_initial.proofs.Readable.{readable}
 use Rattle.answer_settle.proofs.Standing.{tables-are}
 use Rattle.exec_pass.specs.Parts.{Begins}
-use Rattle.exec_answer.proofs.Ran.{kept-all, kept-long, kept-above, before}
+use Rattle.exec_simulation.proofs.Stays.{kept-all}
+use Rattle.exec_answer.proofs.Ran.{kept-long, kept-above, before}
 use Rattle.test_offers.specs.Offered.{longest, offeredRows}
 use Rattle.test_offers.specs.Contract.{Counted, Counts, Tells}
 

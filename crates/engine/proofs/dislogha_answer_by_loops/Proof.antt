@@ -1,6 +1,5 @@
-use Rattle.spec_outcome.specs.Outcome.{looped}
+use Rattle.spec_outcome.specs.Outcome.{looped, byLoops}
 use Rattle.engine.proofs.Calls.{room-refused, asked, room-answered, answer-scant, answer-refused, answer-given}
-use Rattle.spec_outcome.specs.Outcome.{byLoops}
 use borrow.Author.Needs.{needs}
 use Rattle.engine.proofs.dislogha_answer_by_loops.Statement.{statement}
 use Rattle.engine.proofs.dislogha_answer_by_loops.Tie as tie

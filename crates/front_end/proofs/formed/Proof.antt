@@ -6,10 +6,10 @@ use Rattle.front_end.proofs.formed.Statement.{statement}
 use Rattle.front_end.proofs.formed.Tie as tie
 
 returns : tie.Need-returns
-returns c = bound-over (c .before .before .before .before .before .write-form .ensures) (c .before .before .before .before .before .write-form .kept .0) (c .before .bound-fits .ensures) (off (c .before .bound-fits .result) (c .if1 .taken))
+returns c = bound-over (c .before .before .before .before .before .before .before .before .before .before .before .before .before .write-form .ensures) (c .before .before .before .before .before .before .before .before .before .before .before .before .before .write-form .kept .0) (c .before .before .before .before .before .before .before .before .before .wipe .ensures) (c .before .before .before .before .before .name-tables .ensures) (c .before .bound-fits .ensures) (off (c .before .bound-fits .result) (c .if1 .taken))
 
 returns-2 : tie.Need-returns-2
-returns-2 c = all-pass (c .before .before .before .before .before .before .before .before .before .write-form .ensures) (c .before .before .before .before .before .before .before .before .before .write-form .kept .0) (c .before .before .before .before .before .bound-fits .ensures) (on (c .before .before .before .before .before .bound-fits .result) (c .before .before .before .before .if1 .left)) (c .before .before .wipe .ensures)
+returns-2 c = all-pass (c .before .before .before .before .before .before .before .before .before .before .before .before .before .write-form .ensures) (c .before .before .before .before .before .before .before .before .before .before .before .before .before .write-form .kept .0) (c .before .before .before .before .before .before .before .before .before .wipe .ensures) (c .before .before .before .before .before .name-tables .ensures) (c .before .bound-fits .ensures) (on (c .before .bound-fits .result) (c .if1 .left))
 
 pub formed-spec : {M : Type 1} → statement M
 formed-spec =
@@ -18,8 +18,9 @@ formed-spec =
     (λ c. search needs)
     (λ c κs. search needs)
     (λ c κs. search needs)
+    (λ c κs. search needs)
+    (λ c κs. search needs)
     (λ c. search needs)
     returns
-    (λ c κs. search needs)
     (λ c. search needs)
     returns-2)

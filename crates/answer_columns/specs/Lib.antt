@@ -1,2 +1,0 @@
--- How many columns the rows of each generator have.
-pub mod Noting

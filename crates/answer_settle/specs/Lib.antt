@@ -1,0 +1,2 @@
+-- What settles an accepted question whose raw words stand in the buffer.
+pub mod Settling
