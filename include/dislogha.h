@@ -84,6 +84,10 @@ namespace dislogha {
 // question is unfinished (`begin`, `portion`, `round`).
 constexpr std::size_t scratch_words = 8192;
 
+// Bytes of stack that a call needs at most, whatever it is asked, on x86-64 as the kit compiles it
+// (docs/FIGURES.md has the bound and how it is worked out; on another processor it is another one).
+constexpr std::size_t stack_bytes = 131072;
+
 // Rows that a portion may offer.
 constexpr std::uint64_t most_rows = 65535;
 
