@@ -4,3 +4,4 @@ pub mod Looking
 pub mod Fuel
 pub mod Places
 pub mod Answers
+pub mod Turning
