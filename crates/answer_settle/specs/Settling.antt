@@ -14,7 +14,7 @@ use Rattle.spec_outcome.specs.Accepted.{Accepted}
 use Rattle.spec_outcome.specs.Outcome.{G, written}
 use Rattle.form_words.specs.Tree.{formTree, left}
 use Rattle.form_prepared.specs.Prepared.{Prepared}
-use Rattle.form_prepared.specs.Gives.{Settles}
+use Rattle.spec_outcome.specs.Gives.{Settles}
 use Rattle.form_env.specs.Env.{Held}
 use Rattle.form_env.specs.Naming.{tableOf, Named}
 
