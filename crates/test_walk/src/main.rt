@@ -2,31 +2,20 @@
 // The input is the listing: the data, then the question.
 ghost use Prim.Native.Nat.{_<_, _≤_};
 ghost use lib.ListN.{length};
+use base_scratch::BINDERS;
+use base_scratch::DESCRIPTIONS;
+use base_scratch::ENVIRONMENT;
+use base_scratch::FORM;
+use base_scratch::FORM_WORDS;
+use base_scratch::NODES;
+use base_scratch::SHAPES;
+use base_scratch::SIZES;
+use base_scratch::STARTS;
+use base_scratch::TOTALS;
 use front_end::Front;
 
 // The bytes of the listing's data.
 const DATA: usize = 48;
-
-// The words of scratch, by what they hold.
-const DESCRIPTIONS: usize = 1;
-
-const NODES: usize = 16;
-
-const BINDERS: usize = 272;
-
-const SHAPES: usize = 528;
-
-const SIZES: usize = 784;
-
-const FORM: usize = 1296;
-
-const FORM_WORDS: usize = 512;
-
-const ENVIRONMENT: usize = 16;
-
-const TOTALS: usize = 272;
-
-const STARTS: usize = 784;
 
 // How a word is taken apart.
 enum Format {
