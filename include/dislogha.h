@@ -85,8 +85,10 @@ namespace dislogha {
 constexpr std::size_t scratch_words = 8192;
 
 // Bytes of stack that a call needs at most, whatever it is asked, on x86-64 as the kit compiles it
-// (docs/FIGURES.md has the bound and how it is worked out; on another processor it is another one).
-constexpr std::size_t stack_bytes = 131072;
+// (docs/FIGURES.md says how it is worked out; another processor needs another figure). A portion and
+// a round need more: scratch that was changed in between may say anything.
+constexpr std::size_t stack_bytes = 155648;
+constexpr std::size_t portion_stack_bytes = 274432;
 
 // Rows that a portion may offer.
 constexpr std::uint64_t most_rows = 65535;

@@ -209,6 +209,17 @@ for each, times, size in ((20, 5, 185), (20, 8, 181), (20, 11, 68)):
           conditioned(lambda t: comp(ALL, [], t), size, 26, copies(each, times), 40))
 
 
+def shared(each, times, again):
+    """Generators shared twice: a comprehension of some, one that ranges over it so often, ranged over again."""
+    return [bind(0, comp(BAG, [gen(100 + i, table(0)) for i in range(each)], num(1))),
+            bind(1, comp(BAG, [gen(60 + i, name(0)) for i in range(times)], num(1)))] \
+        + [gen(2 + i, name(1)) for i in range(again)]
+
+
+for called, monoid, unit, base, _ in INNER:
+    shape(f'shared150-{called}', 202, ONE, headed(monoid, unit, base, 202, 27, shared(5, 5, 6), 30))
+
+
 def ranging(monoid, base, size, condition):
     """A generator in each of so many comprehensions, one inside the other."""
     count = [0]

@@ -12,9 +12,9 @@ use Rattle.spec_checks.specs.Types.{Ty, number, record′, ynil, ycons}
 use Rattle.spec_checks.specs.Types as Types
 use Rattle.spec_checks.proofs.Refold.{arrangeAs}
 use Rattle.spec_checks.proofs.Refold as Refold
-use Rattle.spec_outcome.specs.Written.{words}
-use Rattle.spec_outcome.specs.Written as Written
-use Rattle.answer_types.specs.Typed.{Of, a-number, a-collection, no-element, element}
+use Rattle.spec_outcome.specs.WrittenForm.{words}
+use Rattle.spec_outcome.specs.WrittenForm as Written
+use Rattle.answer_types.specs.TypedValues.{Of, a-number, a-collection, no-element, element}
 
 abbrev n : ℕ → Value
 n k = num (pos k)

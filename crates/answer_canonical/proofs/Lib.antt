@@ -1,5 +1,5 @@
 -- Laws of the written form and of the walk that makes it.
-pub mod Arranging
-pub mod Walking
-pub mod Answer
+pub mod ArrangedValues
+pub mod WalkExits
+pub mod WrittenAnswer
 pub mod Examples

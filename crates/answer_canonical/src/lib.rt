@@ -2,10 +2,10 @@
 ghost use Prim.Native.Nat.{_≤_};
 ghost use Rattle.base_scratch.specs.Map.{places};
 ghost use Rattle.answer_types.specs.Shape.{Shaped};
-ghost use Rattle.answer_canonical.specs.Walk.{Carried, Walked, WalkedFields, WalkedElements, Finished};
+ghost use Rattle.answer_canonical.specs.CompactingWalk.{CarryPost, WalkPost, WalkFieldsPost, WalkElementsPost, FinishPost};
 use answer_sort::order;
 use answer_types::Layout;
-use answer_types::Shape;
+use answer_types::ValueType;
 use answer_types::element_layout;
 use answer_types::layout_at;
 use base_buffer::ahead;
@@ -23,7 +23,7 @@ struct Ends {
 
 // The next n words, which are written as they are, move down.
 fn carry(o: &mut [i64], n: usize, e: Ends) -> Ends
-    ensures { λ r. ⌜ Carried n e (now (o .entry)) (now (o .exit)) r ⌝ }
+    ensures { λ r. ⌜ CarryPost n e (now (o .entry)) (now (o .exit)) r ⌝ }
 {
     let src = ahead(o, e.src, n);
     shift(o, e.dst, e.src, src);
@@ -37,14 +37,14 @@ fn carry(o: &mut [i64], n: usize, e: Ends) -> Ends
 // elements are ordered, and the count is mended.
 fn walk(s: &[u64], o: &mut [i64], t: Layout, e: Ends) -> Ends
     requires { ⌜ Shaped (now s) (t .place) (t .shape) ⌝ }
-    ensures { λ r. ⌜ Walked (now (s .entry)) (t .place) e (now (o .entry)) (now (o .exit)) r ⌝ }
+    ensures { λ r. ⌜ WalkPost (now (s .entry)) (t .place) e (now (o .entry)) (now (o .exit)) r ⌝ }
 {
     let shape = t.shape;
     match shape {
-        Shape::Word => carry(o, 1, e),
-        Shape::Words(n) => carry(o, n, e),
-        Shape::Fields(end) => walk_fields(s, o, t.place + 1, end, e),
-        Shape::Elements(k, h) => {
+        ValueType::Word => carry(o, 1, e),
+        ValueType::Words(n) => carry(o, n, e),
+        ValueType::Fields(end) => walk_fields(s, o, t.place + 1, end, e),
+        ValueType::Elements(k, h) => {
             let u = element_layout(s, h);
             let n = tally(o, e.src);
             let b = carry(o, 1, e);
@@ -62,7 +62,7 @@ fn walk(s: &[u64], o: &mut [i64], t: Layout, e: Ends) -> Ends
 // Fields, their types from place c to end.
 fn walk_fields(s: &[u64], o: &mut [i64], c: usize, end: usize, e: Ends) -> Ends
     requires { ⌜ end ≤ places ⌝ }
-    ensures { λ r. ⌜ WalkedFields (now (s .entry)) c end e (now (o .entry)) (now (o .exit)) r ⌝ }
+    ensures { λ r. ⌜ WalkFieldsPost (now (s .entry)) c end e (now (o .entry)) (now (o .exit)) r ⌝ }
 {
     if end <= c {
         return e;
@@ -74,7 +74,7 @@ fn walk_fields(s: &[u64], o: &mut [i64], c: usize, end: usize, e: Ends) -> Ends
 // Elements.
 fn walk_elements(s: &[u64], o: &mut [i64], t: Layout, count: usize, e: Ends) -> Ends
     requires { ⌜ Shaped (now s) (t .place) (t .shape) ⌝ }
-    ensures { λ r. ⌜ WalkedElements (now (s .entry)) (t .place) count e (now (o .entry)) (now (o .exit)) r ⌝ }
+    ensures { λ r. ⌜ WalkElementsPost (now (s .entry)) (t .place) count e (now (o .entry)) (now (o .exit)) r ⌝ }
 {
     let mut n = count;
     let mut g = e;
@@ -87,7 +87,7 @@ fn walk_elements(s: &[u64], o: &mut [i64], t: Layout, count: usize, e: Ends) -> 
 
 // The value of the type at i whose raw words stand in front; how many words it has when written.
 pub fn finish(s: &[u64], o: &mut [i64], i: usize) -> usize
-    ensures { λ r. ⌜ Finished (now (s .entry)) i (now (o .entry)) (now (o .exit)) r ⌝ }
+    ensures { λ r. ⌜ FinishPost (now (s .entry)) i (now (o .entry)) (now (o .exit)) r ⌝ }
 {
     let e = walk(s, o, layout_at(s, i), Ends { src: 0, dst: 0 });
     clear(o, e.dst, e.src);

@@ -1,5 +1,5 @@
 -- Laws of comparing.
-pub mod Flat
-pub mod Compares
+pub mod FlatCompare
+pub mod CompareExits
 pub mod Depth
-pub mod Stands
+pub mod ValueOrder

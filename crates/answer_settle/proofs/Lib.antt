@@ -1,4 +1,4 @@
 -- An accepted question in scratch, and its raw words in the buffer.
-pub mod Standing
-pub mod Rooted
-pub mod Finishing
+pub mod PreparedQuestion
+pub mod FormTypes
+pub mod FinishSettles

@@ -1,2 +1,2 @@
 -- What settles an accepted question whose raw words stand in the buffer.
-pub mod Settling
+pub mod SettleContract

@@ -1,4 +1,4 @@
 -- Laws of the ordering step.
-pub mod Inserting
-pub mod Wide
+pub mod InsertionSort
+pub mod SortByHeap
 pub mod Repeats

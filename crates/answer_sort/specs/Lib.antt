@@ -1,2 +1,2 @@
 -- The ordering step: what it promises, and what its parts do.
-pub mod Ordering
+pub mod OrderStep

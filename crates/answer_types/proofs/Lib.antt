@@ -1,9 +1,9 @@
 -- Laws of types in scratch and of skipping.
-pub mod Stands
+pub mod SkippedValues
 pub mod Types
-pub mod Flat
+pub mod FlatSkip
 pub mod Widths
-pub mod Many
-pub mod Skips
-pub mod Values
+pub mod ElementTypes
+pub mod SkipExits
+pub mod RawValueType
 pub mod Elements

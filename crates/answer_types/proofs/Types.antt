@@ -12,27 +12,27 @@ use Rattle.spec_checks.proofs.Refold.{gathered}
 use Rattle.spec_normal_form.specs.Form.{Form}
 use Rattle.base_syntax.specs.declared.Monoid.{Monoid}
 use Rattle.base_syntax.specs.declared.Monoid.the-variants as Mo
-use Rattle.base_syntax.specs.Word.{monoidOf}
+use Rattle.base_syntax.specs.MonoidWord.{monoidOf}
 use Rattle.base_syntax.specs.Numbers.{binOf}
-use Rattle.form_words.specs.declared.Node.{Node}
-use Rattle.form_words.specs.declared.Node.the-variants.{Number, Truth, Row, Cell, Record, Binary, Negation, Comprehension, Generator, Condition, Nothing}
-use Rattle.form_words.specs.Packing.{next}
-use Rattle.form_words.specs.Tree.{formTree, headTree, left}
+use Rattle.form_words.specs.declared.FormNode.{FormNode}
+use Rattle.form_words.specs.declared.FormNode.the-variants.{Number, Truth, Row, Cell, Record, Binary, Negation, Comprehension, Generator, Condition, Nothing}
+use Rattle.form_words.specs.NodeWord.{next}
+use Rattle.form_words.specs.FormTree.{formTree, headTree, left}
 use Rattle.base_scratch.specs.Map.{places}
 use Rattle.form_words.specs.declared.Clause.the-variants as Cl
-use Rattle.form_words.specs.Look.{Looks, LooksC}
-use Rattle.form_words.specs.Head.{headNode}
-use Rattle.form_words.proofs.Laws.{look-out, next-past, formNode, form-is, head-is, head-node-is, forms-end, forms-more}
-use Rattle.base_buffer.proofs.Places.{clash}
+use Rattle.form_words.specs.Look.{Looks, LookClausePost}
+use Rattle.form_words.specs.HeadPlace.{headNode}
+use Rattle.form_words.proofs.NodeWords.{look-out, next-past, formNode, form-is, head-is, head-node-is, forms-end, forms-more}
+use Rattle.base_buffer.proofs.TotalReads.{clash}
 use Rattle.base_tables.specs.Description.{columnsIn}
-use Rattle.form_env.specs.Env.{slotOf, descriptionIn}
-use Rattle.answer_types.specs.declared.Kind.{Kind}
+use Rattle.form_env.specs.Environment.{slotOf, descriptionIn}
+use Rattle.answer_types.specs.declared.CollectionKind.{CollectionKind}
 use Rattle.answer_types.specs.declared.Layout.{Layout}
-use Rattle.answer_types.specs.declared.Shape.{Shape}
-use Rattle.answer_types.specs.declared.Shape.the-variants as Sh
+use Rattle.answer_types.specs.declared.ValueType.{ValueType}
+use Rattle.answer_types.specs.declared.ValueType.the-variants as Sh
 use Rattle.answer_types.specs.Columns.{columns}
-use Rattle.answer_types.specs.Shape.{typeOf, typesOf, typeAt, typesAt, isSingle, collectionOf, Heads, endBy, ClauseEnds, gatherOf, shapeBy, shapeIn, Shaped, ShapeAt, Laid, LaidBy}
-use Rattle.answer_types.specs.Flat.{Flat, FlatEach, widthOf, widthEach}
+use Rattle.answer_types.specs.Shape.{typeOf, typesOf, typeAt, typesAt, isSingle, collectionOf, HeadPost, endBy, ClauseEndPost, gatherOf, shapeBy, shapeIn, Shaped, ShapeAt, Laid, LaidBy}
+use Rattle.answer_types.specs.FlatTypes.{Flat, FlatEach, widthOf, widthEach}
 
 -- ---- columns
 pub columns-is : (s : List ℕ) (g : ℕ) {e w r : ℕ} → e ≡ slotOf s g → w ≡ descriptionIn s (e / 2048) → r ≡ columnsIn w → r ≡ columns s g
@@ -41,30 +41,30 @@ columns-is s g p q h = h ∙ ap columnsIn (q ∙ ap (λ (x : ℕ). descriptionIn
 
 -- ---- clauses and heads
 module _ {s : List ℕ} {j : ℕ} where
-  pub clause-generator : {g k : ℕ} → LooksC s j (Cl.Generator g k) → ClauseEnds s j (j + 1)
+  pub clause-generator : {g k : ℕ} → LookClausePost s j (Cl.Generator g k) → ClauseEndPost s j (j + 1)
   clause-generator H = record { is = ap (endBy j) (H .is); past = omega arith; upto = λ l. omega (arith, H .inside .0); over = λ l f. (head-is H f, head-node-is H f); none = λ l. absurd (omega arith) }
 
-  pub clause-condition : {e : ℕ} → LooksC s j (Cl.Condition e) → ClauseEnds s j e
+  pub clause-condition : {e : ℕ} → LookClausePost s j (Cl.Condition e) → ClauseEndPost s j e
   clause-condition H = record { is = ap (endBy j) (H .is); past = omega (arith, H .inside .0); upto = λ l. H .inside .1; over = λ l f. (head-is H f, head-node-is H f); none = λ l. absurd (omega (arith, H .inside .0)) }
 
-  pub clause-none : LooksC s j Cl.Head → ClauseEnds s j j
+  pub clause-none : LookClausePost s j Cl.Head → ClauseEndPost s j j
   clause-none H = record { is = ap (endBy j) (H .is); past = omega arith; upto = λ l. absurd (omega arith); over = λ l. absurd (omega arith); none = λ l f. (head-is H f, head-node-is H f) }
 
 -- on the way from i to the head, at j, where a clause ends at e
 pub record Seeking (s : List ℕ) (i j e : ℕ) : Type 0 where
   pub past : i ≤ j
   pub upto : i ≤ places → j ≤ places
-  pub clause : ClauseEnds s j e
+  pub clause : ClauseEndPost s j e
   pub same : (f : ℕ) → left i + 1 < f → (g : ℕ) × (left j + 1 < g) × (headTree f s i ≡ headTree g s j) × (headNode f s i ≡ headNode g s j)
 
-pub seek-first : {s : List ℕ} {i e : ℕ} → ClauseEnds s i e → Seeking s i i e
+pub seek-first : {s : List ℕ} {i e : ℕ} → ClauseEndPost s i e → Seeking s i i e
 seek-first C = record { past = omega arith; upto = λ l. l; clause = C; same = λ f l. (f, l, refl, refl) }
 
 module _ {s : List ℕ} {i j e : ℕ} (I : Seeking s i j e) where
   pub seek-less : j < e → places - e < places - j
   seek-less l = omega (arith, I .clause .upto l)
 
-  pub seek-again : {d : ℕ} → j < e → ClauseEnds s e d → Seeking s i e d
+  pub seek-again : {d : ℕ} → j < e → ClauseEndPost s e d → Seeking s i e d
   seek-again {d} l C = record {
     past = omega (arith, I .past);
     upto = λ m. I .clause .upto l;
@@ -77,7 +77,7 @@ module _ {s : List ℕ} {i j e : ℕ} (I : Seeking s i j e) where
       on f zero p q r = absurd (omega arith)
       on f (suc g) p q r = (g, omega (arith, I .clause .upto l), q ∙ I .clause .over l g .0, r ∙ I .clause .over l g .1)
 
-  pub seek-last : e ≤ j → Heads s i j
+  pub seek-last : e ≤ j → HeadPost s i j
   seek-last l = record {
     is = λ f m. let (g, p, q, r) = I .same f m in at f g p r;
     past = I .past;
@@ -95,7 +95,7 @@ module _ {s : List ℕ} {i j e : ℕ} (I : Seeking s i j e) where
 
 -- ---- shapes
 -- what holds of the form at a place, by the node there
-module _ {s : List ℕ} {i : ℕ} {n : Node} (H : Looks s i n) (P : Form → Type 0) where
+module _ {s : List ℕ} {i : ℕ} {n : FormNode} (H : Looks s i n) (P : Form → Type 0) where
   at-node : ((f : ℕ) → left i < suc f → P (formNode f s i n)) → (f : ℕ) → left i < f → P (formTree f s i)
   at-node h = elim [ zero ↦ λ l. absurd (omega arith) | suc f ↦ λ l. subst P (sym (form-is H f)) (h f l) ]
 
@@ -105,7 +105,7 @@ unfolding typeOf
 type-out s l = at-node (look-out l) (λ t. typeOf (columns s) t ≡ number) (λ f k. refl)
 
 -- a node whose values are one word
-abbrev OneWord : Node → Type 0
+abbrev OneWord : FormNode → Type 0
 OneWord (Number z) = Unit {0}
 OneWord (Truth b) = Unit {0}
 OneWord (Row g) = ⊥
@@ -151,7 +151,7 @@ single-result less = refl
 single-result and = refl
 single-result or = refl
 
-single-node : (s : List ℕ) (i f : ℕ) (n : Node) → OneWord n → true ≡ isSingle (typeOf (columns s) (formNode f s i n))
+single-node : (s : List ℕ) (i f : ℕ) (n : FormNode) → OneWord n → true ≡ isSingle (typeOf (columns s) (formNode f s i n))
 unfolding typeOf gathered
 single-node s i f (Number z) p = refl
 single-node s i f (Truth b) p = refl
@@ -173,7 +173,7 @@ single-node s i f (Condition j) p = refl
 single-node s i f Nothing p = refl
 
 -- its shape, too, is one word
-one-shape : (C : ℕ → ℕ) (H : ℕ → ℕ) (i : ℕ) (n : Node) → OneWord n → Sh.Word ≡ shapeBy C H i n
+one-shape : (C : ℕ → ℕ) (H : ℕ → ℕ) (i : ℕ) (n : FormNode) → OneWord n → Sh.Word ≡ shapeBy C H i n
 one-shape C H i (Number z) p = refl
 one-shape C H i (Truth b) p = refl
 one-shape C H i (Row g) p = absurd p
@@ -199,11 +199,11 @@ as-words {s} {i} H = record { is = λ f l. single-has (typeAt f s i) (H .is f l)
 
 module _ {s : List ℕ} {i : ℕ} where
   -- the shape by the node that was looked at
-  shape-node : {n : Node} → Looks s i n → (f : ℕ) → shapeBy (columns s) (λ j. headNode f s j) i n ≡ shapeIn f s i
+  shape-node : {n : FormNode} → Looks s i n → (f : ℕ) → shapeBy (columns s) (λ j. headNode f s j) i n ≡ shapeIn f s i
   unfolding shapeIn
   shape-node H f = ap (shapeBy (columns s) (λ j. headNode f s j) i) (H .is)
 
-  pub shape-word : {n : Node} → Looks s i n → OneWord n → ShapeAt s i Sh.Word
+  pub shape-word : {n : FormNode} → Looks s i n → OneWord n → ShapeAt s i Sh.Word
   shape-word {n} H p =
       let q = at-node H (λ t. true ≡ isSingle (typeOf (columns s) t)) (λ f l. single-node s i f n p) in
       record { is = λ f l. one-shape (columns s) (λ j. headNode f s j) i n p ∙ shape-node H f; single = q; shaped = record { is = q } }
@@ -226,7 +226,7 @@ module _ {s : List ℕ} {i : ℕ} where
         shaped = record { is = (omega arith, p .1, at-node H (λ t. (g : ℕ) × (left (i + 1) + 1 < g) × (typeOf (columns s) t ≡ record′ (typesAt g s (i + 1) e))) (λ f l. (f, omega arith, refl))) };
       }
 
-  pub shape-elements : {m : Monoid} {h : ℕ} (k : Kind) → Looks s i (Comprehension m) → Heads s (i + 1) h → monoidOf m ≡ of (collectionOf k) → Sh.Elements k h ≡ gatherOf m h → ShapeAt s i (Sh.Elements k h)
+  pub shape-elements : {m : Monoid} {h : ℕ} (k : CollectionKind) → Looks s i (Comprehension m) → HeadPost s (i + 1) h → monoidOf m ≡ of (collectionOf k) → Sh.Elements k h ≡ gatherOf m h → ShapeAt s i (Sh.Elements k h)
   unfolding typeOf gathered
   shape-elements {m} {h} k H D e w = let p = H .inside in
       record {
@@ -243,15 +243,15 @@ module _ {s : List ℕ} {i : ℕ} where
       }
 
 -- ---- what holds of the type at a place, by its shape, at every fuel
-pub reshape : {s : List ℕ} {i : ℕ} {r n : Shape} → Shaped s i r → r ≡ n → Shaped s i n
+pub reshape : {s : List ℕ} {i : ℕ} {r n : ValueType} → Shaped s i r → r ≡ n → Shaped s i n
 reshape {s} {i} H e = subst (Shaped s i) e H
 
 -- a layout made of a place and the shape there
-pub laid : {s : List ℕ} {i : ℕ} {n : Shape} {r : Layout} → r .place ≡ i → r .shape ≡ n → Shaped s i n → Laid s i r
+pub laid : {s : List ℕ} {i : ℕ} {n : ValueType} {r : Layout} → r .place ≡ i → r .shape ≡ n → Shaped s i n → Laid s i r
 laid {s} {i} {r = r} ei es H = record { at-place = ei; shaped = subst (λ (j : ℕ). Shaped s j (r .shape)) (sym ei) (subst (Shaped s i) (sym es) H) }
 
 -- a layout by any definition of its shape
-pub laid-as : {S : ℕ → List ℕ → ℕ → Shape} {s : List ℕ} {i : ℕ} {r : Layout} → LaidBy S s i r → Laid s i r
+pub laid-as : {S : ℕ → List ℕ → ℕ → ValueType} {s : List ℕ} {i : ℕ} {r : Layout} → LaidBy S s i r → Laid s i r
 laid-as L = record { at-place = L .at-place; shaped = L .shaped }
 
 -- what holds of a layout's place holds of the place it was read at
@@ -265,7 +265,7 @@ module _ {s : List ℕ} {i : ℕ} (P : Ty → Type 0) where
   pub by-fields : {e : ℕ} → Shaped s i (Sh.Fields e) → ((g : ℕ) → left (i + 1) + 1 < g → P (record′ (typesAt g s (i + 1) e))) → (f : ℕ) → left i < f → P (typeAt f s i)
   by-fields H p f l = let (g, q, r) = H .is .2 f l in subst P (sym r) (p g q)
 
-  pub by-elements : {k : Kind} {h : ℕ} → Shaped s i (Sh.Elements k h) → ((g : ℕ) → left h < g → P (coll (collectionOf k) (typeAt g s h))) → (f : ℕ) → left i < f → P (typeAt f s i)
+  pub by-elements : {k : CollectionKind} {h : ℕ} → Shaped s i (Sh.Elements k h) → ((g : ℕ) → left h < g → P (coll (collectionOf k) (typeAt g s h))) → (f : ℕ) → left i < f → P (typeAt f s i)
   by-elements H p f l = let (g, q, r) = H .is .2 f l in subst P (sym r) (p g q)
 
 module _ (s : List ℕ) {c e : ℕ} (P : Tys → Type 0) where

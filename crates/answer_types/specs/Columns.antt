@@ -2,8 +2,8 @@
 use mathlib.Core.List.{List}
 use Prim.Native.Nat.{ℕ}
 use Rattle.base_tables.specs.Description.{columnsIn}
-use Rattle.form_env.specs.Env.{descriptionIn}
-use Rattle.form_env.specs.Naming.{tableOf}
+use Rattle.form_env.specs.Environment.{descriptionIn}
+use Rattle.form_env.specs.NamedTables.{tableOf}
 
 unfoldable pub columns : List ℕ → ℕ → ℕ
 columns s g = columnsIn (descriptionIn s (tableOf s g))

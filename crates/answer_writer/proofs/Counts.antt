@@ -20,12 +20,12 @@ use Rattle.spec_calculus.proofs.WellFormed.{Row, row-field}
 use Rattle.spec_encoding.specs.Record.{Bytes}
 use Rattle.spec_normal_form.specs.Form.{Form, Forms, Clauses, row, cell, bin, negate, comp, fnil, fcons, done, gen, cond, value, values, loops}
 use Rattle.spec_normal_form.specs.Form as Fo
-use Rattle.base_syntax.proofs.Laws.{Made, fold-made}
-use Rattle.form_env.specs.Env.{envOf, tablesIn, Held}
-use Rattle.form_env.proofs.Laws.{each-row, table-each}
-use Rattle.spec_outcome.specs.Written.{words, wordsL}
-use Rattle.answer_writer.specs.Laying.{big, cutWords, cutWordsL}
-use Rattle.answer_writer.specs.Filled.{filled, someF, filledF}
+use Rattle.base_syntax.proofs.MergedWords.{Made, fold-made}
+use Rattle.form_env.specs.Environment.{envOf, tablesIn, Held}
+use Rattle.form_env.proofs.BoundRows.{each-row, table-each}
+use Rattle.spec_outcome.specs.WrittenForm.{words, wordsL}
+use Rattle.answer_writer.specs.LaidWords.{big, cutWords, cutWordsL}
+use Rattle.answer_writer.specs.RecordFields.{filled, someF, filledF}
 
 -- Cutting counts changes no length.
 mutual

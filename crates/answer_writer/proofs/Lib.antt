@@ -1,6 +1,6 @@
 -- What laying words comes to, and which values are one word.
-pub mod Laying
-pub mod Leaves
+pub mod LaidWords
+pub mod Exits
 pub mod OneWord
-pub mod Filled
+pub mod RecordFields
 pub mod Counts

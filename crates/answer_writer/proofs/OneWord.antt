@@ -5,11 +5,11 @@ use mathlib.Core.Bool.{Bool, true, false}
 use lib.IntN.{ℤ}
 use Rattle.spec_calculus.specs.Syntax.{Bin, plus, minus, times, equal, less, and, or}
 use Rattle.spec_calculus.specs.Value.{Value, num, truth, asInt, asBool, binV}
-use Rattle.spec_outcome.specs.Written.{truthWord}
+use Rattle.spec_outcome.specs.WrittenForm.{truthWord}
 use Rattle.form_arith.specs.declared.Sort.{Sort}
 use Rattle.form_arith.specs.declared.Sort.the-variants as So
-use Rattle.form_arith.specs.Sorts.{asWord, resultSort}
-use Rattle.answer_writer.specs.Laying.{cutWords}
+use Rattle.form_arith.specs.WordSorts.{asWord, resultSort}
+use Rattle.answer_writer.specs.LaidWords.{cutWords}
 
 -- a value that is one word
 abbrev pub OneWord : Sort → Value → Type 0

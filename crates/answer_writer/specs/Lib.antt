@@ -1,5 +1,5 @@
 -- Words in the answer buffer.
-pub mod Laying
+pub mod LaidWords
 pub mod Shapes
 pub mod Contract
-pub mod Filled
+pub mod RecordFields

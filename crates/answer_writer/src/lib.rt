@@ -1,8 +1,8 @@
 // The words of the answer, laid into its buffer below a limit; how a value is written, and the words of a row.
 ghost use mathlib.Core.Path.{_≡_};
-ghost use Rattle.answer_writer.specs.Laying.{bump, laid, Puts};
-ghost use Rattle.answer_writer.specs.Shapes.{comprehensionShape, ShapeAt};
-ghost use Rattle.answer_writer.specs.Contract.{Rows};
+ghost use Rattle.answer_writer.specs.LaidWords.{bump, laid, PutPost};
+ghost use Rattle.answer_writer.specs.Shapes.{comprehensionShape, ShapeAtPost};
+ghost use Rattle.answer_writer.specs.Contract.{RowPost};
 use base_scratch::FORM_WORDS;
 use base_signed::COUNT_LIMIT;
 use base_syntax::Monoid;
@@ -22,7 +22,7 @@ use form_words::next;
 use form_words::word;
 
 // How a form's value is written: one word, a row's columns, a record's fields up to a place, a collection.
-pub enum Shape {
+pub enum WriteForm {
     Word(Sort),
     Row(usize),
     Record(usize),
@@ -48,50 +48,50 @@ pub fn lay(out: &mut [i64], limit: usize, p: usize, x: i64)
 
 // A word at p where that is below the limit; the next place.
 pub fn put(out: &mut [i64], limit: usize, p: usize, x: i64) -> usize
-    ensures { λ r. ⌜ Puts limit (now (out .entry)) p x (now (out .exit)) r ⌝ }
+    ensures { λ r. ⌜ PutPost limit (now (out .entry)) p x (now (out .exit)) r ⌝ }
 {
     lay(out, limit, p, x);
     more(p)
 }
 
-fn comprehension_shape(m: Monoid) -> Shape
+fn comprehension_shape(m: Monoid) -> WriteForm
     ensures { λ r. ⌜ r ≡ comprehensionShape m ⌝ }
 {
     match m {
-        Monoid::List => Shape::Collection,
-        Monoid::Bag => Shape::Collection,
-        Monoid::Set => Shape::Collection,
-        Monoid::Sum => Shape::Word(Sort::Number),
-        Monoid::Max => Shape::Word(Sort::Number),
-        Monoid::Some => Shape::Word(Sort::Truth),
-        Monoid::All => Shape::Word(Sort::Truth),
-        Monoid::Min => Shape::Word(Sort::Number),
+        Monoid::List => WriteForm::Collection,
+        Monoid::Bag => WriteForm::Collection,
+        Monoid::Set => WriteForm::Collection,
+        Monoid::Sum => WriteForm::Word(Sort::Number),
+        Monoid::Max => WriteForm::Word(Sort::Number),
+        Monoid::Some => WriteForm::Word(Sort::Truth),
+        Monoid::All => WriteForm::Word(Sort::Truth),
+        Monoid::Min => WriteForm::Word(Sort::Number),
     }
 }
 
 // By the word itself: `look` would make a node first.
-pub fn shape_at(s: &[u64], i: usize) -> Shape
-    ensures { λ r. ⌜ ShapeAt (now (s .entry)) i r ⌝ }
+pub fn shape_at(s: &[u64], i: usize) -> WriteForm
+    ensures { λ r. ⌜ ShapeAtPost (now (s .entry)) i r ⌝ }
 {
     if FORM_WORDS <= i {
-        return Shape::Word(Sort::Number);
+        return WriteForm::Word(Sort::Number);
     }
     let w = word(s, i);
     let a = arg(w);
     match kind(w) {
-        form_words::TRUTH => Shape::Word(Sort::Truth),
-        form_words::ROW => Shape::Row(low(a)),
-        form_words::RECORD => Shape::Record(next(s, i)),
-        form_words::BINARY => Shape::Word(result(Op::from_number(a))),
-        form_words::NEGATION => Shape::Word(Sort::Truth),
+        form_words::TRUTH => WriteForm::Word(Sort::Truth),
+        form_words::ROW => WriteForm::Row(low(a)),
+        form_words::RECORD => WriteForm::Record(next(s, i)),
+        form_words::BINARY => WriteForm::Word(result(Op::from_number(a))),
+        form_words::NEGATION => WriteForm::Word(Sort::Truth),
         form_words::COMPREHENSION => comprehension_shape(Monoid::from_bits(a)),
-        _ => Shape::Word(Sort::Number),
+        _ => WriteForm::Word(Sort::Number),
     }
 }
 
 // The columns of the row that generator g stands for; one 0 where there is no row.
 pub fn row(s: &[u64], data: &[u8], out: &mut [i64], limit: usize, g: usize, p: usize) -> usize
-    ensures { λ r. ⌜ Rows (now («data» .entry)) (now (s .entry)) limit (now (out .entry)) g p (now (out .exit)) r ⌝ }
+    ensures { λ r. ⌜ RowPost (now («data» .entry)) (now (s .entry)) limit (now (out .entry)) g p (now (out .exit)) r ⌝ }
 {
     let e = slot(s, g) as usize;
     let w = description(s, e / ROWS);

@@ -1,4 +1,4 @@
 -- Laws of reading and moving words.
-pub mod Places
+pub mod TotalReads
 pub mod Blocks
-pub mod Swaps
+pub mod BlockSwaps

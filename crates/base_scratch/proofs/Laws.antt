@@ -9,13 +9,13 @@ use lib.Dec.{ltb}
 use lib.ListN.{length, getD, drop, set, replicate, length-set, length-append, length-replicate, length-drop, getD-replicate, List·getD-append}
 use lib.Seq.{getD-set-same, getD-set-other, getD-append-add, getD-drop, ext-getD}
 use borrow.Author.Tests.{ltb-true, ltb-false}
-use Rattle.base_scratch.specs.Wiped.{Wiped}
+use Rattle.base_scratch.specs.ZeroedWords.{WipePost}
 
 -- ---- word by word
-pub wiped-none : (s : List ℕ) (a : ℕ) → Wiped a a s s
+pub wiped-none : (s : List ℕ) (a : ℕ) → WipePost a a s s
 wiped-none s a = record { long = refl; inside = λ j l h. absurd (omega arith); outside = λ j h. refl }
 
-module _ {s₀ s t : List ℕ} {a i : ℕ} (W : Wiped a i s₀ s) (low : a ≤ i) (room : i < length s₀) (e : t ≡ set s i 0) where
+module _ {s₀ s t : List ℕ} {a i : ℕ} (W : WipePost a i s₀ s) (low : a ≤ i) (room : i < length s₀) (e : t ≡ set s i 0) where
   same : (j : ℕ) → (j ≡ i → ⊥) → getD t j 0 ≡ getD s j 0
   same j h = ap (λ (l : List ℕ). getD l j 0) e ∙ getD-set-other s i j 0 0 h
 
@@ -27,18 +27,18 @@ module _ {s₀ s t : List ℕ} {a i : ℕ} (W : Wiped a i s₀ s) (low : a ≤ i
       let r = W .long in
       ap (λ (x : ℕ). getD t x 0) z ∙ ap (λ (l : List ℕ). getD l i 0) e ∙ getD-set-same s i 0 0 (omega arith)
 
-  pub wiped-more : Wiped a (i + 1) s₀ t
+  pub wiped-more : WipePost a (i + 1) s₀ t
   wiped-more = record {
     long = ap length e ∙ length-set s i 0 ∙ W .long;
     inside = λ j l h. at (ltb j i) j refl l h;
     outside = λ j h. ⊎-elim (λ p. same j (λ q. omega arith) ∙ W .outside j (inl p)) (λ p. same j (λ q. omega arith) ∙ W .outside j (inr (omega arith))) h;
   }
 
-pub wiped-all : {a b i : ℕ} {s s′ : List ℕ} → Wiped a i s s′ → i ≤ b → b ≤ i → Wiped a b s s′
-wiped-all {a} {s = s} {s′} W h l = subst (λ (x : ℕ). Wiped a x s s′) (omega arith) W
+pub wiped-all : {a b i : ℕ} {s s′ : List ℕ} → WipePost a i s s′ → i ≤ b → b ≤ i → WipePost a b s s′
+wiped-all {a} {s = s} {s′} W h l = subst (λ (x : ℕ). WipePost a x s s′) (omega arith) W
 
 -- ---- as a list, from the front
-module _ (n : ℕ) {s s′ : List ℕ} (W : Wiped 0 n s s′) (room : n ≤ length s) where
+module _ (n : ℕ) {s s′ : List ℕ} (W : WipePost 0 n s s′) (room : n ≤ length s) where
   abbrev zeros : List ℕ
   zeros = replicate n 0
 

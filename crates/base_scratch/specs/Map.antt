@@ -21,7 +21,7 @@ scratchSize = 8192
 abbrev pub unusedAt : ℕ
 unusedAt = 2048
 
--- how many tables there are, and a description for each (base_tables/specs/Reading)
+-- how many tables there are, and a description for each (base_tables/specs/DataReader)
 abbrev pub tablesAt : ℕ
 tablesAt = 0
 
@@ -29,7 +29,7 @@ abbrev pub descriptionsAt : ℕ
 descriptionsAt = 1
 
 -- ---- checks
--- a word for each node of the question, in post-order (front_words/specs/Packing)
+-- a word for each node of the question, in post-order (front_words/specs/NodeWord)
 abbrev pub nodesAt : ℕ
 nodesAt = 16
 
@@ -43,15 +43,15 @@ bindersAt = nodesAt + mostNodes
 abbrev pub names : ℕ
 names = 256
 
--- a word for each node: its type at its head, with the node or the table that makes it (front_typing/specs/Words)
+-- a word for each node: its type at its head, with the node or the table that makes it (front_typing/specs/ShapeWords)
 abbrev pub shapesAt : ℕ
 shapesAt = bindersAt + names
 
--- two words for each node: its sizes in the normal form (front_sizes/specs/Packing)
+-- two words for each node: its sizes in the normal form (front_sizes/specs/SizeWords)
 abbrev pub sizesAt : ℕ
 sizesAt = shapesAt + mostNodes
 
--- ---- the normal form: its words stand from this word on, at most so many of them (form_words/specs/Packing)
+-- ---- the normal form: its words stand from this word on, at most so many of them (form_words/specs/NodeWord)
 abbrev pub formAt : ℕ
 formAt = sizesAt + 2 * mostNodes
 
@@ -63,11 +63,11 @@ abbrev pub generators : ℕ
 generators = places / 2
 
 -- ---- loops, and a plan that runs
--- the slot of each generator: its table and its row (form_env/specs/Env)
+-- the slot of each generator: its table and its row (form_env/specs/Environment)
 abbrev pub envAt : ℕ
 envAt = nodesAt
 
--- for each comprehension its total, or where its elements end; and where they begin (exec_state/specs/Cursors)
+-- for each comprehension its total, or where its elements end; and where they begin (exec_state/specs/StateWords)
 abbrev pub totalsAt : ℕ
 totalsAt = envAt + generators
 
@@ -78,7 +78,7 @@ startsAt = totalsAt + places
 abbrev pub seatsAt : ℕ
 seatsAt = totalsAt
 
--- ---- an unfinished question, between its portions (exec_portions/specs/Unfinished)
+-- ---- an unfinished question, between its portions (exec_portions/specs/UnfinishedQuestion)
 abbrev pub stageAt : ℕ
 stageAt = formAt + places
 

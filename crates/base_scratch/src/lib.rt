@@ -4,7 +4,7 @@ ghost use mathlib.Core.List.{_++_};
 ghost use Prim.Native.Nat.{_+_, _≤_};
 ghost use lib.ListN.{length, getD, drop, set, replicate};
 ghost use Rattle.base_scratch.specs.Map.{scratchSize};
-ghost use Rattle.base_scratch.specs.Wiped.{Wiped};
+ghost use Rattle.base_scratch.specs.ZeroedWords.{WipePost};
 
 // The map. specs/Map.antt has the same names and says what stands there.
 
@@ -95,7 +95,7 @@ pub fn store_at(s: &mut [u64], place: usize, i: usize, w: u64)
 // The words from a up to b become 0, all others stay.
 pub fn wipe(s: &mut [u64], a: usize, b: usize)
     requires { ⌜ (a ≤ b) × (b ≤ length (now s)) ⌝ }
-    ensures { λ r. ⌜ Wiped a b (now (s .entry)) (now (s .exit)) ⌝ }
+    ensures { λ r. ⌜ WipePost a b (now (s .entry)) (now (s .exit)) ⌝ }
 {
     let mut i = a;
     while i < b {

@@ -1,2 +1,2 @@
 -- Laws of signed words.
-pub mod Word
+pub mod SignedWords

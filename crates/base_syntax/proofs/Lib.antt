@@ -1,3 +1,3 @@
 -- What the words of a monoid mean, and its number and an operator's.
-pub mod Laws
+pub mod MergedWords
 pub mod Numbers

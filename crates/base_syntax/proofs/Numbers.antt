@@ -7,7 +7,7 @@ use Rattle.spec_calculus.specs.Syntax.{list, bag, set, of, sum, max, min, some,
 use Rattle.spec_calculus.specs.Syntax as Sy
 use Rattle.base_syntax.specs.declared.Op.the-variants.{Plus}
 use Rattle.base_syntax.specs.declared.Monoid.the-variants as Mo
-use Rattle.base_syntax.specs.Word.{monoidOf}
+use Rattle.base_syntax.specs.MonoidWord.{monoidOf}
 use Rattle.base_syntax.specs.Numbers.{binOf, opArg, operators, opAt, monoidNumber, monoids, monoidNumbered, monoidArg, monoidAt}
 
 pub op-back : (o : Bin) → binOf (opAt (opArg o)) ≡ o

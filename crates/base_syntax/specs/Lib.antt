@@ -1,3 +1,3 @@
 -- A monoid's start, combining step and last step on words; the numbers of operators and monoids.
-pub mod Word
+pub mod MonoidWord
 pub mod Numbers

@@ -9,7 +9,7 @@ use Rattle.base_syntax.specs.declared.Op.{Op}
 use Rattle.base_syntax.specs.declared.Op.the-variants.{Plus, Minus, Times, Equal, Less, And, Or}
 use Rattle.base_syntax.specs.declared.Monoid.{Monoid}
 use Rattle.base_syntax.specs.declared.Monoid.the-variants as Mo
-use Rattle.base_syntax.specs.Word.{monoidOf}
+use Rattle.base_syntax.specs.MonoidWord.{monoidOf}
 
 -- the operator that each case of the enum is
 abbrev pub binOf : Op → Bin

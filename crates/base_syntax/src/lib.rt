@@ -3,7 +3,7 @@
 ghost use mathlib.Core.Path.{_≡_};
 ghost use Prim.Native.Nat.{_<_, _%_, _^_};
 ghost use lib.Signed.{mag};
-ghost use Rattle.base_syntax.specs.Word.{monoidOf, zeroWord, chosen, mergeWord, finishWord, oneMore};
+ghost use Rattle.base_syntax.specs.MonoidWord.{monoidOf, zeroWord, chosen, mergeWord, finishWord, oneMore};
 ghost use Rattle.base_syntax.specs.Numbers.{binOf, opArg, opAt, numberOf, monoidNumbered, monoidArg, monoidAt};
 use base_signed::COUNT_LIMIT;
 use base_signed::NUMBER_MOST;

@@ -1,6 +1,6 @@
 -- Laws of the tables' descriptions and of the data's reading.
-pub mod Records
-pub mod Readers
-mod Loop
-mod Content
-pub mod Laws
+pub mod DataRecords
+pub mod ByteReaders
+mod ReadLoop
+mod TableCells
+pub mod ReadData

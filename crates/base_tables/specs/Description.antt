@@ -32,7 +32,7 @@ cellIn d w r c =
     pick (ltb r (rowsIn w)) (pick (ltb c (columnsIn w)) (signed (four d (positionIn w + 4 * (columnsIn w * r + c)))) (pos 0)) (pos 0)
 
 -- "Bound of a number: a cell 2^31"
-pub record CellOf (d : Bytes) (w r c : ℕ) (z : ℤ) : Type 0 where
+pub record CellPost (d : Bytes) (w r c : ℕ) (z : ℤ) : Type 0 where
   pub is : z ≡ cellIn d w r c
   pub small : natAbs z ≤ 2 ^ 31
 

@@ -1,3 +1,3 @@
 -- The lent data: a table's description in one word, and the reading of the data's records.
 pub mod Description
-pub mod Reading
+pub mod DataReader

@@ -5,13 +5,13 @@ ghost use lib.ListN.{length, getD};
 ghost use lib.IntN.{natAbs};
 ghost use Rattle.spec_encoding.specs.Record.{four, signed};
 ghost use Rattle.spec_encoding.specs.Data.{fits};
-ghost use Rattle.base_tables.specs.Description.{descriptionOf, collectionIn, columnsIn, rowsIn, CellOf};
-ghost use Rattle.base_tables.specs.Reading.{headerGives, headerAt, tableAt, ReadsData};
+ghost use Rattle.base_tables.specs.Description.{descriptionOf, collectionIn, columnsIn, rowsIn, CellPost};
+ghost use Rattle.base_tables.specs.DataReader.{headerGives, headerAt, tableAt, ReadDataPost};
 use base_scratch::TABLES;
 use base_scratch::store;
 
 // A whole record of kind 20 with the length of its content, or none.
-pub enum Header {
+pub enum TableHeader {
     Record(usize),
     Bad,
 }
@@ -66,20 +66,20 @@ fn cells(columns: usize, rows: usize) -> usize
 }
 
 // "a record cut short or not kind 20"
-pub fn read_header(s: &[u8]) -> Header
+pub fn read_header(s: &[u8]) -> TableHeader
     ensures { λ r. ⌜ headerGives r ≡ headerAt (now (s .entry)) ⌝ }
 {
     if s.len() < 4 {
-        return Header::Bad;
+        return TableHeader::Bad;
     }
     let n = two_at(s, 0);
     if s.len() - 4 < n {
-        return Header::Bad;
+        return TableHeader::Bad;
     }
     if two_at(s, 2) != base_syntax::KIND_ROWS {
-        return Header::Bad;
+        return TableHeader::Bad;
     }
-    Header::Record(n)
+    TableHeader::Record(n)
 }
 
 // "12: collection, columns or rows outside their ranges, or a length that does not match"
@@ -124,7 +124,7 @@ fn table_at(data: &[u8], p: usize) -> TableRead
     requires { ⌜ (p ≤ length (now «data»)) × (p < 2 ^ 32) ⌝ }
     ensures { λ r. ⌜ r ≡ tableAt (now («data» .entry)) p ⌝ }
 {
-    let Header::Record(n) = read_header(&data[p..]) else {
+    let TableHeader::Record(n) = read_header(&data[p..]) else {
         return TableRead::Refused(base_refusals::NOT_A_TABLE);
     };
     let from = p + 4;
@@ -169,7 +169,7 @@ fn signed_of(n: usize) -> i64
 
 // The cell in row r and column c of the table that w describes; 0 outside.
 pub fn cell(data: &[u8], w: u64, r: usize, c: usize) -> i64
-    ensures { λ z. ⌜ CellOf (now («data» .entry)) w r c z ⌝ }
+    ensures { λ z. ⌜ CellPost (now («data» .entry)) w r c z ⌝ }
 {
     if rows(w) <= r {
         return 0;
@@ -185,7 +185,7 @@ pub fn cell(data: &[u8], w: u64, r: usize, c: usize) -> i64
 // "the data, earliest record first, 13 before 11 before 12". Answers the refusal's number, or 0 with the tables' number and
 // descriptions in the first nine words of scratch.
 pub fn read_data(data: &[u8], scratch: &mut [u64]) -> u64
-    ensures { λ r. ⌜ ReadsData (now («data» .entry)) (now (scratch .entry)) (now (scratch .exit)) r ⌝ }
+    ensures { λ r. ⌜ ReadDataPost (now («data» .entry)) (now (scratch .entry)) (now (scratch .exit)) r ⌝ }
 {
     let mut p = 0;
     let mut n = 0;

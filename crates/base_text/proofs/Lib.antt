@@ -1,3 +1,3 @@
 -- What laying comes to, and numbers in decimal.
-pub mod Laying
-pub mod Numbers
+pub mod LaidText
+pub mod Decimals

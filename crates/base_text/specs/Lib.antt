@@ -1,2 +1,2 @@
 -- Text laid into a byte buffer below a limit.
-pub mod Laying
+pub mod LaidText

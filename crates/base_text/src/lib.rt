@@ -6,7 +6,7 @@ ghost use Prim.Native.Nat.{_<_};
 ghost use lib.IntN.{pos, natAbs};
 ghost use lib.Signed.{_<ℤ_, _≤ℤ_, mag};
 ghost use Rattle.spec_plan.specs.Lines.{digits, signedDecimal};
-ghost use Rattle.base_text.specs.Laying.{bump, laid, Lays, Text};
+ghost use Rattle.base_text.specs.LaidText.{bump, laid, Lays, Text};
 
 // One more, at most 2^63: nothing wraps.
 fn more(p: usize) -> usize

@@ -21,10 +21,10 @@ use Rattle.spec_normal_form.specs.Size as Size
 use Rattle.spec_normal_form.specs.Bound as Bound
 use Rattle.spec_plan.specs.Planner as Planner
 use Rattle.spec_plan.specs.Lines as Lines
-use Rattle.spec_outcome.specs.Written as Written
-use Rattle.spec_outcome.specs.Accepted as Accepted
+use Rattle.spec_outcome.specs.WrittenForm as Written
+use Rattle.spec_outcome.specs.Acceptance as Accepted
 use Rattle.spec_outcome.specs.Outcome as Outcome
-use Rattle.spec_desk.specs.Split as Split
+use Rattle.spec_desk.specs.TablesEnd as Split
 use Rattle.spec_desk.specs.Desk as Desk
 
 -- all the definitions that the cases compute with

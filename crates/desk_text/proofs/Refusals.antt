@@ -15,12 +15,12 @@ use Rattle.spec_checks.specs.Scope.{member}
 use Rattle.spec_plan.specs.Plan.{Plan, plan}
 use Rattle.spec_plan.specs.Planner.{planOf}
 use Rattle.spec_plan.specs.Lines.{ascii, digits, decimal, lines}
-use Rattle.spec_outcome.specs.Written.{words}
-use Rattle.spec_outcome.specs.Accepted.{Accepted, examine}
+use Rattle.spec_outcome.specs.WrittenForm.{words}
+use Rattle.spec_outcome.specs.Acceptance.{Accepted, examine}
 use Rattle.spec_outcome.specs.Outcome.{G, looped}
-use Rattle.spec_desk.specs.Split.{tablesEnd}
+use Rattle.spec_desk.specs.TablesEnd.{tablesEnd}
 use Rattle.spec_desk.specs.Desk.{answerLine, refusalLine, planAndAnswer, orRefusal, asked, desk}
-use Rattle.desk_text.proofs.Unbroken.{split-only}
+use Rattle.desk_text.proofs.NeverEleven.{split-only}
 
 -- ---- a line's number
 -- the number that digits show behind one that was read

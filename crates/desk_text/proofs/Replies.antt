@@ -16,18 +16,18 @@ use Rattle.spec_encoding.proofs.Refusals.{Only}
 use Rattle.spec_plan.specs.Planner.{planOf}
 use Rattle.spec_plan.specs.Lines.{ascii, decimal, lines}
 use Rattle.spec_outcome.proofs.Agreement.{scratch-long}
-use Rattle.spec_outcome.specs.Written.{words}
-use Rattle.spec_outcome.specs.Accepted.{Accepted, examine}
+use Rattle.spec_outcome.specs.WrittenForm.{words}
+use Rattle.spec_outcome.specs.Acceptance.{Accepted, examine}
 use Rattle.spec_outcome.specs.Outcome.{Outcome, Answer, scratchWords, settled, written, answered, looped, byLoops, printed, planLines, G}
 use Rattle.spec_outcome.proofs.Checks.{numbers, examine-only}
 use Rattle.spec_outcome.specs.Gives.{Gives}
-use Rattle.base_text.specs.Laying.{big, Lays}
-use Rattle.base_text.proofs.Laying.{lays-behind, lays-reach}
-use Rattle.base_text.proofs.Numbers.{decimal-most}
+use Rattle.base_text.specs.LaidText.{big, Lays}
+use Rattle.base_text.proofs.LaidText.{lays-behind, lays-reach}
+use Rattle.base_text.proofs.Decimals.{decimal-most}
 use Rattle.spec_desk.specs.Desk.{answerLine, refusalLine, planAndAnswer, orRefusal, asked, desk, textBytes}
-use Rattle.spec_desk.specs.Split.{tablesEnd}
-use Rattle.spec_desk.specs.Printed.{Prints, FrontLength}
-use Rattle.desk_text.proofs.Room.{plan-room}
+use Rattle.spec_desk.specs.TablesEnd.{tablesEnd}
+use Rattle.spec_desk.specs.TextInBuffer.{Prints, FrontLength}
+use Rattle.desk_text.proofs.LinesFit.{plan-room}
 
 -- ---- a text that was laid
 pub prints-front : (x t : Bytes) {lim r : ℕ} {t′ : Bytes} → Lays lim x t 0 t′ r → lim ≡ length t → length x ≤ length t → length t < big → Prints x t t′ r

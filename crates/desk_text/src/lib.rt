@@ -5,12 +5,12 @@ ghost use lib.ListN.{length};
 ghost use Rattle.spec_outcome.specs.Outcome.{cleared, byLoops};
 ghost use Rattle.spec_outcome.specs.Gives.{Gives};
 ghost use Rattle.base_scratch.specs.Map.{scratchSize};
-ghost use Rattle.base_text.specs.Laying.{Lays};
-ghost use Rattle.spec_desk.specs.Left.{wordsLeft, scratchLeft};
-ghost use Rattle.spec_desk.specs.Split.{tablesEnd};
+ghost use Rattle.base_text.specs.LaidText.{Lays};
+ghost use Rattle.spec_desk.specs.LentBuffers.{wordsLeft, scratchLeft};
+ghost use Rattle.spec_desk.specs.TablesEnd.{tablesEnd};
 ghost use Rattle.spec_desk.specs.Desk.{textBytes, spaced, answerLine, refusalLine, asked, desk};
-ghost use Rattle.spec_desk.specs.Printed.{Prints, FrontLength};
-use base_tables::Header;
+ghost use Rattle.spec_desk.specs.TextInBuffer.{Prints, FrontLength};
+use base_tables::TableHeader;
 use base_tables::read_header;
 use base_text::decimal;
 use base_text::put;
@@ -27,10 +27,10 @@ fn tables_end(input: &[u8]) -> usize
     let mut p = 0;
     while p < input.len() {
         match read_header(&input[p..]) {
-            Header::Bad => {
+            TableHeader::Bad => {
                 return p;
             }
-            Header::Record(n) => {
+            TableHeader::Record(n) => {
                 p += 4 + n;
             }
         }

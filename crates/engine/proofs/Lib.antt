@@ -3,7 +3,7 @@ pub mod Calls
 pub mod PortionCalls
 pub mod RotaCalls
 pub mod Outcomes
-pub mod Demand3
+pub mod BothWays
 pub mod RowOrder
 pub mod Portions
 pub mod Rota

@@ -9,7 +9,7 @@ use lib.Dec.{ltb}
 use lib.ListN.{length, drop}
 use Rattle.spec_encoding.specs.Record.{Bytes, Result, refused, got}
 use Rattle.spec_encoding.proofs.Refusals.{Only}
-use Rattle.spec_outcome.specs.Accepted.{Accepted, examine}
+use Rattle.spec_outcome.specs.Acceptance.{Accepted, examine}
 use Rattle.spec_outcome.specs.Outcome.{Outcome, Answer, scratchWords, settled, withScratch}
 use Rattle.spec_outcome.proofs.Checks.{examine-only}
 

@@ -9,26 +9,26 @@ use lib.Dec.{ltb}
 use lib.ListN.{length, getD}
 use lib.IntN.{ℤ}
 use Rattle.spec_calculus.specs.Lists.{pick}
-use Rattle.base_signed.proofs.Word.{no}
+use Rattle.base_signed.proofs.SignedWords.{no}
 use Rattle.spec_encoding.specs.Record.{Bytes, Result, refused, got, andThen}
 use Rattle.spec_encoding.specs.Reader.{readQuestion}
 use Rattle.spec_encoding.proofs.Refusals.{Only}
 use Rattle.spec_calculus.specs.Syntax.{Question}
 use Rattle.spec_calculus.specs.Value.{Tables}
-use Rattle.spec_outcome.specs.Accepted.{Accepted, judge, examine}
+use Rattle.spec_outcome.specs.Acceptance.{Accepted, judge, examine}
 use Rattle.spec_outcome.specs.Outcome.{scratchWords, cleared, checked, written, answered, planned, byPlan}
 use Rattle.spec_outcome.proofs.Checks.{got-is}
 use Rattle.spec_outcome.specs.Gives.{Gives, Settles}
-use Rattle.front_end.specs.Prepares.{Accepts}
+use Rattle.front_end.specs.PrepareContract.{Accepts}
 use Rattle.exec_portions.specs.Run.{begun}
-use Rattle.exec_portions.specs.Standing.{Pending, task, Asks}
+use Rattle.exec_portions.specs.RunInvariant.{Pending, task, Asks}
 use Rattle.base_scratch.specs.Map.{stageAt}
-use Rattle.exec_portions.specs.Unfinished.{idle, Unfinished, Continues, Finishes, AdvancedBy, Advances}
-use Rattle.exec_portions.specs.Unfinished as Un
+use Rattle.exec_portions.specs.UnfinishedQuestion.{idle, Unfinished, Continues, Finishes, AdvancedBy, AdvancePost}
+use Rattle.exec_portions.specs.UnfinishedQuestion as Un
 use Rattle.exec_portions.specs.declared.Progress.{Progress}
 use Rattle.exec_portions.specs.declared.Progress.the-variants as Progress
-use Rattle.engine.specs.Replies.{Admits, Replies}
-use Rattle.engine.specs.Portions.{BeginGives, outside, refusal, Says, PortionGives, EndsWith}
+use Rattle.engine.specs.Replies.{AdmitPost, FinishPost}
+use Rattle.engine.specs.Portions.{BeginPost, outside, refusal, DeclinedPost, PortionPost, EndedPost}
 use Rattle.engine.specs.declared.Admitted.{Admitted}
 use Rattle.engine.specs.declared.Admitted.the-variants as Admitted
 use Rattle.engine.specs.declared.Reply.{Reply}
@@ -37,11 +37,11 @@ use Rattle.engine.proofs.Calls.{spares-then, apart-spares, replied, acc
 use Rattle.engine.proofs.Outcomes.{checks-only}
 
 -- ---- beginning
-module _ {d l : Bytes} {s t : List ℕ} {x : Admitted} (B : Admits d l s t x) where
-  begin-refusal : {u : List ℕ} (r : Reply) → Gives (checked d l s) (r .number) (r .length) [] u → (r .number ≡ 0 → ⊥) → BeginGives d l s u r
+module _ {d l : Bytes} {s t : List ℕ} {x : Admitted} (B : AdmitPost d l s t x) where
+  begin-refusal : {u : List ℕ} (r : Reply) → Gives (checked d l s) (r .number) (r .length) [] u → (r .number ≡ 0 → ⊥) → BeginPost d l s u r
   begin-refusal r C h = record { number = C .number; size = C .size; refused = λ n. C .scratch; begins = λ e. absurd (h e); spares = λ e. absurd (h e) }
 
-  pub begin-scant : x ≡ Admitted.Scant → (r : Reply) → r .number ≡ 31 → r .length ≡ 0 → BeginGives d l s t r
+  pub begin-scant : x ≡ Admitted.Scant → (r : Reply) → r .number ≡ 31 → r .length ≡ 0 → BeginPost d l s t r
   begin-scant e r en ez =
       let C = check-scant B e in
       begin-refusal r (record { number = en ∙ C .number; size = ez ∙ C .size; buffer = C .buffer; scratch = C .scratch }) (λ z. omega (arith, z, en))
@@ -50,10 +50,10 @@ module _ {d l : Bytes} {s t : List ℕ} {x : Admitted} (B : Admits d l s t x) wh
   refuses-above : {k : ℕ} → x ≡ Admitted.Refused k → k ≡ 0 → ⊥
   refuses-above e = subst (Only (λ n. n ≡ 0 → ⊥)) (refuses B e .1 .is) (checks-only d l)
 
-  pub begin-refused : {k : ℕ} → x ≡ Admitted.Refused k → {u : List ℕ} {r : Reply} → Replies t u k 0 r → BeginGives d l s u r
+  pub begin-refused : {k : ℕ} → x ≡ Admitted.Refused k → {u : List ℕ} {r : Reply} → FinishPost t u k 0 r → BeginPost d l s u r
   begin-refused e {r = r} R = begin-refusal r (check-refused B e R) (λ z. refuses-above e (sym (R .number) ∙ z))
 
-  pub begin-accepted : x ≡ Admitted.Accepted → {u : List ℕ} → Un.Begins t u → (r : Reply) → r .number ≡ 0 → r .length ≡ 0 → BeginGives d l s u r
+  pub begin-accepted : x ≡ Admitted.Accepted → {u : List ℕ} → Un.BeginPost t u → (r : Reply) → r .number ≡ 0 → r .length ≡ 0 → BeginPost d l s u r
   begin-accepted e {u} P r en ez = record {
     number = en ∙ C .number;
     size = ez ∙ C .size;
@@ -123,10 +123,10 @@ module _ (n : ℕ) (s : List ℕ) where
       scant-scratch h = refusal-by (inside n some few) (lt-ltb (length s) scratchWords h) refl
 
 -- ---- a portion that is refused
-pub portion-refused : {d : Bytes} {n k : ℕ} {s : List ℕ} {o : List ℤ} {r : Portioned} → refusal n s ≡ k → (k ≡ 0 → ⊥) → Says r 0 0 k 0 → PortionGives d n s o s o r
+pub portion-refused : {d : Bytes} {n k : ℕ} {s : List ℕ} {o : List ℤ} {r : Portioned} → refusal n s ≡ k → (k ≡ 0 → ⊥) → DeclinedPost r 0 0 k 0 → PortionPost d n s o s o r
 portion-refused {r = r} e h S = record {
   within = (omega (arith, S .offered), omega (arith, S .size));
-  refused = λ g. (subst (λ (k : ℕ). Says r 0 0 k 0) (sym e) S, (refl, refl));
+  refused = λ g. (subst (λ (k : ℕ). DeclinedPost r 0 0 k 0) (sym e) S, (refl, refl));
   unended = λ z. absurd (h (sym e ∙ z));
   ended = λ z. absurd (h (sym e ∙ z));
 }
@@ -140,7 +140,7 @@ asks-examined {d} {q} X =
     ∙ ap (λ (x : Result Question). andThen x (λ (y : Question). judge (q .accepted .tables) y)) (X .read)
     ∙ X .ready .judged
 
-module _ {d : Bytes} (n : ℕ) (s : List ℕ) {s′ : List ℕ} {o o′ : List ℤ} {x : Progress} (A : Advances d n s o s′ o′ x) (some : n ≡ 0 → ⊥) (few : n ≤ 65535) (room : scratchWords ≤ length s) where
+module _ {d : Bytes} (n : ℕ) (s : List ℕ) {s′ : List ℕ} {o o′ : List ℤ} {x : Progress} (A : AdvancePost d n s o s′ o′ x) (some : n ≡ 0 → ⊥) (few : n ≤ 65535) (room : scratchWords ≤ length s) where
   by : {y : Progress} → x ≡ y → AdvancedBy d n s o s′ o′ y
   by e = subst (AdvancedBy d n s o s′ o′) e (A .is)
 
@@ -148,13 +148,13 @@ module _ {d : Bytes} (n : ℕ) (s : List ℕ) {s′ : List ℕ} {o o′ : List �
   unfolding pick
   sized k = ap (λ (b : Bool). pick b 47 k) (inside n some few)
 
-  pub portion-nothing : x ≡ Progress.Nothing → {r : Portioned} → Says r 0 0 48 0 → PortionGives d n s o s′ o′ r
+  pub portion-nothing : x ≡ Progress.Nothing → {r : Portioned} → DeclinedPost r 0 0 48 0 → PortionPost d n s o s′ o′ r
   portion-nothing e {r} S =
       let p = by e in
-      let P : PortionGives d n s o s o r = portion-refused (no-question n s room (p .0) ∙ sized 48) (λ z. omega (arith, z)) S in
-      subst (λ (y : List ℤ). PortionGives d n s o s′ y r) (sym (p .1 .1)) (subst (λ (y : List ℕ). PortionGives d n s o y o r) (sym (p .1 .0)) P)
+      let P : PortionPost d n s o s o r = portion-refused (no-question n s room (p .0) ∙ sized 48) (λ z. omega (arith, z)) S in
+      subst (λ (y : List ℤ). PortionPost d n s o s′ y r) (sym (p .1 .1)) (subst (λ (y : List ℕ). PortionPost d n s o y o r) (sym (p .1 .0)) P)
 
-  pub portion-on : x ≡ Progress.Unfinished → {r : Portioned} → Says r 0 n 0 0 → PortionGives d n s o s′ o′ r
+  pub portion-on : x ≡ Progress.Unfinished → {r : Portioned} → DeclinedPost r 0 n 0 0 → PortionPost d n s o s′ o′ r
   portion-on e {r} S =
       let p = by e in
       let C : Continues d n s o s′ o′ = p .1 in
@@ -165,7 +165,7 @@ module _ {d : Bytes} (n : ℕ) (s : List ℕ) {s′ : List ℕ} {o o′ : List �
         ended = λ z q R U l. absurd (omega (arith, l, C .fewer q R U));
       }
 
-  portion-ends : idle (getD s stageAt 0) ≡ false → {k a b : ℕ} → k ≤ n → b ≤ length o′ → Finishes d n s o s′ o′ k a b → {u : List ℕ} {r : Portioned} → EndsWith s′ u k a b r → PortionGives d n s o u o′ r
+  portion-ends : idle (getD s stageAt 0) ≡ false → {k a b : ℕ} → k ≤ n → b ≤ length o′ → Finishes d n s o s′ o′ k a b → {u : List ℕ} {r : Portioned} → EndedPost s′ u k a b r → PortionPost d n s o u o′ r
   unfolding byPlan answered andThen
   portion-ends h {k} {a} {b} few-rows fits F {u} {r} E = record {
     within = (omega (arith, E .offered, few-rows), omega (arith, E .replies .length, fits));
@@ -179,8 +179,8 @@ module _ {d : Bytes} (n : ℕ) (s : List ℕ) {s′ : List ℕ} {o o′ : List �
     };
   }
 
-  pub portion-short : {k : ℕ} → x ≡ Progress.Short k → {u : List ℕ} {r : Portioned} → EndsWith s′ u k 32 0 r → PortionGives d n s o u o′ r
+  pub portion-short : {k : ℕ} → x ≡ Progress.Short k → {u : List ℕ} {r : Portioned} → EndedPost s′ u k 32 0 r → PortionPost d n s o u o′ r
   portion-short e E = let p = by e in portion-ends (p .0) (p .1 .0) (omega arith) (p .1 .1) E
 
-  pub portion-full : {k m : ℕ} → x ≡ Progress.Length k m → {u : List ℕ} {r : Portioned} → EndsWith s′ u k 0 m r → PortionGives d n s o u o′ r
+  pub portion-full : {k m : ℕ} → x ≡ Progress.Length k m → {u : List ℕ} {r : Portioned} → EndedPost s′ u k 0 m r → PortionPost d n s o u o′ r
   portion-full e E = let p = by e in portion-ends (p .0) (p .1 .0) (p .1 .1 .0) (p .1 .1 .1) E

@@ -1,22 +1,22 @@
 -- "Survey order must not show" (document 02, E14), over the contracts of the open calls: what a call returns and leaves is its outcome
 -- (`Gives`). For all questions, all scratch of one length, and all answer buffers, of one length where only order differs, whatever
--- they held before. `outcome/proofs/Rewritten` has which bytes are read so.
+-- they held before. `spec_outcome/proofs/RowOrderBytes` has which bytes are read so.
 use mathlib.Core.Path.{_≡_, sym, ap, subst, _∙_}
 use mathlib.Core.List.{List, []}
 use Prim.Native.Nat.{ℕ, _≤_}
 use lib.ListN.{length, take}
 use lib.IntN.{ℤ}
-use Rattle.spec_calculus.specs.Rearranged.{Alike}
+use Rattle.spec_calculus.specs.Rearrangement.{Alike}
 use Rattle.spec_encoding.specs.Record.{Bytes}
 use Rattle.spec_encoding.specs.Data.{readData}
-use Rattle.spec_outcome.specs.Accepted.{examine}
+use Rattle.spec_outcome.specs.Acceptance.{examine}
 use Rattle.spec_outcome.specs.Outcome.{Outcome, checked, byLoops, byPlan, planLines}
 use Rattle.spec_outcome.specs.RowOrder.{Reordered, Rereads, Way, looping, planning, by}
 use Rattle.spec_outcome.proofs.Agreement.{same-outcome, wordsOf}
 use Rattle.spec_outcome.proofs.RowOrder.{any-order, any-order-checked, any-order-lines, any-repeats}
 use Rattle.spec_outcome.specs.Gives.{Gives}
 use Rattle.engine.specs.declared.Reply.{Reply}
-use Rattle.engine.proofs.Demand3.{SameReply, both-ways}
+use Rattle.engine.proofs.BothWays.{SameReply, both-ways}
 
 -- either way of answering has the outcome of both
 as-plan : (w : Way) (d l : Bytes) (s : List ℕ) (b : List ℤ) → by w d l s b ≡ byPlan d l s b

@@ -10,16 +10,16 @@ use Rattle.spec_calculus.specs.Lists.{pick}
 use Rattle.spec_calculus.specs.Monoid.{raw}
 use Rattle.spec_encoding.specs.Record.{Bytes, got}
 use Rattle.spec_plan.specs.Planner.{planOf}
-use Rattle.exec_machine.specs.Offers.{planOffers}
-use Rattle.spec_outcome.specs.Accepted.{Accepted, examine}
+use Rattle.plan_machine.specs.Offers.{planOffers}
+use Rattle.spec_outcome.specs.Acceptance.{Accepted, examine}
 use Rattle.spec_outcome.specs.Outcome.{scratchWords, G, checked, byPlan}
 use Rattle.spec_outcome.specs.Gives.{Gives, Spares}
-use Rattle.exec_state.specs.Cursors.{most}
+use Rattle.exec_state.specs.StateWords.{most}
 use Rattle.exec_portions.specs.Run.{Run, begun, portion, rowsDue}
-use Rattle.exec_portions.specs.Standing.{Pending, task}
+use Rattle.exec_portions.specs.RunInvariant.{Pending, task}
 use Rattle.base_scratch.specs.Map.{stageAt}
-use Rattle.exec_portions.specs.Unfinished.{idle, Unfinished}
-use Rattle.engine.specs.Replies.{Replies}
+use Rattle.exec_portions.specs.UnfinishedQuestion.{idle, Unfinished}
+use Rattle.engine.specs.Replies.{FinishPost}
 use Rattle.engine.specs.declared.Reply.{Reply}
 use Rattle.engine.specs.declared.Portioned.{Portioned}
 
@@ -33,7 +33,7 @@ rowsInAll a lent =
 -- "One call begins, with all refusals to 28": number, length and, after a refusal, scratch are the checker's. After 0 "scratch holds
 -- the unfinished question", whichever answer buffer is lent to its portions; no buffer has 2^62 words. Scratch words
 -- from 8,192 on stay.
-pub record BeginGives (d l : Bytes) (s s′ : List ℕ) (r : Reply) : Type 0 where
+pub record BeginPost (d l : Bytes) (s s′ : List ℕ) (r : Reply) : Type 0 where
   pub number : r .number ≡ checked d l s .number
   pub size : r .length ≡ checked d l s .size
   pub refused : (r .number ≡ 0 → ⊥) → s′ ≡ checked d l s .scratch
@@ -52,7 +52,7 @@ unfoldable pub refusal : ℕ → List ℕ → ℕ
 refusal n s = pick (outside n) 47 (pick (ltb (length s) scratchWords) 31 (pick (idle (getD s stageAt 0)) 48 0))
 
 -- whether it is finished, how many rows were offered, number and length
-pub record Says (r : Portioned) (f k x n : ℕ) : Type 0 where
+pub record DeclinedPost (r : Portioned) (f k x n : ℕ) : Type 0 where
   pub end : r .finished ≡ f
   pub offered : r .offered ≡ k
   pub number : r .number ≡ x
@@ -60,7 +60,7 @@ pub record Says (r : Portioned) (f k x n : ℕ) : Type 0 where
 
 -- "exactly a given number of rows .. and says unfinished"
 pub record Unended (d : Bytes) (n : ℕ) (q : Pending) (R : Run) (s s′ : List ℕ) (o′ : List ℤ) (r : Portioned) : Type 0 where
-  pub says : Says r 0 n 0 0
+  pub says : DeclinedPost r 0 n 0 0
   pub unfinished : Unfinished d q s′ o′ (portion (task d q) n R)
   pub spares : Spares s s′
 
@@ -73,14 +73,14 @@ pub record Ended (d : Bytes) (q : Pending) (R : Run) (s s′ : List ℕ) (o′ :
 
 -- "If anything lent is changed in between, or scratch is neither 0 nor left by an earlier call, only safety and an end are promised."
 -- So of other scratch nothing is said but 47, 31 and 48, and what holds of every reply; the call takes any words and ends.
-pub record PortionGives (d : Bytes) (n : ℕ) (s : List ℕ) (o : List ℤ) (s′ : List ℕ) (o′ : List ℤ) (r : Portioned) : Type 0 where
+pub record PortionPost (d : Bytes) (n : ℕ) (s : List ℕ) (o : List ℤ) (s′ : List ℕ) (o′ : List ℤ) (r : Portioned) : Type 0 where
   pub within : (r .offered ≤ n) × (r .length ≤ length o′)
-  pub refused : (refusal n s ≡ 0 → ⊥) → Says r 0 0 (refusal n s) 0 × ((s′ ≡ s) × (o′ ≡ o))
+  pub refused : (refusal n s ≡ 0 → ⊥) → DeclinedPost r 0 0 (refusal n s) 0 × ((s′ ≡ s) × (o′ ≡ o))
   pub unended : refusal n s ≡ 0 → (q : Pending) (R : Run) → Unfinished d q s o R → n < rowsDue (task d q) R → Unended d n q R s s′ o′ r
   pub ended : refusal n s ≡ 0 → (q : Pending) (R : Run) → Unfinished d q s o R → rowsDue (task d q) R ≤ n → Ended d q R s s′ o′ r
 
 -- how its last portion ends
-pub record EndsWith (s s′ : List ℕ) (rows k n : ℕ) (r : Portioned) : Type 0 where
+pub record EndedPost (s s′ : List ℕ) (rows k n : ℕ) (r : Portioned) : Type 0 where
   pub end : r .finished ≡ 1
   pub offered : r .offered ≡ rows
-  pub replies : Replies s s′ k n (record { number = r .number; length = r .length })
+  pub replies : FinishPost s s′ k n (record { number = r .number; length = r .length })

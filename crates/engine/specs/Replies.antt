@@ -5,7 +5,7 @@ use Prim.Native.Nat.{ℕ, _≤_, _<_}
 use lib.ListN.{length}
 use Rattle.spec_encoding.specs.Record.{Bytes}
 use Rattle.spec_outcome.specs.Outcome.{scratchWords, cleared}
-use Rattle.front_end.specs.Prepares.{Prepares}
+use Rattle.front_end.specs.PrepareContract.{PreparePost}
 use Rattle.front_end.specs.declared.Checked.the-variants as Checked
 use Rattle.engine.specs.declared.Reply.{Reply}
 use Rattle.engine.specs.declared.Admitted.{Admitted}
@@ -14,14 +14,14 @@ use Rattle.engine.specs.declared.Admitted.the-variants as Admitted
 -- "31: scratch under 8,192 words. Scratch stays untouched"; else what the checks say
 abbrev pub AdmittedBy : Bytes → Bytes → List ℕ → List ℕ → Admitted → Type 0
 AdmittedBy d l s s′ Admitted.Scant = (length s < scratchWords) × (s′ ≡ s)
-AdmittedBy d l s s′ (Admitted.Refused k) = (scratchWords ≤ length s) × Prepares d l s s′ (Checked.Refused k)
-AdmittedBy d l s s′ Admitted.Accepted = (scratchWords ≤ length s) × Prepares d l s s′ Checked.Accepted
+AdmittedBy d l s s′ (Admitted.Refused k) = (scratchWords ≤ length s) × PreparePost d l s s′ (Checked.Refused k)
+AdmittedBy d l s s′ Admitted.Accepted = (scratchWords ≤ length s) × PreparePost d l s s′ Checked.Accepted
 
-pub record Admits (d l : Bytes) (s s′ : List ℕ) (r : Admitted) : Type 0 where
+pub record AdmitPost (d l : Bytes) (s s′ : List ℕ) (r : Admitted) : Type 0 where
   pub is : AdmittedBy d l s s′ r
 
 -- number k and length n, and the scratch cleared
-pub record Replies (s s′ : List ℕ) (k n : ℕ) (r : Reply) : Type 0 where
+pub record FinishPost (s s′ : List ℕ) (k n : ℕ) (r : Reply) : Type 0 where
   pub number : r .number ≡ k
   pub length : r .length ≡ n
   pub scratch : s′ ≡ cleared s

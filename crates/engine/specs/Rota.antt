@@ -7,7 +7,7 @@ use lib.ListN.{length, getD}
 use lib.IntN.{ℤ}
 use Rattle.spec_encoding.specs.Record.{Bytes}
 use Rattle.spec_outcome.specs.Rota.{rotaFits}
-use Rattle.engine.specs.Portions.{Says, PortionGives}
+use Rattle.engine.specs.Portions.{DeclinedPost, PortionPost}
 use Rattle.engine.specs.declared.Portioned.{Portioned}
 use Rattle.engine.specs.declared.TwoSeats.{TwoSeats}
 use Rattle.engine.specs.declared.Round.{Round}
@@ -22,20 +22,20 @@ seatOf s o = record { scratch = s; answer = o }
 
 -- nothing is told of a seat, and it stays as it is
 pub record Idle (x y : Seat) (r : Portioned) : Type 0 where
-  pub says : Says r 0 0 0 0
+  pub says : DeclinedPost r 0 0 0 0
   pub same : y ≡ x
 
 -- "A round visits the seats in order. Each seat with an unfinished question gets its quota": what is told of seat i, and left there, is
 -- its own portion of so many rows, whatever the other seats have; a seat that the rota has not is idle
-pub record SeatGives (d : Bytes) (qs : List ℕ) (i : ℕ) (x y : Seat) (r : Portioned) : Type 0 where
-  pub visited : i < length qs → PortionGives d (getD qs i 0) (x .scratch) (x .answer) (y .scratch) (y .answer) r
+pub record SeatPost (d : Bytes) (qs : List ℕ) (i : ℕ) (x y : Seat) (r : Portioned) : Type 0 where
+  pub visited : i < length qs → PortionPost d (getD qs i 0) (x .scratch) (x .answer) (y .scratch) (y .answer) r
   pub beyond : length qs ≤ i → Idle x y r
 
-pub record TwoGive (d : Bytes) (qs : List ℕ) (i : ℕ) (x₀ x₁ y₀ y₁ : Seat) (r : TwoSeats) : Type 0 where
-  pub first : SeatGives d qs i x₀ y₀ (r .first)
-  pub second : SeatGives d qs (i + 1) x₁ y₁ (r .second)
+pub record TwoSeatsPost (d : Bytes) (qs : List ℕ) (i : ℕ) (x₀ x₁ y₀ y₁ : Seat) (r : TwoSeats) : Type 0 where
+  pub first : SeatPost d qs i x₀ y₀ (r .first)
+  pub second : SeatPost d qs (i + 1) x₁ y₁ (r .second)
 
 -- "49, seats or quota outside these ranges, before any other, changing nothing"
-pub record RoundGives (d : Bytes) (qs : List ℕ) (x₀ x₁ x₂ x₃ y₀ y₁ y₂ y₃ : Seat) (r : Round) : Type 0 where
+pub record RoundPost (d : Bytes) (qs : List ℕ) (x₀ x₁ x₂ x₃ y₀ y₁ y₂ y₃ : Seat) (r : Round) : Type 0 where
   pub refused : rotaFits qs ≡ false → (r .number ≡ 49) × (Idle x₀ y₀ (r .first) × (Idle x₁ y₁ (r .second) × (Idle x₂ y₂ (r .third) × Idle x₃ y₃ (r .fourth))))
-  pub served : rotaFits qs ≡ true → (r .number ≡ 0) × (SeatGives d qs 0 x₀ y₀ (r .first) × (SeatGives d qs 1 x₁ y₁ (r .second) × (SeatGives d qs 2 x₂ y₂ (r .third) × SeatGives d qs 3 x₃ y₃ (r .fourth))))
+  pub served : rotaFits qs ≡ true → (r .number ≡ 0) × (SeatPost d qs 0 x₀ y₀ (r .first) × (SeatPost d qs 1 x₁ y₁ (r .second) × (SeatPost d qs 2 x₂ y₂ (r .third) × SeatPost d qs 3 x₃ y₃ (r .fourth))))

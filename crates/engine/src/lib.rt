@@ -4,9 +4,9 @@ ghost use Prim.Native.Nat.{_≤_, _<_};
 ghost use lib.ListN.{length};
 ghost use Rattle.spec_outcome.specs.Outcome.{byLoops, byPlan, checked, planLines, scratchWords};
 ghost use Rattle.spec_outcome.specs.Gives.{Gives};
-ghost use Rattle.engine.specs.Replies.{Admits, Replies};
-ghost use Rattle.engine.specs.Portions.{BeginGives, PortionGives, Says, EndsWith};
-ghost use Rattle.engine.specs.Rota.{seatOf, SeatGives, TwoGive, RoundGives};
+ghost use Rattle.engine.specs.Replies.{AdmitPost, FinishPost};
+ghost use Rattle.engine.specs.Portions.{BeginPost, PortionPost, DeclinedPost, EndedPost};
+ghost use Rattle.engine.specs.Rota.{seatOf, SeatPost, TwoSeatsPost, RoundPost};
 use base_rota::rota_fits;
 use base_scratch::WORDS;
 use exec_portions::Progress;
@@ -33,7 +33,7 @@ pub enum Admitted {
 
 // "31: scratch under 8,192 words. Scratch stays untouched." Then the checks.
 pub fn admit(tables: &[u8], question: &[u8], scratch: &mut [u64]) -> Admitted
-    ensures { λ r. ⌜ Admits (now (tables .entry)) (now (question .entry)) (now (scratch .entry)) (now (scratch .exit)) r ⌝ }
+    ensures { λ r. ⌜ AdmitPost (now (tables .entry)) (now (question .entry)) (now (scratch .entry)) (now (scratch .exit)) r ⌝ }
 {
     if scratch.len() < WORDS {
         return Admitted::Scant;
@@ -47,7 +47,7 @@ pub fn admit(tables: &[u8], question: &[u8], scratch: &mut [u64]) -> Admitted
 // How every call but 31 ends.
 pub fn finish(s: &mut [u64], k: u64, n: u64) -> Reply
     requires { ⌜ scratchWords ≤ length (now s) ⌝ }
-    ensures { λ r. ⌜ Replies (now (s .entry)) (now (s .exit)) k n r ⌝ }
+    ensures { λ r. ⌜ FinishPost (now (s .entry)) (now (s .exit)) k n r ⌝ }
 {
     base_scratch::clear(s);
     Reply {
@@ -153,7 +153,7 @@ pub struct Portioned {
 // "One call begins, with all refusals to 28." Then scratch holds the unfinished question.
 #[no_mangle]
 pub extern "C" fn dislogha_begin(tables: &[u8], question: &[u8], scratch: &mut [u64]) -> Reply
-    ensures { λ r. ⌜ BeginGives (now (tables .entry)) (now (question .entry)) (now (scratch .entry)) (now (scratch .exit)) r ⌝ }
+    ensures { λ r. ⌜ BeginPost (now (tables .entry)) (now (question .entry)) (now (scratch .entry)) (now (scratch .exit)) r ⌝ }
 {
     match admit(tables, question, scratch) {
         Admitted::Scant => Reply {
@@ -173,7 +173,7 @@ pub extern "C" fn dislogha_begin(tables: &[u8], question: &[u8], scratch: &mut [
 
 // A refused portion: no row is offered.
 fn declined(k: u64) -> Portioned
-    ensures { λ r. ⌜ Says r 0 0 k 0 ⌝ }
+    ensures { λ r. ⌜ DeclinedPost r 0 0 k 0 ⌝ }
 {
     Portioned {
         finished: 0,
@@ -186,7 +186,7 @@ fn declined(k: u64) -> Portioned
 // The last portion of a question.
 fn ended(s: &mut [u64], rows: u64, k: u64, n: u64) -> Portioned
     requires { ⌜ scratchWords ≤ length (now s) ⌝ }
-    ensures { λ r. ⌜ EndsWith (now (s .entry)) (now (s .exit)) rows k n r ⌝ }
+    ensures { λ r. ⌜ EndedPost (now (s .entry)) (now (s .exit)) rows k n r ⌝ }
 {
     let x = finish(s, k, n);
     Portioned {
@@ -206,7 +206,7 @@ pub extern "C" fn dislogha_portion(
     answer: &mut [i64],
     rows: u64,
 ) -> Portioned
-    ensures { λ r. ⌜ PortionGives (now (tables .entry)) rows (now (scratch .entry)) (now (answer .entry)) (now (scratch .exit)) (now (answer .exit)) r ⌝ }
+    ensures { λ r. ⌜ PortionPost (now (tables .entry)) rows (now (scratch .entry)) (now (answer .entry)) (now (scratch .exit)) (now (answer .exit)) r ⌝ }
 {
     if rows == 0 {
         return declined(base_refusals::ROWS_OUT_OF_RANGE);
@@ -232,7 +232,7 @@ pub extern "C" fn dislogha_portion(
 
 // A round at seat i: a portion of its quota, if the rota has that seat.
 fn seat(tables: &[u8], quotas: &[u64], i: usize, s: &mut [u64], o: &mut [i64]) -> Portioned
-    ensures { λ r. ⌜ SeatGives (now (tables .entry)) (now (quotas .entry)) i (seatOf (now (s .entry)) (now (o .entry))) (seatOf (now (s .exit)) (now (o .exit))) r ⌝ }
+    ensures { λ r. ⌜ SeatPost (now (tables .entry)) (now (quotas .entry)) i (seatOf (now (s .entry)) (now (o .entry))) (seatOf (now (s .exit)) (now (o .exit))) r ⌝ }
 {
     if quotas.len() <= i {
         return declined(0);
@@ -258,7 +258,7 @@ fn two_seats(
     o1: &mut [i64],
 ) -> TwoSeats
     requires { ⌜ i < 4 ⌝ }
-    ensures { λ r. ⌜ TwoGive (now (tables .entry)) (now (quotas .entry)) i (seatOf (now (s0 .entry)) (now (o0 .entry))) (seatOf (now (s1 .entry)) (now (o1 .entry))) (seatOf (now (s0 .exit)) (now (o0 .exit))) (seatOf (now (s1 .exit)) (now (o1 .exit))) r ⌝ }
+    ensures { λ r. ⌜ TwoSeatsPost (now (tables .entry)) (now (quotas .entry)) i (seatOf (now (s0 .entry)) (now (o0 .entry))) (seatOf (now (s1 .entry)) (now (o1 .entry))) (seatOf (now (s0 .exit)) (now (o0 .exit))) (seatOf (now (s1 .exit)) (now (o1 .exit))) r ⌝ }
 {
     let first = seat(tables, quotas, i, s0, o0);
     let second = seat(tables, quotas, i + 1, s1, o1);
@@ -289,7 +289,7 @@ pub extern "C" fn dislogha_round(
     scratch4: &mut [u64],
     answer4: &mut [i64],
 ) -> Round
-    ensures { λ r. ⌜ RoundGives (now (tables .entry)) (now (quotas .entry)) (seatOf (now (scratch1 .entry)) (now (answer1 .entry))) (seatOf (now (scratch2 .entry)) (now (answer2 .entry))) (seatOf (now (scratch3 .entry)) (now (answer3 .entry))) (seatOf (now (scratch4 .entry)) (now (answer4 .entry))) (seatOf (now (scratch1 .exit)) (now (answer1 .exit))) (seatOf (now (scratch2 .exit)) (now (answer2 .exit))) (seatOf (now (scratch3 .exit)) (now (answer3 .exit))) (seatOf (now (scratch4 .exit)) (now (answer4 .exit))) r ⌝ }
+    ensures { λ r. ⌜ RoundPost (now (tables .entry)) (now (quotas .entry)) (seatOf (now (scratch1 .entry)) (now (answer1 .entry))) (seatOf (now (scratch2 .entry)) (now (answer2 .entry))) (seatOf (now (scratch3 .entry)) (now (answer3 .entry))) (seatOf (now (scratch4 .entry)) (now (answer4 .entry))) (seatOf (now (scratch1 .exit)) (now (answer1 .exit))) (seatOf (now (scratch2 .exit)) (now (answer2 .exit))) (seatOf (now (scratch3 .exit)) (now (answer3 .exit))) (seatOf (now (scratch4 .exit)) (now (answer4 .exit))) r ⌝ }
 {
     let fits = rota_fits(quotas);
     if !fits {

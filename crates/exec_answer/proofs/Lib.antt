@@ -1,5 +1,5 @@
 -- From a question prepared in scratch to the outcome of answering by plan.
-pub mod Buffer
-pub mod Values
-pub mod Ran
-pub mod Answered
+pub mod WholeBuffer
+pub mod PlanValue
+pub mod PassResults
+pub mod ByPlanOutcome

@@ -10,40 +10,40 @@ use Rattle.spec_calculus.specs.Value.{kindOf}
 use Rattle.spec_encoding.specs.Record.{Bytes}
 use Rattle.spec_normal_form.specs.Form.{NormalForm, asForm}
 use Rattle.spec_normal_form.specs.NoRule.{Ordered}
-use Rattle.spec_normal_form.proofs.Proper.{normal-in-scope}
-use Rattle.form_words.specs.Packing.{next}
-use Rattle.form_words.specs.Tree.{formTree}
+use Rattle.spec_normal_form.proofs.NoRuleApplies.{normal-in-scope}
+use Rattle.form_words.specs.NodeWord.{next}
+use Rattle.form_words.specs.FormTree.{formTree}
 use Rattle.spec_plan.specs.Plan.{PTerm, Source}
-use Rattle.spec_outcome.specs.Accepted.{Accepted}
-use Rattle.form_prepared.specs.Prepared.{Prepared}
-use Rattle.plan_marks.specs.Contract.{Plans}
-use Rattle.exec_machine.specs.Program.{End, Program, endOf, programOf}
-use Rattle.exec_machine.specs.Program as Pr
-use Rattle.exec_machine.specs.Flat.{Words, Path, loopP, inP, before, pos, Valid, row, Begun, last}
-use Rattle.exec_machine.specs.Text.{writes}
-use Rattle.exec_machine.proofs.Spans.{Spans}
-use Rattle.exec_machine.proofs.Fitting.{Fitting, normal-fitting}
+use Rattle.spec_outcome.specs.Acceptance.{Accepted}
+use Rattle.form_prepared.specs.PreparedQuestion.{Prepared}
+use Rattle.plan_marks.specs.Contract.{MakePlanPost}
+use Rattle.plan_machine.specs.Program.{End, Program, endOf, programOf}
+use Rattle.plan_machine.specs.Program as Pr
+use Rattle.plan_machine.specs.MachineWords.{Words, Path, loopP, inP, before, pos, Valid, row, Begun, last}
+use Rattle.plan_machine.specs.AnswerText.{writes}
+use Rattle.plan_machine.proofs.CollectionSpans.{Spans}
+use Rattle.plan_machine.proofs.CollectionsInHeads.{Fitting, normal-fitting}
 use Rattle.plan_links.specs.Spots.{Spots, compOf, spotsOf}
-use Rattle.plan_links.specs.Alike.{fuel}
+use Rattle.plan_links.specs.SpotWords.{fuel}
 use Rattle.plan_links.specs.Contract.{Term}
-use Rattle.form_env.specs.Env.{tablesIn}
-use Rattle.form_arith.specs.Sorts.{sortOf, wordBound, mergeBound}
-use Rattle.exec_terms.specs.Walk.{AgreesP}
-use Rattle.exec_state.specs.Cursors.{most}
-use Rattle.exec_simulation.specs.Places.{inside, loopNode, spotsAt}
-use Rattle.exec_simulation.specs.Reading.{headAt, LoopReads, EndReads}
-use Rattle.exec_simulation.specs.Room.{takesOf, Room}
-use Rattle.exec_simulation.specs.Standing.{Question, Stands}
-use Rattle.exec_initial.specs.Bounds.{boundAt}
-use Rattle.exec_initial.specs.Fillers.{Fills}
-use Rattle.exec_initial.proofs.Numbers.{own-at}
-use Rattle.exec_initial.proofs.Steps.{steps}
-use Rattle.exec_initial.proofs.Filling.{form-fills}
-use Rattle.exec_initial.proofs.Questions.{passed, laid, linked-plan, wired, fit, question, question-smalls, question-bounds}
-use Rattle.exec_initial.proofs.RowsRead.{loops-read, ends-read, element-agrees, opening-agrees}
+use Rattle.form_env.specs.Environment.{tablesIn}
+use Rattle.form_arith.specs.WordSorts.{sortOf, wordBound, mergeBound}
+use Rattle.exec_terms.specs.PartsWalk.{AgreesP}
+use Rattle.exec_state.specs.StateWords.{most}
+use Rattle.exec_simulation.specs.PathPlaces.{inside, loopNode, spotsAt}
+use Rattle.exec_simulation.specs.RowReads.{headAt, LoopReads, EndReads}
+use Rattle.exec_simulation.specs.AccumulatorRoom.{takesOf, Room}
+use Rattle.exec_simulation.specs.SimulationRelation.{Question, Stands}
+use Rattle.exec_initial.specs.HeadBounds.{boundAt}
+use Rattle.exec_initial.specs.PlaceFillers.{Fills}
+use Rattle.exec_initial.proofs.PathNumbers.{own-at}
+use Rattle.exec_initial.proofs.WordEnds.{steps}
+use Rattle.exec_initial.proofs.FormFillers.{form-fills}
+use Rattle.exec_initial.proofs.RunnableQuestion.{passed, laid, linked-plan, wired, fit, question, question-smalls, question-bounds}
+use Rattle.exec_initial.proofs.OperatorReads.{loops-read, ends-read, element-agrees, opening-agrees}
 
 -- s holds the question, s₁ its plan too, s₂ also its links
-module _ {d : Bytes} (a : Accepted) (s s₁ s₂ : List ℕ) (r : ℕ) (A : Prepared d a s) (Q : Plans s s₁) (L : Term s₁ 0 1 s₂ r) where
+module _ {d : Bytes} (a : Accepted) (s s₁ s₂ : List ℕ) (r : ℕ) (A : Prepared d a s) (Q : MakePlanPost s s₁) (L : Term s₁ 0 1 s₂ r) where
   abbrev f : NormalForm
   f = a .form
 

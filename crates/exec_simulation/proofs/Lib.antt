@@ -1,8 +1,8 @@
 -- Laws of the words of a running plan.
-pub mod Along
-pub mod Rooms
-pub mod Stays
-pub mod Ends
-pub mod Control
-pub mod Taking
-pub mod Wording
+pub mod PathWords
+pub mod AccumulatorRoom
+pub mod OperatorWrites
+pub mod AccumulatorWrites
+pub mod ControlMoves
+pub mod TakeMoves
+pub mod CollectionMoves

@@ -1,5 +1,5 @@
 -- Terms over the places of a row, read off scratch.
-pub mod Kept
-pub mod Agrees
+pub mod KeptWord
+pub mod Agreement
 pub mod Contract
-pub mod Walk
+pub mod PartsWalk

@@ -1,3 +1,3 @@
 -- What the words of values come to, and how large they get.
-pub mod Words
-mod Leaves
+pub mod ValueWords
+mod Exits

@@ -1,2 +1,2 @@
 -- Values read as one word.
-pub mod Sorts
+pub mod WordSorts

@@ -2,9 +2,9 @@
 ghost use mathlib.Core.Path.{_≡_};
 ghost use Prim.Native.Nat.{_≤_, _^_};
 ghost use lib.IntN.{natAbs};
-ghost use Rattle.base_syntax.specs.Word.{monoidOf};
+ghost use Rattle.base_syntax.specs.MonoidWord.{monoidOf};
 ghost use Rattle.base_syntax.specs.Numbers.{binOf};
-ghost use Rattle.form_arith.specs.Sorts.{codeOf, readWord, sortOf, operandSort, resultSort, truthWord, negateWord, operateWord, operateBound};
+ghost use Rattle.form_arith.specs.WordSorts.{codeOf, readWord, sortOf, operandSort, resultSort, truthWord, negateWord, operateWord, operateBound};
 use base_syntax::Monoid;
 use base_syntax::Op;
 

@@ -1,4 +1,4 @@
 -- What binding a generator changes and what it leaves, and the rows that words stand for.
-pub mod Frame
-pub mod Laws
-pub mod Naming
+pub mod SameForm
+pub mod BoundRows
+pub mod NamedTables

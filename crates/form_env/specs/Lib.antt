@@ -1,3 +1,3 @@
 -- The rows that generators stand for, and the tables that they range over.
-pub mod Env
-pub mod Naming
+pub mod Environment
+pub mod NamedTables

@@ -1,2 +1,2 @@
 -- Operators and monoids on any words.
-pub mod Laws
+pub mod Exits

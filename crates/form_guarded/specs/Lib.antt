@@ -1,2 +1,2 @@
 -- Operators and monoids on any words.
-pub mod Guarded
+pub mod GuardedWords

@@ -5,10 +5,10 @@ ghost use Prim.Native.Nat.{_+_, _*_, _<_, _^_};
 ghost use lib.Dec.{leb};
 ghost use lib.IntN.{pos, natAbs};
 ghost use lib.Signed.{mag, _<ℤ_, _≤ℤ_};
-ghost use Rattle.base_syntax.specs.Word.{monoidOf};
+ghost use Rattle.base_syntax.specs.MonoidWord.{monoidOf};
 ghost use Rattle.base_syntax.specs.Numbers.{binOf};
-ghost use Rattle.form_arith.specs.Sorts.{operateBound};
-ghost use Rattle.form_guarded.specs.Guarded.{mergeRoom, Operates, Merges};
+ghost use Rattle.form_arith.specs.WordSorts.{operateBound};
+ghost use Rattle.form_guarded.specs.GuardedWords.{mergeRoom, OperatePost, MergePost};
 use base_signed::NUMBER_LIMIT;
 use base_syntax::Monoid;
 use base_syntax::Op;
@@ -79,7 +79,7 @@ fn bounded(o: Op, x: u64, y: u64) -> bool
 }
 
 pub fn operate(o: Op, a: i64, b: i64) -> i64
-    ensures { λ r. ⌜ Operates o a b r ⌝ }
+    ensures { λ r. ⌜ OperatePost o a b r ⌝ }
 {
     if bounded(o, magnitude(a), magnitude(b)) {
         return form_arith::operate(o, a, b);
@@ -103,7 +103,7 @@ fn mergeable(m: Monoid, x: u64, y: u64) -> bool
 }
 
 pub fn merge(m: Monoid, a: i64, b: i64) -> i64
-    ensures { λ r. ⌜ Merges m a b r ⌝ }
+    ensures { λ r. ⌜ MergePost m a b r ⌝ }
 {
     if mergeable(m, magnitude(a), magnitude(b)) {
         return m.merge(a, b);

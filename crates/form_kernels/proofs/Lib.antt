@@ -1,7 +1,7 @@
 -- Laws of plain forms: on rows, and at places.
-pub mod Rows
-pub mod Looking
+pub mod PlainWords
+pub mod LookPlaces
 pub mod Fuel
-pub mod Places
-pub mod Answers
+pub mod PlainForms
+pub mod ReaderExits
 pub mod Turning

@@ -1,4 +1,4 @@
 -- Forms that on each row need nothing but its cells.
-pub mod Plain
-pub mod Places
+pub mod PlainWords
+pub mod PlainForms
 pub mod Contract

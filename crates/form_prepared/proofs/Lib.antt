@@ -1,2 +1,2 @@
 -- What a part that answers has settled.
-pub mod Settled
+pub mod SettledOutcome

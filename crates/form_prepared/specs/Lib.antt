@@ -1,3 +1,3 @@
 -- An accepted question in scratch; what a call gives, and what a part does that answers.
-pub mod Prepared
-pub mod Answering
+pub mod PreparedQuestion
+pub mod AnswerContract

@@ -1,3 +1,3 @@
 -- What reading and writing the words of a normal form comes to.
-pub mod Laws
+pub mod NodeWords
 pub mod ReadBack

@@ -17,14 +17,14 @@ use Rattle.spec_normal_form.specs.Form.{Form, Forms, Clauses, num, truth, row, 
 use Rattle.spec_normal_form.specs.Size.{nodes, nodesF, nodesC}
 use Rattle.base_syntax.proofs.Numbers.{op-back, monoid-back}
 use Rattle.base_syntax.specs.Numbers.{binOf, opArg, opAt, monoidArg, monoidAt}
-use Rattle.form_words.specs.declared.Node.{Node}
-use Rattle.form_words.specs.declared.Node.the-variants.{Number, Truth, Row, Cell, Record, Binary, Negation, Comprehension, Generator, Condition}
+use Rattle.form_words.specs.declared.FormNode.{FormNode}
+use Rattle.form_words.specs.declared.FormNode.the-variants.{Number, Truth, Row, Cell, Record, Binary, Negation, Comprehension, Generator, Condition}
 use Rattle.form_words.specs.declared.Clause.the-variants as Cl
-use Rattle.form_words.specs.Packing.{wordAt, kindOf, belowOf, argOf, pack, next, numberOf, nodeOf, nodeAt}
-use Rattle.form_words.specs.Tree.{clauseOf, formTree, formsTree, clausesTree, headTree, left}
-use Rattle.form_words.specs.Flat.{size, sizeF, sizeC, numberArg, flat, flatF, flatC, Fits, FitsF, FitsC, Holds}
+use Rattle.form_words.specs.NodeWord.{wordAt, kindOf, belowOf, argOf, pack, next, numberOf, nodeOf, nodeAt}
+use Rattle.form_words.specs.FormTree.{clauseOf, formTree, formsTree, clausesTree, headTree, left}
+use Rattle.form_words.specs.FormWords.{size, sizeF, sizeC, numberArg, flat, flatF, flatC, Fits, FitsF, FitsC, Holds}
 use Rattle.base_scratch.specs.Map.{places}
-use Rattle.form_words.proofs.Laws.{kind-pack, below-pack, arg-pack, formNode, clausesNode, headNode}
+use Rattle.form_words.proofs.NodeWords.{kind-pack, below-pack, arg-pack, formNode, clausesNode, headNode}
 
 -- ---- how many words
 mutual
@@ -120,7 +120,7 @@ monoid-low m = omega arith
 
 -- ---- nodes read back
 -- the node of a form at i
-abbrev pub node : List ℕ → ℕ → Form → Node
+abbrev pub node : List ℕ → ℕ → Form → FormNode
 node s i (num z) = Number z
 node s i (truth b) = Truth b
 node s i (row g) = Row g

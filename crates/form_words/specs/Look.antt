@@ -4,17 +4,17 @@ use mathlib.Core.Path.{_≡_}
 use mathlib.Core.List.{List}
 use Prim.Native.Nat.{ℕ, _^_, _<_, _≤_}
 use lib.IntN.{natAbs}
-use Rattle.form_words.specs.declared.Node.{Node}
-use Rattle.form_words.specs.declared.Node.the-variants.{Number, Truth, Row, Cell, Record, Binary, Negation, Comprehension, Generator, Condition, Nothing}
+use Rattle.form_words.specs.declared.FormNode.{FormNode}
+use Rattle.form_words.specs.declared.FormNode.the-variants.{Number, Truth, Row, Cell, Record, Binary, Negation, Comprehension, Generator, Condition, Nothing}
 use Rattle.form_words.specs.declared.Leaf.{Leaf}
 use Rattle.form_words.specs.declared.Leaf.the-variants as Le
 use Rattle.form_words.specs.declared.Clause.{Clause}
 use Rattle.form_words.specs.declared.Clause.the-variants as Cl
 use Rattle.base_scratch.specs.Map.{places}
-use Rattle.form_words.specs.Packing.{nodeAt}
-use Rattle.form_words.specs.Tree.{clauseOf}
+use Rattle.form_words.specs.NodeWord.{nodeAt}
+use Rattle.form_words.specs.FormTree.{clauseOf}
 
-abbrev pub Inside : ℕ → Node → Type 0
+abbrev pub Inside : ℕ → FormNode → Type 0
 Inside i (Number z) = natAbs z < 2 ^ 50
 Inside i (Truth b) = Unit {0}
 Inside i (Row g) = g < 1024
@@ -27,12 +27,12 @@ Inside i (Generator g k) = (i < places) × (g < 1024) × (k < 1024)
 Inside i (Condition j) = (i < j) × (j ≤ places)
 Inside i Nothing = Unit {0}
 
-pub record Looks (s : List ℕ) (i : ℕ) (r : Node) : Type 0 where
+pub record Looks (s : List ℕ) (i : ℕ) (r : FormNode) : Type 0 where
   pub is : r ≡ nodeAt s i
   pub inside : Inside i r
 
 -- a node as a leaf: every one that is neither number nor cell is some other
-abbrev pub leafOf : Node → Leaf
+abbrev pub leafOf : FormNode → Leaf
 leafOf (Number z) = Le.Number z
 leafOf (Truth b) = Le.Other
 leafOf (Row g) = Le.Other
@@ -45,7 +45,7 @@ leafOf (Generator g k) = Le.Other
 leafOf (Condition j) = Le.Other
 leafOf Nothing = Le.Other
 
-pub record LeafAt (s : List ℕ) (i : ℕ) (r : Leaf) : Type 0 where
+pub record LeafAtPost (s : List ℕ) (i : ℕ) (r : Leaf) : Type 0 where
   pub is : r ≡ leafOf (nodeAt s i)
 
 abbrev pub InsideC : ℕ → Clause → Type 0
@@ -53,6 +53,6 @@ InsideC i (Cl.Generator g k) = (i < places) × (g < 1024) × (k < 1024)
 InsideC i (Cl.Condition j) = (i < j) × (j ≤ places)
 InsideC i Cl.Head = Unit {0}
 
-pub record LooksC (s : List ℕ) (i : ℕ) (r : Clause) : Type 0 where
+pub record LookClausePost (s : List ℕ) (i : ℕ) (r : Clause) : Type 0 where
   pub is : r ≡ clauseOf (nodeAt s i)
   pub inside : InsideC i r

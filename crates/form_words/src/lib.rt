@@ -3,9 +3,9 @@
 ghost use mathlib.Core.Path.{_≡_};
 ghost use Prim.Native.Nat.{_+_, _%_, _<_, _^_};
 ghost use lib.ListN.{set};
-ghost use Rattle.form_words.specs.Packing.{wordAt, kindOf, belowOf, argOf, pack, next, numberOf};
+ghost use Rattle.form_words.specs.NodeWord.{wordAt, kindOf, belowOf, argOf, pack, next, numberOf};
 ghost use Rattle.base_scratch.specs.Map.{formAt};
-ghost use Rattle.form_words.specs.Look.{Looks, LeafAt, LooksC};
+ghost use Rattle.form_words.specs.Look.{Looks, LeafAtPost, LookClausePost};
 use base_scratch::FORM;
 use base_scratch::FORM_WORDS;
 use base_scratch::load_at;
@@ -45,7 +45,7 @@ pub const PAIR: u64 = 1024;
 
 // A node, with the places that are not the one behind it: the end of a record, the second operand, the end of a condition.
 // A cell is column and generator, a generator its number and its table.
-pub enum Node {
+pub enum FormNode {
     Number(i64),
     Truth(bool),
     Row(usize),
@@ -133,32 +133,32 @@ pub fn low(a: u64) -> usize
     (a % PAIR) as usize
 }
 
-pub fn look(s: &[u64], i: usize) -> Node
+pub fn look(s: &[u64], i: usize) -> FormNode
     ensures { λ r. ⌜ Looks (now (s .entry)) i r ⌝ }
 {
     if FORM_WORDS <= i {
-        return Node::Nothing;
+        return FormNode::Nothing;
     }
     let w = word(s, i);
     let a = arg(w);
     match kind(w) {
-        NUMBER => Node::Number(number(a)),
-        TRUTH => Node::Truth(a == 1),
-        ROW => Node::Row(low(a)),
-        CELL => Node::Cell(low(a / PAIR), low(a)),
-        RECORD => Node::Record(next(s, i)),
-        BINARY => Node::Binary(Op::from_number(a), next(s, i + 1)),
-        NEGATION => Node::Negation,
-        COMPREHENSION => Node::Comprehension(Monoid::from_bits(a)),
-        GENERATOR => Node::Generator(low(a / PAIR), low(a)),
-        CONDITION => Node::Condition(next(s, i)),
-        _ => Node::Nothing,
+        NUMBER => FormNode::Number(number(a)),
+        TRUTH => FormNode::Truth(a == 1),
+        ROW => FormNode::Row(low(a)),
+        CELL => FormNode::Cell(low(a / PAIR), low(a)),
+        RECORD => FormNode::Record(next(s, i)),
+        BINARY => FormNode::Binary(Op::from_number(a), next(s, i + 1)),
+        NEGATION => FormNode::Negation,
+        COMPREHENSION => FormNode::Comprehension(Monoid::from_bits(a)),
+        GENERATOR => FormNode::Generator(low(a / PAIR), low(a)),
+        CONDITION => FormNode::Condition(next(s, i)),
+        _ => FormNode::Nothing,
     }
 }
 
 // By the word itself: `look` would be a call for each operand.
 pub fn leaf_at(s: &[u64], i: usize) -> Leaf
-    ensures { λ r. ⌜ LeafAt (now (s .entry)) i r ⌝ }
+    ensures { λ r. ⌜ LeafAtPost (now (s .entry)) i r ⌝ }
 {
     if FORM_WORDS <= i {
         return Leaf::Other;
@@ -174,7 +174,7 @@ pub fn leaf_at(s: &[u64], i: usize) -> Leaf
 
 // By the word itself: a clause is looked at for each row, and `look` would make a node first.
 pub fn look_clause(s: &[u64], i: usize) -> Clause
-    ensures { λ r. ⌜ LooksC (now (s .entry)) i r ⌝ }
+    ensures { λ r. ⌜ LookClausePost (now (s .entry)) i r ⌝ }
 {
     if FORM_WORDS <= i {
         return Clause::Head;

@@ -1,2 +1,2 @@
 -- What refusal 28's check relies on.
-pub mod Laws
+pub mod CutBounds

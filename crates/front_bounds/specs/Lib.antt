@@ -1,2 +1,2 @@
 -- What refusal 28's check answers.
-pub mod Size
+pub mod CutBounds

@@ -4,15 +4,15 @@ ghost use mathlib.Core.Bool.{_&&_};
 ghost use Prim.Native.Nat.{_+_, _*_, _^_, _<_, _≤_};
 ghost use lib.IntN.{natAbs};
 ghost use Rattle.spec_normal_form.specs.Bound.{binBound};
-ghost use Rattle.base_syntax.specs.Word.{monoidOf};
+ghost use Rattle.base_syntax.specs.MonoidWord.{monoidOf};
 ghost use Rattle.base_syntax.specs.Numbers.{binOf};
 ghost use Rattle.base_scratch.specs.Map.{places};
-ghost use Rattle.front_bounds.specs.Size.{cut, perGenerator, perHead, Checked, Unbounded, FormSize, ClausesSize, FormsFit, Verdict};
+ghost use Rattle.front_bounds.specs.CutBounds.{cut, perGenerator, perHead, CheckedPost, UnboundedPost, FormSizePost, ClausesSizePost, RecordFitsPost, BoundFitsPost};
 use base_signed::NUMBER_LIMIT;
 use base_syntax::Monoid;
 use base_syntax::Op;
 use form_words::Clause;
-use form_words::Node;
+use form_words::FormNode;
 use form_words::look;
 use form_words::look_clause;
 use form_words::next;
@@ -108,7 +108,7 @@ fn both(a: bool, b: bool) -> bool
 
 // A number with this bound; `inside` says whether the numbers in it fit.
 fn checked(bound: u64, inside: bool) -> Size
-    ensures { λ r. ⌜ Checked bound inside r ⌝ }
+    ensures { λ r. ⌜ CheckedPost bound inside r ⌝ }
 {
     Size {
         bound: bound,
@@ -118,7 +118,7 @@ fn checked(bound: u64, inside: bool) -> Size
 
 // What is no number has bound 0; `inside` says whether the numbers in it fit.
 fn unbounded(inside: bool) -> Size
-    ensures { λ r. ⌜ Unbounded inside r ⌝ }
+    ensures { λ r. ⌜ UnboundedPost inside r ⌝ }
 {
     Size {
         bound: 0,
@@ -127,36 +127,36 @@ fn unbounded(inside: bool) -> Size
 }
 
 pub fn form_size(s: &[u64], i: usize) -> Size
-    ensures { λ r. ⌜ FormSize (now (s .entry)) i r ⌝ }
+    ensures { λ r. ⌜ FormSizePost (now (s .entry)) i r ⌝ }
 {
     match look(s, i) {
-        Node::Number(z) => checked(magnitude(z), true),
-        Node::Truth(b) => unbounded(true),
-        Node::Row(g) => unbounded(true),
-        Node::Cell(c, g) => checked(2147483648, true),
-        Node::Record(e) => unbounded(record_fits(s, i + 1, e)),
-        Node::Binary(o, j) => {
+        FormNode::Number(z) => checked(magnitude(z), true),
+        FormNode::Truth(b) => unbounded(true),
+        FormNode::Row(g) => unbounded(true),
+        FormNode::Cell(c, g) => checked(2147483648, true),
+        FormNode::Record(e) => unbounded(record_fits(s, i + 1, e)),
+        FormNode::Binary(o, j) => {
             let a = form_size(s, i + 1);
             let b = form_size(s, j);
             checked(binary_bound(o, a.bound, b.bound), both(a.fits, b.fits))
         }
-        Node::Negation => {
+        FormNode::Negation => {
             let a = form_size(s, i + 1);
             unbounded(a.fits)
         }
-        Node::Comprehension(m) => {
+        FormNode::Comprehension(m) => {
             let a = clauses_size(s, i + 1, m);
             checked(a.bound, a.fits)
         }
-        Node::Generator(g, k) => unbounded(true),
-        Node::Condition(j) => unbounded(true),
-        Node::Nothing => unbounded(true),
+        FormNode::Generator(g, k) => unbounded(true),
+        FormNode::Condition(j) => unbounded(true),
+        FormNode::Nothing => unbounded(true),
     }
 }
 
 // The clauses from i on and the head behind them, in a comprehension of m.
 fn clauses_size(s: &[u64], i: usize, m: Monoid) -> Size
-    ensures { λ r. ⌜ ClausesSize (now (s .entry)) i m r ⌝ }
+    ensures { λ r. ⌜ ClausesSizePost (now (s .entry)) i m r ⌝ }
 {
     match look_clause(s, i) {
         Clause::Generator(g, k) => {
@@ -187,7 +187,7 @@ fn clauses_size(s: &[u64], i: usize, m: Monoid) -> Size
 // The fields of a record, from i to e.
 fn record_fits(s: &[u64], i: usize, e: usize) -> bool
     requires { ⌜ e ≤ places ⌝ }
-    ensures { λ r. ⌜ FormsFit (now (s .entry)) i e r ⌝ }
+    ensures { λ r. ⌜ RecordFitsPost (now (s .entry)) i e r ⌝ }
 {
     if e <= i {
         return true;
@@ -198,7 +198,7 @@ fn record_fits(s: &[u64], i: usize, e: usize) -> bool
 }
 
 pub fn bound_fits(s: &[u64]) -> bool
-    ensures { λ r. ⌜ Verdict (now (s .entry)) r ⌝ }
+    ensures { λ r. ⌜ BoundFitsPost (now (s .entry)) r ⌝ }
 {
     let whole = form_size(s, 0);
     whole.fits

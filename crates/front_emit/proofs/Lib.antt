@@ -1,12 +1,12 @@
 -- What the writers of the normal form come to.
-pub mod Lay
-pub mod Kept
-pub mod Done
-pub mod Terms
-pub mod Copies
-pub mod Conditions
-pub mod Leaves
-pub mod Small
-pub mod Held
-pub mod Tables
-pub mod Fits
+pub mod LaidWords
+pub mod QuestionKept
+pub mod WriterExits
+pub mod TermCalls
+pub mod QualifierCalls
+pub mod ConditionCalls
+pub mod LeafForms
+pub mod SmallFunctions
+pub mod FormInScratch
+pub mod TableCollections
+pub mod NormalFits

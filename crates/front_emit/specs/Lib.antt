@@ -1,5 +1,5 @@
 -- The words of the normal form, written into scratch.
-pub mod Wrote
-pub mod Start
-pub mod Shape
-pub mod Whole
+pub mod WriterResult
+pub mod WriterStart
+pub mod ConditionShape
+pub mod WholeForm

@@ -5,24 +5,24 @@ ghost use Prim.Native.Nat.{suc, _^_, _<_, _≤_};
 ghost use lib.ListN.{length};
 ghost use Rattle.spec_calculus.specs.Lists.{pick};
 ghost use Rattle.spec_calculus.specs.Syntax.{of};
-ghost use Rattle.front_theory.specs.Flat.{levels};
-ghost use Rattle.front_theory.specs.Saturated.{limit};
-ghost use Rattle.base_syntax.specs.Word.{monoidOf};
+ghost use Rattle.front_theory.specs.NodeForms.{levels};
+ghost use Rattle.front_theory.specs.CappedOffsets.{limit};
+ghost use Rattle.base_syntax.specs.MonoidWord.{monoidOf};
 ghost use Rattle.base_syntax.specs.declared.Monoid.the-variants as Monoid;
 ghost use Rattle.base_scratch.specs.Map.{places};
-ghost use Rattle.front_nodes.specs.Decode.{chain, nodesOf, qualifiersOf};
+ghost use Rattle.front_nodes.specs.NodeTable.{chain, nodesOf, qualifiersOf};
 ghost use Rattle.base_syntax.specs.declared.Op.the-variants as Op;
 ghost use Rattle.front_resolve.specs.Place.{under, envOf};
 ghost use Rattle.front_resolve.specs.declared.Form.the-variants.{Record, Two, Not, Comp};
-ghost use Rattle.front_emit.specs.Shape.{IsComp, Splits};
-ghost use Rattle.front_emit.specs.Start.{collections, semS, placeS, tableS, simpleS, fieldsS, flagIn, copyEnv, Copies, Room, TermAt, ClauseAt, QualifierAt, QualifiersAt, TermOf, FieldsOf, SourceOf, WholeOf, SimpleAt, CopyOf};
-ghost use Rattle.front_emit.specs.Wrote.{behind, Leaves, Closes, Generates, Emitted, EmittedF, EmittedG, EmittedAs, EmittedN, EmittedQ, EmittedOne, Never};
-ghost use Rattle.front_emit.specs.Whole.{Writable, WritesForm};
+ghost use Rattle.front_emit.specs.ConditionShape.{IsComp, SplitOfPost};
+ghost use Rattle.front_emit.specs.WriterStart.{collections, semS, placeS, tableS, simpleS, fieldsS, flagIn, copyEnv, Copies, Room, EmitPre, ClausePre, QualifierPre, QualifiersPre, TermOf, FieldsPre, SourcePre, SinglePre, SimplePre, CopyOf};
+ghost use Rattle.front_emit.specs.WriterResult.{behind, LeafPost, ClosePost, GeneratorPost, Emitted, FieldsPost, SourcePost, ClausePost, QualifierPost, EmittedQ, SinglePost, NeverPost};
+ghost use Rattle.front_emit.specs.WholeForm.{Writable, WriteFormPost};
 ghost use Rattle.base_syntax.specs.Numbers.{binOf, opArg, monoidArg};
 use base_syntax::Monoid;
 use base_syntax::Op;
 use front_nodes::Found;
-use front_nodes::Node;
+use front_nodes::QueryNode;
 use front_resolve::Form;
 use front_resolve::Head;
 
@@ -79,7 +79,7 @@ fn below(st: State) -> State
 // A word with nothing below it.
 fn leaf(s: &mut [u64], k: u64, a: u64, st: State) -> State
     requires { ⌜ (k < 16) × (a < 2 ^ 50) × (st .place < places) ⌝ }
-    ensures { λ r. ⌜ Leaves k a (now (s .entry)) st (now (s .exit)) r ⌝ }
+    ensures { λ r. ⌜ LeafPost k a (now (s .entry)) st (now (s .exit)) r ⌝ }
 {
     let p = st.place;
     form_words::put_word(s, p, k, 0, a);
@@ -89,7 +89,7 @@ fn leaf(s: &mut [u64], k: u64, a: u64, st: State) -> State
 // The word at p, below which words were written up to e.
 fn close(s: &mut [u64], p: usize, e: usize, k: u64, a: u64)
     requires { ⌜ (k < 16) × (a < 2 ^ 50) × (p < e) × (e ≤ places) ⌝ }
-    ensures { λ _. ⌜ Closes k a p e (now (s .entry)) (now (s .exit)) ⌝ }
+    ensures { λ _. ⌜ ClosePost k a p e (now (s .entry)) (now (s .exit)) ⌝ }
 {
     let n = e - (p + 1);
     form_words::put_word(s, p, k, n as u64, a);
@@ -98,7 +98,7 @@ fn close(s: &mut [u64], p: usize, e: usize, k: u64, a: u64)
 // A generator over table k gets the next number.
 fn generator(s: &mut [u64], k: usize, st: State) -> State
     requires { ⌜ Room st 1 × (k < 2 ^ 33) ⌝ }
-    ensures { λ r. ⌜ Generates k (now (s .entry)) st (now (s .exit)) r ⌝ }
+    ensures { λ r. ⌜ GeneratorPost k (now (s .entry)) st (now (s .exit)) r ⌝ }
 {
     let p = st.place;
     form_words::put_word(
@@ -117,7 +117,7 @@ fn generator(s: &mut [u64], k: usize, st: State) -> State
 // A generator over what is no collection is a condition that is never met.
 fn never(s: &mut [u64], st: State) -> State
     requires { ⌜ Room st 2 ⌝ }
-    ensures { λ r. ⌜ Never (now (s .entry)) st (now (s .exit)) r ⌝ }
+    ensures { λ r. ⌜ NeverPost (now (s .entry)) st (now (s .exit)) r ⌝ }
 {
     let p = st.place;
     let r = leaf(s, form_words::TRUTH, 0, below(st));
@@ -141,7 +141,7 @@ fn table(s: &mut [u64], k: usize, st: State) -> State
 
 // A form that has no nodes below it.
 fn simple(s: &mut [u64], f: Form, i: usize, st: State) -> State
-    requires { ⌜ SimpleAt (now s) f i st ⌝ }
+    requires { ⌜ SimplePre (now s) f i st ⌝ }
     ensures { λ r. ⌜ Emitted (simpleS (now (s .entry)) f) (now (s .entry)) st (now (s .exit)) r ⌝ }
 {
     match f {
@@ -160,7 +160,7 @@ fn simple(s: &mut [u64], f: Form, i: usize, st: State) -> State
 }
 
 fn split_of(f: Form, v: bool) -> Split
-    ensures { λ r. ⌜ Splits f v r ⌝ }
+    ensures { λ r. ⌜ SplitOfPost f v r ⌝ }
 {
     match f {
         Form::Two(o, a, b) => match o {
@@ -190,7 +190,7 @@ fn copy(h: Head, m: Monoid, v: bool, n: u64, env: &mut [u16; 32])
 
 // Node i as a term.
 fn emit(s: &mut [u64], i: usize, depth: usize, env: &[u16; 32], st: State) -> State
-    requires { ⌜ TermAt (now s) i depth (now env) st × (length (now env) ≡ levels) ⌝ }
+    requires { ⌜ EmitPre (now s) i depth (now env) st × (length (now env) ≡ levels) ⌝ }
     ensures { λ r. ⌜ Emitted (semS (now (s .entry)) i depth (envOf (now (env .entry)))) (now (s .entry)) st (now (s .exit)) r ⌝ }
 {
     let mut e = *env;
@@ -224,8 +224,8 @@ fn recorded(s: &mut [u64], h: Head, env: &[u16; 32], st: State) -> State
 
 // The terms of a record.
 fn fields(s: &mut [u64], h: Head, env: &[u16; 32], st: State) -> State
-    requires { ⌜ FieldsOf (now s) (under (now env) h) 0 st × (h .form ≡ Record) ⌝ }
-    ensures { λ r. ⌜ EmittedF (fieldsS (now (s .entry)) (under (now (env .entry)) h) 0) (now (s .entry)) st (now (s .exit)) r ⌝ }
+    requires { ⌜ FieldsPre (now s) (under (now env) h) 0 st × (h .form ≡ Record) ⌝ }
+    ensures { λ r. ⌜ FieldsPost (fieldsS (now (s .entry)) (under (now (env .entry)) h) 0) (now (s .entry)) st (now (s .exit)) r ⌝ }
 {
     let mut r = st;
     let mut k = 0;
@@ -303,7 +303,7 @@ fn qualifiers(
     v: bool,
     st: State,
 ) -> State
-    requires { ⌜ QualifiersAt (now s) lo e depth (now env) v st × (length (now env) ≡ levels) ⌝ }
+    requires { ⌜ QualifiersPre (now s) lo e depth (now env) v st × (length (now env) ≡ levels) ⌝ }
     ensures { λ r. ⌜ EmittedQ (nodesOf (now (s .entry))) (semS (now (s .entry))) (chain (now (s .entry)) lo e) depth (envOf (now (env .entry))) v (now (s .entry)) st (now (s .exit)) r ⌝ }
 {
     if e <= lo {
@@ -317,16 +317,16 @@ fn qualifiers(
 
 // One that writes nothing is not walked: there may be far more of them than words.
 fn qualifier(s: &mut [u64], x: usize, depth: usize, env: &[u16; 32], v: bool, st: State) -> State
-    requires { ⌜ QualifierAt (now s) x depth (now env) v st × (length (now env) ≡ levels) ⌝ }
-    ensures { λ r. ⌜ EmittedN (semS (now (s .entry))) (nodesOf (now (s .entry)) x) depth (envOf (now (env .entry))) v (now (s .entry)) st (now (s .exit)) r ⌝ }
+    requires { ⌜ QualifierPre (now s) x depth (now env) v st × (length (now env) ≡ levels) ⌝ }
+    ensures { λ r. ⌜ QualifierPost (semS (now (s .entry))) (nodesOf (now (s .entry)) x) depth (envOf (now (env .entry))) v (now (s .entry)) st (now (s .exit)) r ⌝ }
 {
     let n = front_sizes::condition_count(s, x, v);
     if n.size == 0 {
         return st;
     }
     match front_nodes::look(s, x) {
-        Node::Gen(c) => clause(s, c, depth, env, v, true, st),
-        Node::Cond(c) => clause(s, c, depth, env, v, false, st),
+        QueryNode::Gen(c) => clause(s, c, depth, env, v, true, st),
+        QueryNode::Cond(c) => clause(s, c, depth, env, v, false, st),
         _ => st,
     }
 }
@@ -342,8 +342,8 @@ fn clause(
     ranging: bool,
     st: State,
 ) -> State
-    requires { ⌜ ClauseAt ranging (now s) i depth (now env) v st × (length (now env) ≡ levels) ⌝ }
-    ensures { λ r. ⌜ EmittedAs ranging (semS (now (s .entry)) i depth (envOf (now (env .entry)))) v (now (s .entry)) st (now (s .exit)) r ⌝ }
+    requires { ⌜ ClausePre ranging (now s) i depth (now env) v st × (length (now env) ≡ levels) ⌝ }
+    ensures { λ r. ⌜ ClausePost ranging (semS (now (s .entry)) i depth (envOf (now (env .entry)))) v (now (s .entry)) st (now (s .exit)) r ⌝ }
 {
     let mut e = *env;
     let mut j = i;
@@ -375,8 +375,8 @@ fn clause(
 
 // A place as a generator's term.
 fn source(s: &mut [u64], h: Head, v: bool, env: &mut [u16; 32], st: State) -> State
-    requires { ⌜ SourceOf (now s) (under (now env) h) v st ⌝ }
-    ensures { λ r. ⌜ EmittedG (placeS (now (s .entry)) (under (now (env .entry)) h)) v (now (s .entry)) st (now (s .exit)) r ⌝ }
+    requires { ⌜ SourcePre (now s) (under (now env) h) v st ⌝ }
+    ensures { λ r. ⌜ SourcePost (placeS (now (s .entry)) (under (now (env .entry)) h)) v (now (s .entry)) st (now (s .exit)) r ⌝ }
 {
     let f = h.form;
     match f {
@@ -387,8 +387,8 @@ fn source(s: &mut [u64], h: Head, v: bool, env: &mut [u16; 32], st: State) -> St
 }
 
 fn single(s: &mut [u64], h: Head, env: &mut [u16; 32], st: State) -> State
-    requires { ⌜ WholeOf (now s) (under (now env) h) st ⌝ }
-    ensures { λ r. ⌜ EmittedOne (placeS (now (s .entry)) (under (now (env .entry)) h)) (now (s .entry)) st (now (s .exit)) r ⌝ }
+    requires { ⌜ SinglePre (now s) (under (now env) h) st ⌝ }
+    ensures { λ r. ⌜ SinglePost (placeS (now (s .entry)) (under (now (env .entry)) h)) (now (s .entry)) st (now (s .exit)) r ⌝ }
 {
     let p = st.place;
     let r = placed(s, h, env, below(st));
@@ -399,7 +399,7 @@ fn single(s: &mut [u64], h: Head, env: &mut [u16; 32], st: State) -> State
 // The whole question, whose node is i: how many words it has.
 pub fn write_form(s: &mut [u64], i: usize) -> usize
     requires { ⌜ Writable (now s) i ⌝ }
-    ensures { λ r. ⌜ WritesForm (now (s .entry)) i (now (s .exit)) r ⌝ }
+    ensures { λ r. ⌜ WriteFormPost (now (s .entry)) i (now (s .exit)) r ⌝ }
 {
     let env: [u16; 32] = [0; 32];
     let r = emit(s, i, 0, &env, State { place: 0, next: 0 });

@@ -1,7 +1,7 @@
 -- What the composition of the passes needs.
-pub mod Given
-pub mod Ranges
-pub mod Link
-pub mod Writing
-pub mod Outs
-pub mod Behind
+pub mod QuestionLimits
+pub mod AcceptedRanges
+pub mod PassChain
+pub mod MeasuredRoot
+pub mod Exits
+pub mod PrepareExits

@@ -1,4 +1,4 @@
 -- The front end: what each of its parts finds in scratch, and leaves there.
-pub mod Loaded
-pub mod Front
-pub mod Prepares
+pub mod LoadedQuestion
+pub mod PartContracts
+pub mod PrepareContract

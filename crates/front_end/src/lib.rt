@@ -2,16 +2,16 @@
 ghost use Prim.Native.Nat.{_-_, _≤_};
 ghost use lib.ListN.{length};
 ghost use Rattle.base_scratch.specs.Map.{scratchSize};
-ghost use Rattle.front_emit.specs.Whole.{Writable};
-ghost use Rattle.front_end.specs.Front.{FromSizes, FromTypes, FromNames, Fronted};
-ghost use Rattle.front_end.specs.Prepares.{FromForm, Prepares};
+ghost use Rattle.front_emit.specs.WholeForm.{Writable};
+ghost use Rattle.front_end.specs.PartContracts.{SizedPost, TypedPost, JudgedPost, FrontEndPost};
+ghost use Rattle.front_end.specs.PrepareContract.{FormedPost, PreparePost};
 use base_scratch::FORM;
 use base_scratch::FORM_WORDS;
 use base_scratch::NODES;
 use front_parser::Read;
 
 // The number of the question's nodes, or the refusal.
-pub enum Front {
+pub enum FrontResult {
     Refused(u64),
     Nodes(usize),
 }
@@ -23,58 +23,58 @@ pub enum Checked {
 }
 
 // "27: a normal form over 512 nodes."
-fn sized(s: &mut [u64], n: usize) -> Front
+fn sized(s: &mut [u64], n: usize) -> FrontResult
     requires { ⌜ n ≤ 256 ⌝ }
-    ensures { λ r. ⌜ FromSizes (now (s .entry)) (now (s .exit)) n r ⌝ }
+    ensures { λ r. ⌜ SizedPost (now (s .entry)) (now (s .exit)) n r ⌝ }
 {
     front_measure::measure(s, n);
     let z = front_measure::size(s, n);
     if (FORM_WORDS as u64) < z {
-        return Front::Refused(base_refusals::NORMAL_FORM_TOO_LARGE);
+        return FrontResult::Refused(base_refusals::NORMAL_FORM_TOO_LARGE);
     }
-    Front::Nodes(n)
+    FrontResult::Nodes(n)
 }
 
 // "25: a type, field or table that does not fit. 26: a generator its monoid may not have."
-fn typed(s: &mut [u64], n: usize) -> Front
+fn typed(s: &mut [u64], n: usize) -> FrontResult
     requires { ⌜ n ≤ 256 ⌝ }
-    ensures { λ r. ⌜ FromTypes (now (s .entry)) (now (s .exit)) n r ⌝ }
+    ensures { λ r. ⌜ TypedPost (now (s .entry)) (now (s .exit)) n r ⌝ }
 {
     let a = front_typing::types_fit(s, n);
     if !a {
-        return Front::Refused(base_refusals::TYPE_DOES_NOT_FIT);
+        return FrontResult::Refused(base_refusals::TYPE_DOES_NOT_FIT);
     }
     let b = front_typing::generators_fit(s, n);
     if !b {
-        return Front::Refused(base_refusals::GENERATOR_NOT_ALLOWED);
+        return FrontResult::Refused(base_refusals::GENERATOR_NOT_ALLOWED);
     }
     sized(s, n)
 }
 
 // "24: a name out of scope or bound twice."
-fn judged(s: &mut [u64], n: usize) -> Front
+fn judged(s: &mut [u64], n: usize) -> FrontResult
     requires { ⌜ n ≤ 256 ⌝ }
-    ensures { λ r. ⌜ FromNames (now (s .entry)) (now (s .exit)) n r ⌝ }
+    ensures { λ r. ⌜ JudgedPost (now (s .entry)) (now (s .exit)) n r ⌝ }
 {
     let a = front_scope::names_hold(s, n);
     if !a {
-        return Front::Refused(base_refusals::NAME_DOES_NOT_HOLD);
+        return FrontResult::Refused(base_refusals::NAME_DOES_NOT_HOLD);
     }
     front_scope::binders(s, n);
     typed(s, n)
 }
 
 // The data, then 21 to 23, then 24 to 27: the checks but the last, in their order.
-pub fn front_end(d: &[u8], l: &[u8], s: &mut [u64]) -> Front
+pub fn front_end(d: &[u8], l: &[u8], s: &mut [u64]) -> FrontResult
     requires { ⌜ scratchSize ≤ length (now s) ⌝ }
-    ensures { λ r. ⌜ Fronted (now (d .entry)) (now (l .entry)) (now (s .entry)) (now (s .exit)) r ⌝ }
+    ensures { λ r. ⌜ FrontEndPost (now (d .entry)) (now (l .entry)) (now (s .entry)) (now (s .exit)) r ⌝ }
 {
     let z = base_tables::read_data(d, s);
     if z != 0 {
-        return Front::Refused(z);
+        return FrontResult::Refused(z);
     }
     match front_parser::read_question(l, s) {
-        Read::Refused(k) => Front::Refused(k),
+        Read::Refused(k) => FrontResult::Refused(k),
         Read::Question(n) => judged(s, n),
     }
 }
@@ -84,7 +84,7 @@ pub fn front_end(d: &[u8], l: &[u8], s: &mut [u64]) -> Front
 // each generator's table in its slot.
 fn formed(s: &mut [u64], n: usize) -> Checked
     requires { ⌜ (1 ≤ n) × Writable (now s) (n - 1) ⌝ }
-    ensures { λ r. ⌜ FromForm (now (s .entry)) (now (s .exit)) n r ⌝ }
+    ensures { λ r. ⌜ FormedPost (now (s .entry)) (now (s .exit)) n r ⌝ }
 {
     front_emit::write_form(s, n - 1);
     base_scratch::wipe(s, NODES, FORM);
@@ -99,10 +99,10 @@ fn formed(s: &mut [u64], n: usize) -> Checked
 // All checks, in their order.
 pub fn prepare(d: &[u8], l: &[u8], s: &mut [u64]) -> Checked
     requires { ⌜ scratchSize ≤ length (now s) ⌝ }
-    ensures { λ r. ⌜ Prepares (now (d .entry)) (now (l .entry)) (now (s .entry)) (now (s .exit)) r ⌝ }
+    ensures { λ r. ⌜ PreparePost (now (d .entry)) (now (l .entry)) (now (s .entry)) (now (s .exit)) r ⌝ }
 {
     match front_end(d, l, s) {
-        Front::Refused(k) => Checked::Refused(k),
-        Front::Nodes(n) => formed(s, n),
+        FrontResult::Refused(k) => Checked::Refused(k),
+        FrontResult::Nodes(n) => formed(s, n),
     }
 }

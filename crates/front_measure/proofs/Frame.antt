@@ -8,17 +8,17 @@ use lib.Dec.{eqb, ltb}
 use lib.ListN.{getD}
 use Rattle.spec_calculus.specs.Lists.{pick}
 use Rattle.spec_calculus.specs.Syntax.{Collection}
-use Rattle.front_theory.specs.Node.{Node, Nodes, nnum, ntruth, nname, nfield, nrec, nbin, nnegate, ncomp, ntable, ngen, nbind, ncond, nbad, Inside}
+use Rattle.front_theory.specs.NodeTable.{Node, Nodes, nnum, ntruth, nname, nfield, nrec, nbin, nnegate, ncomp, ntable, ngen, nbind, ncond, nbad, Inside}
 use Rattle.base_scratch.specs.Map.{nodesAt, bindersAt, sizesAt}
-use Rattle.front_words.specs.Tree.{startAt}
-use Rattle.front_sizes.specs.declared.Count.{Count}
-use Rattle.front_nodes.specs.Decode.{most, depthAt, nodesOf}
+use Rattle.front_words.specs.NodeTree.{startAt}
+use Rattle.front_sizes.specs.declared.FormSize.{FormSize}
+use Rattle.front_nodes.specs.NodeTable.{most, depthAt, nodesOf}
 use Rattle.front_nodes.specs.Levels.{Level}
 use Rattle.front_nodes.proofs.PostOrder.{post-order}
 use Rattle.front_nodes.proofs.Depths.{level-same}
-use Rattle.front_nodes.proofs.Same.{start-same, depth-same, nodes-same}
-use Rattle.front_measure.specs.Arranged.{qualifies, ends, rowUpto, row, ahead, TermAt, TermsAt, Aligned, Arranged}
-use Rattle.front_measure.specs.Kept.{Writes, Adds, Measured}
+use Rattle.front_nodes.proofs.SameTable.{start-same, depth-same, nodes-same}
+use Rattle.front_measure.specs.MeasurableNodes.{qualifies, ends, rowUpto, row, ahead, TermAt, TermsAt, Aligned, Arranged}
+use Rattle.front_measure.specs.KeptSizes.{Writes, Adds, Measured}
 
 module _ (s r : List ℕ) (front : (j : ℕ) → j < sizesAt → getD r j 0 ≡ getD s j 0) where
   words : (j : ℕ) → j < most → getD r (nodesAt + j) 0 ≡ getD s (nodesAt + j) 0
@@ -83,7 +83,7 @@ module _ (s r : List ℕ) (front : (j : ℕ) → j < sizesAt → getD r j 0 ≡ 
     aligned = λ i k. subst (λ (N : Nodes). Aligned r (N i)) (sym table-same) (aligned-same i (nodesOf s i) (omega arith) (post-order s i) (A .aligned i k));
   }
 
-  pub measured-same : {K : ℕ → Collection} {i : ℕ} {t : Count} {c p : Bool → Count} {o : Bool → ℕ} → i < most → Measured K s i t c p o → Measured K r i t c p o
+  pub measured-same : {K : ℕ → Collection} {i : ℕ} {t : FormSize} {c p : Bool → FormSize} {o : Bool → ℕ} → i < most → Measured K s i t c p o → Measured K r i t c p o
   measured-same {K} {i} {t} {c} {p} {o} l M = record {
     term = λ q. subst (λ (N : Nodes). Writes K N (depthAt r i) i t c p) (sym table-same)
         (subst (λ (d : ℕ). Writes K (nodesOf s) d i t c p) (sym (depths-same i l)) (M .term (ap (λ (N : Nodes). qualifies (N i)) (sym table-same) ∙ q)));

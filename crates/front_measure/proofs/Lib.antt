@@ -1,11 +1,11 @@
 -- How much a node writes, from how much the nodes before it do.
-pub mod Any
-pub mod Weights
-pub mod Placed
-pub mod Agree
-pub mod Parts
-pub mod Outs
+pub mod AnyEnvironment
+pub mod NodeWeights
+pub mod RootFits
+pub mod NodeLocality
+pub mod PartExits
+pub mod WeighExits
 pub mod Frame
-pub mod Going
-pub mod Result
-pub mod Laid
+pub mod LoopInvariant
+pub mod MeasureResult
+pub mod LaidQuestion

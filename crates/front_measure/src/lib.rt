@@ -3,34 +3,34 @@ ghost use mathlib.Core.Path.{_≡_};
 ghost use mathlib.Core.Bool.{true};
 ghost use Prim.Native.Nat.{_+_, _-_, min};
 ghost use Rattle.spec_calculus.specs.Lists.{pick};
-ghost use Rattle.base_syntax.specs.Word.{monoidOf};
-ghost use Rattle.front_theory.specs.Saturated.{limit};
+ghost use Rattle.base_syntax.specs.MonoidWord.{monoidOf};
+ghost use Rattle.front_theory.specs.CappedOffsets.{limit};
 ghost use Rattle.spec_normal_form.specs.Normal.{idempotent, givesWay};
-ghost use Rattle.front_words.specs.Tree.{startAt};
-ghost use Rattle.front_sizes.specs.Packing.{termCount, conditionCount};
-ghost use Rattle.front_nodes.specs.Decode.{depthAt, childrenOf, nodesOf};
+ghost use Rattle.front_words.specs.NodeTree.{startAt};
+ghost use Rattle.front_sizes.specs.SizeWords.{termCount, conditionCount};
+ghost use Rattle.front_nodes.specs.NodeTable.{depthAt, childrenOf, nodesOf};
 ghost use Rattle.front_measure.specs.Measure.{beside, above, none, total};
-ghost use Rattle.front_measure.specs.Arranged.{qualifies};
-ghost use Rattle.front_measure.specs.Kept.{Measures};
-ghost use Rattle.front_measure.specs.Parts.{joins, bothWays, conditionWays, spliceWays, noWays, termWeight, scalarWeight, twoWeight, tableWeight, rowWays, qualifierWeight, keptWeight, formWeight, compAt, way, Comes, Weighs, SmallWeight, storing};
+ghost use Rattle.front_measure.specs.MeasurableNodes.{qualifies};
+ghost use Rattle.front_measure.specs.KeptSizes.{MeasurePost};
+ghost use Rattle.front_measure.specs.PartContracts.{joins, bothWays, conditionWays, spliceWays, noWays, termWeight, scalarWeight, twoWeight, tableWeight, rowWays, qualifierWeight, keptWeight, formWeight, compAt, way, FollowedPost, WeighPost, StorePre, storing};
 ghost use Rattle.base_syntax.specs.Numbers.{binOf};
 use base_syntax::Monoid;
 use base_syntax::Op;
 use front_nodes::Found;
-use front_nodes::Node;
+use front_nodes::QueryNode;
 use front_resolve::Form;
-use front_sizes::Count;
+use front_sizes::FormSize;
 
 // What is written where "some" stays, and where it gives way.
 pub struct Ways {
-    pub stays: Count,
-    pub yields: Count,
+    pub stays: FormSize,
+    pub yields: FormSize,
 }
 
 // Of a term: as a term, as a condition, as a generator's term. Of a qualifier: what it writes, as a condition; what the
 // qualifiers of its comprehension write up to it; and those before it.
 pub struct Weight {
-    pub term: Count,
+    pub term: FormSize,
     pub condition: Ways,
     pub splice: Ways,
     pub before: Ways,
@@ -50,20 +50,20 @@ fn sum(a: u64, b: u64) -> u64
     if c < 513 { c } else { 513 }
 }
 
-fn side(a: Count, b: Count) -> Count
+fn side(a: FormSize, b: FormSize) -> FormSize
     ensures { λ r. ⌜ r ≡ beside a b ⌝ }
 {
-    Count {
+    FormSize {
         size: sum(a.size, b.size),
         gens: sum(a.gens, b.gens),
     }
 }
 
 // One node above.
-fn raise(a: Count) -> Count
+fn raise(a: FormSize) -> FormSize
     ensures { λ r. ⌜ r ≡ above a ⌝ }
 {
-    Count {
+    FormSize {
         size: sum(1, a.size),
         gens: sum(0, a.gens),
     }
@@ -85,7 +85,7 @@ fn both(a: Ways, b: Ways) -> Ways
 fn nothing() -> Ways
     ensures { λ r. ⌜ r ≡ noWays ⌝ }
 {
-    let z = Count { size: 0, gens: 0 };
+    let z = FormSize { size: 0, gens: 0 };
     Ways {
         stays: z,
         yields: z,
@@ -111,10 +111,10 @@ fn splices(s: &[u64], i: usize) -> Ways
 }
 
 // A term that is no collection, with its conditions.
-fn value(t: Count, c: Ways) -> Weight
+fn value(t: FormSize, c: Ways) -> Weight
     ensures { λ r. ⌜ r ≡ termWeight t c ⌝ }
 {
-    let n = Count { size: 2, gens: 0 };
+    let n = FormSize { size: 2, gens: 0 };
     Weight {
         term: t,
         condition: c,
@@ -127,7 +127,7 @@ fn value(t: Count, c: Ways) -> Weight
 }
 
 // A term that is one condition, and no collection.
-fn scalar(t: Count) -> Weight
+fn scalar(t: FormSize) -> Weight
     ensures { λ r. ⌜ r ≡ scalarWeight t ⌝ }
 {
     let c = raise(t);
@@ -165,10 +165,10 @@ fn two(s: &[u64], o: Op, a: usize, b: usize) -> Weight
 }
 
 // The terms of the record at node i together.
-fn terms(s: &[u64], i: usize) -> Count
+fn terms(s: &[u64], i: usize) -> FormSize
     ensures { λ r. ⌜ r ≡ total (termCount (now (s .entry))) none (childrenOf (now (s .entry)) i) ⌝ }
 {
-    let mut t = Count { size: 0, gens: 0 };
+    let mut t = FormSize { size: 0, gens: 0 };
     let mut k: usize = 0;
     loop {
         match front_nodes::child(s, i, k) {
@@ -185,9 +185,9 @@ fn is_qualifier(s: &[u64], i: usize) -> bool
     ensures { λ r. ⌜ r ≡ qualifies (nodesOf (now (s .entry)) i) ⌝ }
 {
     match front_nodes::look(s, i) {
-        Node::Gen(c) => true,
-        Node::Bind(c) => true,
-        Node::Cond(c) => true,
+        QueryNode::Gen(c) => true,
+        QueryNode::Bind(c) => true,
+        QueryNode::Cond(c) => true,
         _ => false,
     }
 }
@@ -226,7 +226,7 @@ fn gives_way(m: Monoid) -> bool
 }
 
 // What is written where a comprehension of m is not spliced.
-fn own(m: Monoid, a: Ways) -> Count
+fn own(m: Monoid, a: Ways) -> FormSize
     ensures { λ r. ⌜ r ≡ way a (idempotent (monoidOf m)) ⌝ }
 {
     if front_resolve::joined(false, m) {
@@ -236,7 +236,7 @@ fn own(m: Monoid, a: Ways) -> Count
 }
 
 // A comprehension of m as a condition, where "some" gives way: its qualifiers write a, its head h; else c.
-fn test(s: &[u64], m: Monoid, a: Count, h: usize, c: Count) -> Count
+fn test(s: &[u64], m: Monoid, a: FormSize, h: usize, c: FormSize) -> FormSize
     ensures { λ r. ⌜ r ≡ pick (givesWay (monoidOf m) true) (beside a (conditionCount (now (s .entry)) h true)) c ⌝ }
 {
     if gives_way(m) {
@@ -250,7 +250,7 @@ fn comp(s: &[u64], i: usize, m: Monoid, h: usize) -> Weight
     ensures { λ r. ⌜ r ≡ compAt (now (s .entry)) i (monoidOf m) h ⌝ }
 {
     if 32 <= front_nodes::depth_at(s, i) {
-        return scalar(Count { size: 1, gens: 0 });
+        return scalar(FormSize { size: 1, gens: 0 });
     }
     let a = row(s, front_nodes::depth_at(s, h), front_words::start_at(s, h));
     let q = own(m, a);
@@ -277,7 +277,7 @@ fn qualifier(s: &[u64], i: usize, w: Ways) -> Weight
 {
     let b = row(s, front_nodes::depth_at(s, i), front_words::start_at(s, i));
     Weight {
-        term: Count { size: 0, gens: 0 },
+        term: FormSize { size: 0, gens: 0 },
         condition: w,
         splice: both(b, w),
         before: b,
@@ -287,10 +287,10 @@ fn qualifier(s: &[u64], i: usize, w: Ways) -> Weight
 fn table() -> Weight
     ensures { λ r. ⌜ r ≡ tableWeight ⌝ }
 {
-    let c = Count { size: 5, gens: 1 };
-    let g = Count { size: 2, gens: 1 };
+    let c = FormSize { size: 5, gens: 1 };
+    let g = FormSize { size: 2, gens: 1 };
     Weight {
-        term: Count { size: 4, gens: 1 },
+        term: FormSize { size: 4, gens: 1 },
         condition: Ways {
             stays: c,
             yields: c,
@@ -322,20 +322,20 @@ fn form(s: &[u64], j: usize, f: Form) -> Weight
     match f {
         Form::Number(z) => copy(s, j),
         Form::Truth(b) => copy(s, j),
-        Form::Row(g) => scalar(Count { size: 1, gens: 0 }),
-        Form::Cell(k, g) => scalar(Count { size: 2, gens: 0 }),
+        Form::Row(g) => scalar(FormSize { size: 1, gens: 0 }),
+        Form::Cell(k, g) => scalar(FormSize { size: 2, gens: 0 }),
         Form::Record => copy(s, j),
         Form::Two(o, a, b) => copy(s, j),
         Form::Not(c) => copy(s, j),
         Form::Comp(m, h) => copy(s, j),
         Form::Table(k) => copy(s, j),
-        Form::Bad => scalar(Count { size: 1, gens: 0 }),
+        Form::Bad => scalar(FormSize { size: 1, gens: 0 }),
     }
 }
 
 // A name or a field.
 fn followed(s: &[u64], i: usize) -> Weight
-    ensures { λ r. ⌜ Comes (now (s .entry)) i r ⌝ }
+    ensures { λ r. ⌜ FollowedPost (now (s .entry)) i r ⌝ }
 {
     let mut env: [u16; 32] = [0; 32];
     let r = front_resolve::resolve(s, i, front_nodes::depth_at(s, i), &mut env);
@@ -345,28 +345,28 @@ fn followed(s: &[u64], i: usize) -> Weight
 
 // Node i, from the nodes before it.
 fn weigh(s: &[u64], i: usize) -> Weight
-    ensures { λ r. ⌜ Weighs (now (s .entry)) i r ⌝ }
+    ensures { λ r. ⌜ WeighPost (now (s .entry)) i r ⌝ }
 {
     match front_nodes::look(s, i) {
-        Node::Number(z) => scalar(Count { size: 1, gens: 0 }),
-        Node::Truth(b) => scalar(Count { size: 1, gens: 0 }),
-        Node::Name(x, d) => followed(s, i),
-        Node::Field(k, c) => followed(s, i),
-        Node::Record => scalar(raise(terms(s, i))),
-        Node::Two(o, a, b) => two(s, o, a, b),
-        Node::Not(c) => scalar(raise(front_sizes::term_count(s, c))),
-        Node::Comp(m, h) => comp(s, i, m, h),
-        Node::Table(k) => table(),
-        Node::Gen(c) => qualifier(s, i, splices(s, c)),
-        Node::Bind(c) => qualifier(s, i, nothing()),
-        Node::Cond(c) => qualifier(s, i, conditions(s, c)),
-        Node::Bad => scalar(Count { size: 1, gens: 0 }),
+        QueryNode::Number(z) => scalar(FormSize { size: 1, gens: 0 }),
+        QueryNode::Truth(b) => scalar(FormSize { size: 1, gens: 0 }),
+        QueryNode::Name(x, d) => followed(s, i),
+        QueryNode::Field(k, c) => followed(s, i),
+        QueryNode::Record => scalar(raise(terms(s, i))),
+        QueryNode::Two(o, a, b) => two(s, o, a, b),
+        QueryNode::Not(c) => scalar(raise(front_sizes::term_count(s, c))),
+        QueryNode::Comp(m, h) => comp(s, i, m, h),
+        QueryNode::Table(k) => table(),
+        QueryNode::Gen(c) => qualifier(s, i, splices(s, c)),
+        QueryNode::Bind(c) => qualifier(s, i, nothing()),
+        QueryNode::Cond(c) => qualifier(s, i, conditions(s, c)),
+        QueryNode::Bad => scalar(FormSize { size: 1, gens: 0 }),
     }
 }
 
 // The words of node i.
 fn store(s: &mut [u64], i: usize, w: Weight)
-    requires { ⌜ SmallWeight w ⌝ }
+    requires { ⌜ StorePre w ⌝ }
     ensures { λ r. ⌜ now (s .exit) ≡ storing (now (s .entry)) i w ⌝ }
 {
     let c = w.condition;
@@ -380,7 +380,7 @@ fn store(s: &mut [u64], i: usize, w: Weight)
         i,
         p.stays,
         p.yields,
-        Count {
+        FormSize {
             size: x.gens,
             gens: y.gens,
         },
@@ -389,7 +389,7 @@ fn store(s: &mut [u64], i: usize, w: Weight)
 
 // Every node below n, from the first on.
 pub fn measure(s: &mut [u64], n: usize)
-    ensures { λ r. ⌜ Measures (now (s .entry)) n (now (s .exit)) ⌝ }
+    ensures { λ r. ⌜ MeasurePost (now (s .entry)) n (now (s .exit)) ⌝ }
 {
     let mut i: usize = 0;
     while i < n {

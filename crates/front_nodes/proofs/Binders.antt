@@ -8,12 +8,12 @@ use Rattle.spec_calculus.specs.Syntax.{Term, Terms, Quals, num, truth, name, fi
 use Rattle.spec_encoding.specs.Reader.{Kind, unknown, number, truthK, nameK, fieldK, record′, not, tableK, comprehension, generator, binding, condition, two-terms}
 use lib.ListN.{getD}
 use Rattle.base_scratch.specs.Map.{bindersAt}
-use Rattle.front_words.specs.Tree.{kindAt, argAt}
-use Rattle.front_words.specs.Laid.{nodes, nodesL, nodesQ, Laid, LaidL, LaidQ}
+use Rattle.front_words.specs.NodeTree.{kindAt, argAt}
+use Rattle.front_words.specs.LaidTree.{nodes, nodesL, nodesQ, Laid, LaidL, LaidQ}
 use Rattle.front_words.specs.Binders.{binderWord}
-use Rattle.front_nodes.specs.Decode.{most}
-use Rattle.front_nodes.specs.Tree.{BindersAt, BindersAtL, BindersAtQ, BindersRight}
-use Rattle.front_words.proofs.Laws.{binder-at}
+use Rattle.front_nodes.specs.NodeTable.{most}
+use Rattle.front_nodes.specs.QuestionTree.{BindersAt, BindersAtL, BindersAtQ, BindersRight}
+use Rattle.front_words.proofs.NodeWords.{binder-at}
 
 -- what binds a name
 abbrev pub Binding : Kind → Type 0

@@ -2,7 +2,7 @@
 use mathlib.Core.Path.{_≡_, sym, _∙_}
 use mathlib.Core.List.{List, [], _∷_}
 use Prim.Native.Nat.{ℕ, suc, _<_}
-use Rattle.front_theory.specs.Node.{Node, nnum, ntruth, nname, nfield, nrec, nbin, nnegate, ncomp, ntable, ngen, nbind, ncond, nbad, Below, Inside}
+use Rattle.front_theory.specs.NodeTable.{Node, nnum, ntruth, nname, nfield, nrec, nbin, nnegate, ncomp, ntable, ngen, nbind, ncond, nbad, Below, Inside}
 use Rattle.front_nodes.specs.Levels.{AllAt, Level}
 
 module _ (dep dep′ : ℕ → ℕ) (i : ℕ) (h : (j : ℕ) → j < i → dep j ≡ dep′ j) where

@@ -10,14 +10,14 @@ use lib.IntN.{pos}
 use Rattle.spec_calculus.specs.Lists.{pick, upd}
 use Rattle.spec_calculus.specs.Syntax.{bag, of, less, num, name, field, bin, table, qnil, gen, bind, cond, Question, asTerm}
 use Rattle.spec_checks.specs.Scope.{inScope, binders, member, distinct, namesHold}
-use Rattle.front_words.specs.Packing.{pack}
-use Rattle.front_words.specs.Laid.{nodes, Laid}
-use Rattle.front_theory.specs.Node as No
-use Rattle.front_theory.specs.Tree.{noNames, Holds}
+use Rattle.front_words.specs.NodeWord.{pack}
+use Rattle.front_words.specs.LaidTree.{nodes, Laid}
+use Rattle.front_theory.specs.NodeTable as No
+use Rattle.front_theory.specs.QuestionNodes.{noNames, Holds}
 use Rattle.front_words.specs.Binders.{binderWord}
-use Rattle.front_nodes.specs.Decode.{depthAt, siblings, chainUpto, above, nameBy, nodesOf}
-use Rattle.front_nodes.specs.Tree.{BindersRight, nesting}
-use Rattle.front_nodes.proofs.Holds.{laid-holds}
+use Rattle.front_nodes.specs.NodeTable.{depthAt, siblings, chainUpto, above, nameBy, nodesOf}
+use Rattle.front_nodes.specs.QuestionTree.{BindersRight, nesting}
+use Rattle.front_nodes.proofs.TableHolds.{laid-holds}
 
 abbrev question : Question
 question =

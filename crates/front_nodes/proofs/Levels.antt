@@ -7,17 +7,17 @@ use lib.Dec.{ltb, leb}
 use borrow.Author.Tests.{ltb-true, ltb-false}
 use Rattle.spec_calculus.specs.Lists.{pick}
 use Rattle.spec_calculus.specs.Syntax.{Term, Terms, Quals, num, truth, name, field, rec, bin, negate, comp, table, tnil, tcons, qnil, gen, bind, cond}
-use Rattle.base_signed.proofs.Word.{by-test}
+use Rattle.base_signed.proofs.SignedWords.{by-test}
 use Rattle.spec_encoding.specs.Reader.{Kind, comprehension}
-use Rattle.front_words.specs.Tree.{monoidAt, argAt, startAt}
-use Rattle.front_words.specs.Laid.{nodes, nodesL, nodesQ, Node, Laid, LaidL, LaidQ}
-use Rattle.front_words.proofs.Laws.{laid-start}
-use Rattle.front_theory.specs.Node as No
+use Rattle.front_words.specs.NodeTree.{monoidAt, argAt, startAt}
+use Rattle.front_words.specs.LaidTree.{nodes, nodesL, nodesQ, Node, Laid, LaidL, LaidQ}
+use Rattle.front_words.proofs.NodeWords.{laid-start}
+use Rattle.front_theory.specs.NodeTable as No
 use Rattle.front_words.specs.Binders.{binderWord}
-use Rattle.front_nodes.specs.Decode.{most, depthAt, childrenOf, qualifiersOf, above, nameBy, nodeBy, nodesOf}
+use Rattle.front_nodes.specs.NodeTable.{most, depthAt, childrenOf, qualifiersOf, above, nameBy, nodeBy, nodesOf}
 use Rattle.front_nodes.specs.Levels.{AllAt, Level, Levelled}
 use Rattle.front_nodes.proofs.PostOrder.{by-pick}
-use Rattle.front_nodes.proofs.Holds.{node-is, node-at, lastsL, lastsQ, children-are, qualifiers-are}
+use Rattle.front_nodes.proofs.TableHolds.{node-is, node-at, lastsL, lastsQ, children-are, qualifiers-are}
 
 -- the depth of a tree's last node
 depth-at : {s : List ℕ} {d a i : ℕ} {K : Kind} → Node s d a i K → (j : ℕ) → i ≡ j → depthAt s j ≡ d

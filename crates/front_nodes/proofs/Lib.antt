@@ -1,9 +1,9 @@
 -- Laws of the decoded table.
 pub mod PostOrder
-pub mod Laws
-pub mod Same
-pub mod Chain
-pub mod Holds
+pub mod ReaderExits
+pub mod SameTable
+pub mod QualifierChain
+pub mod TableHolds
 pub mod Levels
 pub mod Depths
 pub mod Binders

@@ -8,9 +8,9 @@ use lib.Dec.{leb, ltb}
 use borrow.Author.Tests.{ltb-true, leb-true, leb-false}
 use Rattle.spec_calculus.specs.Lists.{pick}
 use Rattle.spec_encoding.specs.Reader.{Kind, unknown, number, truthK, nameK, fieldK, record′, not, tableK, comprehension, generator, binding, condition, two-terms}
-use Rattle.front_words.specs.Tree.{monoidAt, kindAt, argAt, startAt}
-use Rattle.front_theory.specs.Node.{Node, nname, nfield, nbin, nnegate, ncomp, ngen, nbind, ncond, nbad, Below, Inside, PostOrder}
-use Rattle.front_nodes.specs.Decode.{most, depthAt, siblings, childrenOf, chainUpto, qualifiersOf, above, nameBy, nodeBy, nodesOf}
+use Rattle.front_words.specs.NodeTree.{monoidAt, kindAt, argAt, startAt}
+use Rattle.front_theory.specs.NodeTable.{Node, nname, nfield, nbin, nnegate, ncomp, ngen, nbind, ncond, nbad, Below, Inside, PostOrder}
+use Rattle.front_nodes.specs.NodeTable.{most, depthAt, siblings, childrenOf, chainUpto, qualifiersOf, above, nameBy, nodeBy, nodesOf}
 
 -- what holds where the test does, and where it does not
 pub by-pick : {A : Type 0} (P : A → Type 0) (b : Bool) (x y : A) → (b ≡ true → P x) → (b ≡ false → P y) → P (pick b x y)

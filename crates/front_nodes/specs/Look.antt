@@ -6,18 +6,18 @@ use lib.Dec.{ltb}
 use lib.Signed.{mag}
 use Rattle.spec_calculus.specs.Lists.{pick}
 use Rattle.spec_encoding.specs.Reader as Re
-use Rattle.base_syntax.specs.Word.{monoidOf}
+use Rattle.base_syntax.specs.MonoidWord.{monoidOf}
 use Rattle.base_syntax.specs.Numbers.{binOf}
-use Rattle.front_theory.specs.Node as No
+use Rattle.front_theory.specs.NodeTable as No
 use Rattle.front_nodes.specs.declared.Kind.{Kind}
 use Rattle.front_nodes.specs.declared.Kind.the-variants as Ki
-use Rattle.front_nodes.specs.declared.Node.{Node}
-use Rattle.front_nodes.specs.declared.Node.the-variants.{Number, Truth, Name, Field, Record, Two, Not, Comp, Table, Gen, Bind, Cond, Bad}
+use Rattle.front_nodes.specs.declared.QueryNode.{QueryNode}
+use Rattle.front_nodes.specs.declared.QueryNode.the-variants.{Number, Truth, Name, Field, Record, Two, Not, Comp, Table, Gen, Bind, Cond, Bad}
 use Rattle.front_nodes.specs.declared.Found.{Found}
 use Rattle.front_nodes.specs.declared.Found.the-variants.{At, Nothing}
 use Rattle.front_nodes.specs.declared.Binder.{Binder}
 use Rattle.front_nodes.specs.declared.Binder.the-variants as Bi
-use Rattle.front_nodes.specs.Decode.{childrenOf, qualifiersOf, nameBy, nodesOf}
+use Rattle.front_nodes.specs.NodeTable.{childrenOf, qualifiersOf, nameBy, nodesOf}
 
 -- the kind that each case is
 abbrev pub kindNamed : Kind → Re.Kind
@@ -36,7 +36,7 @@ kindNamed Ki.Cond = Re.condition
 kindNamed Ki.Unknown = Re.unknown
 
 -- the node that each case is, at i
-abbrev pub nodeNamed : List ℕ → ℕ → Node → No.Node
+abbrev pub nodeNamed : List ℕ → ℕ → QueryNode → No.Node
 nodeNamed s i (Number z) = No.nnum z
 nodeNamed s i (Truth b) = No.ntruth b
 nodeNamed s i (Name x d) = No.nname x d
@@ -52,7 +52,7 @@ nodeNamed s i (Cond c) = No.ncond c
 nodeNamed s i Bad = No.nbad
 
 -- an argument has 33 bits, a depth 6
-abbrev pub Small : Node → Type 0
+abbrev pub Small : QueryNode → Type 0
 Small (Number z) = mag z < 2 ^ 33
 Small (Truth b) = Unit {0}
 Small (Name x d) = d < 64
@@ -67,17 +67,17 @@ Small (Bind c) = Unit {0}
 Small (Cond c) = Unit {0}
 Small Bad = Unit {0}
 
-pub record Looks (s : List ℕ) (i : ℕ) (r : Node) : Type 0 where
+pub record LookPost (s : List ℕ) (i : ℕ) (r : QueryNode) : Type 0 where
   pub is : nodesOf s i ≡ nodeNamed s i r
   pub small : Small r
 
 -- the name at node i whose binder's word is w
-pub record Named (s : List ℕ) (i w : ℕ) (r : Node) : Type 0 where
+pub record NamedPost (s : List ℕ) (i w : ℕ) (r : QueryNode) : Type 0 where
   pub is : nameBy s i w ≡ nodeNamed s i r
   pub small : Small r
 
 -- a node that has a child
-pub record Raised (i : ℕ) (n r : Node) : Type 0 where
+pub record RaisedPost (i : ℕ) (n r : QueryNode) : Type 0 where
   pub is : r ≡ pick (ltb 0 i) n Bad
 
 -- element k
@@ -91,7 +91,7 @@ Before i (At c) = c < i
 Before i Nothing = Unit {0}
 
 -- term k of the record at node i
-pub record Picks (s : List ℕ) (i k : ℕ) (r : Found) : Type 0 where
+pub record ChildPost (s : List ℕ) (i k : ℕ) (r : Found) : Type 0 where
   pub is : r ≡ nth k (childrenOf s i)
   pub before : Before i r
 
@@ -117,5 +117,5 @@ Bound s x (Bi.Gen c) = (nodesOf s x ≡ No.ngen c) × (c < x)
 Bound s x (Bi.Bind c) = (nodesOf s x ≡ No.nbind c) × (c < x)
 Bound s x Bi.Other = Unbinding (nodesOf s x)
 
-pub record BoundBy (s : List ℕ) (x : ℕ) (r : Binder) : Type 0 where
+pub record BoundByPost (s : List ℕ) (x : ℕ) (r : Binder) : Type 0 where
   pub is : Bound s x r

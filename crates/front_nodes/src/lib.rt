@@ -3,9 +3,9 @@ ghost use mathlib.Core.Path.{_≡_};
 ghost use Prim.Native.Nat.{_-_, _<_};
 ghost use lib.ListN.{getD};
 ghost use Rattle.spec_encoding.specs.Reader.{kinds, unknown};
-ghost use Rattle.front_words.specs.Tree.{numberOf};
-ghost use Rattle.front_nodes.specs.Decode.{depthAt};
-ghost use Rattle.front_nodes.specs.Look.{kindNamed, Looks, Named, Raised, Picks, BoundBy};
+ghost use Rattle.front_words.specs.NodeTree.{numberOf};
+ghost use Rattle.front_nodes.specs.NodeTable.{depthAt};
+ghost use Rattle.front_nodes.specs.Look.{kindNamed, LookPost, NamedPost, RaisedPost, ChildPost, BoundByPost};
 use base_scratch::MOST_NODES;
 use base_syntax::Monoid;
 use base_syntax::OFFSET;
@@ -30,7 +30,7 @@ pub enum Kind {
 
 // A name is its binder and the depth of the comprehension that the binder stands in. The terms of a record are had by
 // `child`, the qualifiers of a comprehension by walking back from its head: each ends where the next one begins (`start_at`).
-pub enum Node {
+pub enum QueryNode {
     Number(i64),
     Truth(bool),
     Name(usize, usize),
@@ -104,62 +104,62 @@ pub fn depth_at(s: &[u64], i: usize) -> usize
 }
 
 // The name at node i whose binder's word is w.
-fn named(s: &[u64], i: usize, w: u64) -> Node
-    ensures { λ r. ⌜ Named (now (s .entry)) i w r ⌝ }
+fn named(s: &[u64], i: usize, w: u64) -> QueryNode
+    ensures { λ r. ⌜ NamedPost (now (s .entry)) i w r ⌝ }
 {
     if w == 0 {
-        return Node::Bad;
+        return QueryNode::Bad;
     }
     let x = (w - 1) as usize;
     if i <= x {
-        return Node::Bad;
+        return QueryNode::Bad;
     }
     let d = depth_at(s, x);
     if d == 0 {
-        return Node::Bad;
+        return QueryNode::Bad;
     }
-    Node::Name(x, d - 1)
+    QueryNode::Name(x, d - 1)
 }
 
 // A node that has a child: there is one before it.
-fn raised(i: usize, n: Node) -> Node
-    ensures { λ r. ⌜ Raised i n r ⌝ }
+fn raised(i: usize, n: QueryNode) -> QueryNode
+    ensures { λ r. ⌜ RaisedPost i n r ⌝ }
 {
     if i == 0 {
-        return Node::Bad;
+        return QueryNode::Bad;
     }
     n
 }
 
-pub fn look(s: &[u64], i: usize) -> Node
-    ensures { λ r. ⌜ Looks (now (s .entry)) i r ⌝ }
+pub fn look(s: &[u64], i: usize) -> QueryNode
+    ensures { λ r. ⌜ LookPost (now (s .entry)) i r ⌝ }
 {
     if MOST_NODES <= i {
-        return Node::Bad;
+        return QueryNode::Bad;
     }
     let w = front_words::node_word(s, i);
     let a = front_words::arg(w);
     let c = prior(i);
     match kind_of(front_words::kind(w)) {
-        Kind::Number => Node::Number(number(a)),
-        Kind::Truth => Node::Truth(a == 1),
+        Kind::Number => QueryNode::Number(number(a)),
+        Kind::Truth => QueryNode::Truth(a == 1),
         Kind::Name => named(s, i, front_words::binder_word(s, a)),
-        Kind::Field => raised(i, Node::Field(a as usize, c)),
-        Kind::Record => Node::Record,
-        Kind::Two(o) => raised(i, Node::Two(o, prior(start_at(s, c)), c)),
-        Kind::Not => raised(i, Node::Not(c)),
-        Kind::Comp => raised(i, Node::Comp(Monoid::from_number(a), c)),
-        Kind::Table => Node::Table(a as usize),
-        Kind::Gen => raised(i, Node::Gen(c)),
-        Kind::Bind => raised(i, Node::Bind(c)),
-        Kind::Cond => raised(i, Node::Cond(c)),
-        Kind::Unknown => Node::Bad,
+        Kind::Field => raised(i, QueryNode::Field(a as usize, c)),
+        Kind::Record => QueryNode::Record,
+        Kind::Two(o) => raised(i, QueryNode::Two(o, prior(start_at(s, c)), c)),
+        Kind::Not => raised(i, QueryNode::Not(c)),
+        Kind::Comp => raised(i, QueryNode::Comp(Monoid::from_number(a), c)),
+        Kind::Table => QueryNode::Table(a as usize),
+        Kind::Gen => raised(i, QueryNode::Gen(c)),
+        Kind::Bind => raised(i, QueryNode::Bind(c)),
+        Kind::Cond => raised(i, QueryNode::Cond(c)),
+        Kind::Unknown => QueryNode::Bad,
     }
 }
 
 // Term k of the record at node i, by walking back from its last one.
 pub fn child(s: &[u64], i: usize, k: usize) -> Found
-    ensures { λ r. ⌜ Picks (now (s .entry)) i k r ⌝ }
+    ensures { λ r. ⌜ ChildPost (now (s .entry)) i k r ⌝ }
 {
     let n = front_words::arg(front_words::node_word(s, i)) as usize;
     if i == 0 {
@@ -179,11 +179,11 @@ pub fn child(s: &[u64], i: usize, k: usize) -> Found
 
 // What node x binds a name to.
 pub fn bound_by(s: &[u64], x: usize) -> Binder
-    ensures { λ r. ⌜ BoundBy (now (s .entry)) x r ⌝ }
+    ensures { λ r. ⌜ BoundByPost (now (s .entry)) x r ⌝ }
 {
     match look(s, x) {
-        Node::Gen(c) => Binder::Gen(c),
-        Node::Bind(c) => Binder::Bind(c),
+        QueryNode::Gen(c) => Binder::Gen(c),
+        QueryNode::Bind(c) => Binder::Bind(c),
         _ => Binder::Other,
     }
 }

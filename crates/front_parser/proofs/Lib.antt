@@ -1,5 +1,5 @@
 -- Laws of the reader, bottom up.
-pub mod Leaves
+pub mod LeafRecords
 pub mod Records
-pub mod Sequences
+pub mod TermSequences
 pub mod Questions

@@ -12,14 +12,14 @@ use Rattle.spec_calculus.specs.Syntax.{Monoid, Quals, qnil, gen, bind, cond, Qu
 use Rattle.spec_encoding.specs.Record.{Bytes, Result, refused, got, andThen, require, byte, lengthOf, kindOf, behind, isWhole}
 use Rattle.spec_encoding.specs.Reader as E
 use Rattle.spec_encoding.specs.Reader.{Part, term, generates, binds, holds, Reader, yields, noMore, filled, inFront, onPart, monoids, comprehends, atRecord, readPart, readQuestion}
-use Rattle.front_words.specs.Packing.{argOf}
-use Rattle.front_words.specs.Tree.{monoidAt, treeAt}
-use Rattle.front_words.specs.Laid.{nodes, nodesQ, Laid, LaidQ}
-use Rattle.front_words.proofs.Laws.{some-nodes, node-same, laid-tree}
-use Rattle.front_parser.specs.Scratch.{Kept, Room, Finishing, Finished}
-use Rattle.front_parser.specs.Front.{Whole, Began, ByteAt}
-use Rattle.front_parser.specs.Reads.{qualifies, nodesP, LaidP, rounds, FrontFound, TermsRead, ItemBy, ItemRead, PartsFound, PartsBy, PartsRead, ComprehensionFound, ComprehensionBy, ComprehensionRead, QuestionRead}
-use Rattle.front_parser.specs.declared.Place.{Place}
+use Rattle.front_words.specs.NodeWord.{argOf}
+use Rattle.front_words.specs.NodeTree.{monoidAt, treeAt}
+use Rattle.front_words.specs.LaidTree.{nodes, nodesQ, Laid, LaidQ}
+use Rattle.front_words.proofs.NodeWords.{some-nodes, node-same, laid-tree}
+use Rattle.front_parser.specs.ReaderScratch.{Kept, Room, FinishPre, FinishPost}
+use Rattle.front_parser.specs.RecordFront.{Whole, Began, BytePost}
+use Rattle.front_parser.specs.ReaderContracts.{qualifies, nodesP, LaidP, rounds, FrontFound, TermsPost, ItemBy, QualifierPost, PartsFound, PartsBy, PartsPost, ComprehensionFound, ComprehensionBy, ComprehensionPost, ReadQuestionPost}
+use Rattle.front_parser.specs.declared.ParseState.{ParseState}
 use Rattle.front_parser.specs.declared.Filled.{Filled}
 use Rattle.front_parser.specs.declared.Filled.the-variants as Filled
 use Rattle.front_parser.specs.declared.Several.{Several}
@@ -28,9 +28,9 @@ use Rattle.front_parser.specs.declared.Item.{Item}
 use Rattle.front_parser.specs.declared.Item.the-variants as Item
 use Rattle.front_parser.specs.declared.Read.{Read}
 use Rattle.front_parser.specs.declared.Read.the-variants as Answer
-use Rattle.front_parser.proofs.Leaves.{differ, kept-refl, kept-trans, from-at}
+use Rattle.front_parser.proofs.LeafRecords.{differ, kept-refl, kept-trans, from-at}
 use Rattle.front_parser.proofs.Records.{after, after-is, inner, inner-is, laid-kept, nodes-kept, quals-kept}
-use Rattle.front_parser.proofs.Sequences.{TreeFound, arg-at, behindOf, count-nodes, node-at, terms-found, tree-found}
+use Rattle.front_parser.proofs.TermSequences.{TreeFound, arg-at, behindOf, count-nodes, node-at, terms-found, tree-found}
 
 -- ---- qualifiers and a head
 zero-part : (levels : ℕ) (q : Bool) (l : Bytes) (n : ℕ) → n ≡ 0 → readPart levels q l n ≡ noMore l
@@ -100,8 +100,8 @@ unfolding filled
 filled-over a [] n h = absurd (h refl)
 filled-over a (b ∷ l) n h = refl
 
-module _ {l : Bytes} {s s′ : List ℕ} {p : Place} {i : Item} (I : ItemRead l s p s′ i) where
-  pub parts-refused : {x : ℕ} → i ≡ Item.Refused x → PartsRead l s p s′ (Filled.Refused x)
+module _ {l : Bytes} {s s′ : List ℕ} {p : ParseState} {i : Item} (I : QualifierPost l s p s′ i) where
+  pub parts-refused : {x : ℕ} → i ≡ Item.Refused x → PartsPost l s p s′ (Filled.Refused x)
   parts-refused e = record { is = refused-rounds (p .levels) l (p .left) (subst (ItemBy (readPart (p .levels) true l (p .left)) l s′ p) e (I .is)); kept = I .kept }
 
   pub qualifier-found : {used left j : ℕ} → i ≡ Item.Qualifier used left j → FrontFound true (readPart (p .levels) true l (p .left)) l s′ p used left j
@@ -135,14 +135,14 @@ module _ {l : Bytes} {s s′ : List ℕ} {p : Place} {i : Item} (I : ItemRead l 
           spent = omega (arith, P .spent, F .spent);
         }
 
-    pub parts-next : {s″ : List ℕ} {r : Filled} → PartsRead (after l used) s′ (behindOf p left j) s″ r → PartsRead l s p s″ r
+    pub parts-next : {s″ : List ℕ} {r : Filled} → PartsPost (after l used) s′ (behindOf p left j) s″ r → PartsPost l s p s″ r
     parts-next {r = r} P = record { is = next-by r (P .kept) (P .is); kept = kept-trans (omega (arith, qualifier-found e .found .end)) (I .kept) (P .kept) }
 
   module _ {used left j : ℕ} (e : i ≡ Item.Head used left j) where
     head-tree : TreeFound (readPart (p .levels) true l (p .left)) (drop used l) s′ (p .depth) (p .node) (p .left) left j
     head-tree = tree-found (head-found e .found)
 
-    pub parts-over : used < length l → PartsRead l s p s′ (Filled.Refused 22)
+    pub parts-over : used < length l → PartsPost l s p s′ (Filled.Refused 22)
     unfolding onPart
     parts-over h =
         let F = head-tree in
@@ -151,7 +151,7 @@ module _ {l : Bytes} {s s′ : List ℕ} {p : Place} {i : Item} (I : ItemRead l 
           kept = I .kept;
         }
 
-    pub parts-head : length l ≤ used → PartsRead l s p s′ (Filled.Read left j)
+    pub parts-head : length l ≤ used → PartsPost l s p s′ (Filled.Read left j)
     unfolding onPart filled nodesQ
     parts-head h =
         let F = head-tree in
@@ -193,27 +193,27 @@ module _ (R : Reader) (c : Bytes) (n : ℕ) where
       go [] h = absurd (h refl)
       go (b ∷ l) h = refl
 
-pub comprehension-none : {c : Bytes} {s : List ℕ} {p : Place} → length c ≡ 0 → ComprehensionRead c s p s (Filled.Refused 22)
+pub comprehension-none : {c : Bytes} {s : List ℕ} {p : ParseState} → length c ≡ 0 → ComprehensionPost c s p s (Filled.Refused 22)
 comprehension-none {c} {p = p} h = record { is = no-monoid (readPart (p .levels)) c (p .left) h; kept = kept-refl }
 
-module _ {c : Bytes} {s : List ℕ} {p : Place} {b : ℕ} (some : length c ≡ 0 → ⊥) (M : ByteAt c 0 b) where
-  pub comprehension-zero : b ≡ 0 → ComprehensionRead c s p s (Filled.Refused 22)
+module _ {c : Bytes} {s : List ℕ} {p : ParseState} {b : ℕ} (some : length c ≡ 0 → ⊥) (M : BytePost c 0 b) where
+  pub comprehension-zero : b ≡ 0 → ComprehensionPost c s p s (Filled.Refused 22)
   unfolding andThen
   comprehension-zero e =
       let z : byte c 0 ≡ 0 = sym (M .is) ∙ e in
       record { is = with-monoid (readPart (p .levels)) c (p .left) some ∙ ap (λ (b : ℕ). andThen (getD monoids b (refused 22)) (λ m. E.parts (readPart (p .levels)) m (p .left) (drop 1 c) (p .left))) z; kept = kept-refl }
 
-  pub comprehension-over : 8 < b → ComprehensionRead c s p s (Filled.Refused 22)
+  pub comprehension-over : 8 < b → ComprehensionPost c s p s (Filled.Refused 22)
   unfolding andThen
   comprehension-over h =
       let z : getD monoids (byte c 0) (refused 22) ≡ refused 22 = List·getD-eq-default monoids (refused 22) {n = byte c 0} (omega (arith, M .is)) in
       record { is = with-monoid (readPart (p .levels)) c (p .left) some ∙ ap (λ (x : Result Monoid). andThen x (λ m. E.parts (readPart (p .levels)) m (p .left) (drop 1 c) (p .left))) z; kept = kept-refl }
 
 -- where the parts of a comprehension stand
-abbrev pub insideOf : Place → Place
+abbrev pub insideOf : ParseState → ParseState
 insideOf p = record { levels = p .levels; left = p .left; node = p .node; depth = p .depth + 1 }
 
-module _ (p : Place) {c : Bytes} {s s′ : List ℕ} {b : ℕ} {r : Filled} (some : length c ≡ 0 → ⊥) (M : ByteAt c 0 b) (l : b ≡ 0 → ⊥) (h : b ≤ 8) (P : PartsRead (after c 1) s (insideOf p) s′ r) where
+module _ (p : ParseState) {c : Bytes} {s s′ : List ℕ} {b : ℕ} {r : Filled} (some : length c ≡ 0 → ⊥) (M : BytePost c 0 b) (l : b ≡ 0 → ⊥) (h : b ≤ 8) (P : PartsPost (after c 1) s (insideOf p) s′ r) where
   comprehension-by : {x : Monoid → E.Read Question} → rounds (insideOf p) (after c 1) x → comprehends (readPart (p .levels)) c (p .left) ≡ x (monoidAt b)
   unfolding andThen
   comprehension-by {x} f =
@@ -221,18 +221,18 @@ module _ (p : Place) {c : Bytes} {s s′ : List ℕ} {b : ℕ} {r : Filled} (som
       with-monoid (readPart (p .levels)) c (p .left) some ∙ ap (λ (x : Result Monoid). andThen x (λ m. E.parts (readPart (p .levels)) m (p .left) (drop 1 c) (p .left))) z ∙
       ap (λ (r : Bytes). E.parts (readPart (p .levels)) (monoidAt b) (p .left) r (p .left)) (sym (after-is c 1)) ∙ f (monoidAt b) (p .left) (omega arith)
 
-  pub comprehension-refused : {x : ℕ} → r ≡ Filled.Refused x → ComprehensionRead c s p s′ (Filled.Refused x)
+  pub comprehension-refused : {x : ℕ} → r ≡ Filled.Refused x → ComprehensionPost c s p s′ (Filled.Refused x)
   comprehension-refused e = record { is = comprehension-by (subst (PartsBy (after c 1) s′ (insideOf p)) e (P .is)); kept = P .kept }
 
   pub parts-found : {left i : ℕ} → r ≡ Filled.Read left i → PartsFound (after c 1) s′ (insideOf p) left i
   parts-found e = subst (PartsBy (after c 1) s′ (insideOf p)) e (P .is)
 
-  pub comprehension-read : {left i : ℕ} {s″ : List ℕ} {t : Filled} → r ≡ Filled.Read left i → Finished s′ 14 b p left i s″ t → ComprehensionRead c s p s″ t
+  pub comprehension-read : {left i : ℕ} {s″ : List ℕ} {t : Filled} → r ≡ Filled.Read left i → FinishPost s′ 14 b p left i s″ t → ComprehensionPost c s p s″ t
   unfolding nodes
   comprehension-read {left} {i} {s″} e D =
       let F = parts-found e in
       let n = F .end in
-      subst (ComprehensionRead c s p s″) (sym (D .is))
+      subst (ComprehensionPost c s p s″) (sym (D .is))
       (record {
         is = record {
           question = record { monoid = monoidAt b; quals = F .quals; head = F .head };
@@ -252,24 +252,24 @@ module _ (p : Place) {c : Bytes} {s s′ : List ℕ} {b : ℕ} {r : Filled} (som
       })
 
 -- ---- the question
-pub question-long : {l : Bytes} {s : List ℕ} → 4096 < length l → QuestionRead l s s (Answer.Refused 21)
+pub question-long : {l : Bytes} {s : List ℕ} → 4096 < length l → ReadQuestionPost l s s (Answer.Refused 21)
 unfolding readQuestion require
 question-long {l} h = record { is = rw (lt-leb (length l) 4096 h); kept = kept-refl }
 
 module _ {l : Bytes} {s : List ℕ} (h : length l ≤ 4096) where
-  pub question-cut : isWhole l ≡ false → QuestionRead l s s (Answer.Refused 22)
+  pub question-cut : isWhole l ≡ false → ReadQuestionPost l s s (Answer.Refused 22)
   unfolding readQuestion require
   question-cut w = record { is = rw (le-leb (length l) 4096 h, w); kept = kept-refl }
 
-  pub question-kind : {k e : ℕ} → Whole l k e → (k ≡ 14 → ⊥) → QuestionRead l s s (Answer.Refused 22)
+  pub question-kind : {k e : ℕ} → Whole l k e → (k ≡ 14 → ⊥) → ReadQuestionPost l s s (Answer.Refused 22)
   unfolding readQuestion require
   question-kind W n = record { is = rw (le-leb (length l) 4096 h, W .whole, ne-eqb (kindOf l) 14 (λ e. n (W .kind ∙ e))); kept = kept-refl }
 
 -- where the question's parts begin
-abbrev pub first : Place
+abbrev pub first : ParseState
 first = record { levels = 31; left = 255; node = 0; depth = 0 }
 
-module _ {l : Bytes} {s s′ : List ℕ} {k e : ℕ} {r : Filled} (h : length l ≤ 4096) (W : Whole l k e) (ke : k ≡ 14) (C : ComprehensionRead (inner l e) s first s′ r) where
+module _ {l : Bytes} {s s′ : List ℕ} {k e : ℕ} {r : Filled} (h : length l ≤ 4096) (W : Whole l k e) (ke : k ≡ 14) (C : ComprehensionPost (inner l e) s first s′ r) where
   question-by : {x : E.Read Question} → comprehends (readPart 31) (inner l e) 255 ≡ x → readQuestion l ≡ andThen x (λ s. require 22 (eqb (length (behind l)) 0) (got (s .is)))
   unfolding readQuestion require
   question-by {x} p =
@@ -279,18 +279,18 @@ module _ {l : Bytes} {s s′ : List ℕ} {k e : ℕ} {r : Filled} (h : length l 
   length-behind : length (behind l) ≡ length l - e
   length-behind = length-drop (4 + lengthOf l) l ∙ omega (arith, W .end)
 
-  pub question-refused : {x : ℕ} → r ≡ Filled.Refused x → QuestionRead l s s′ (Answer.Refused x)
+  pub question-refused : {x : ℕ} → r ≡ Filled.Refused x → ReadQuestionPost l s s′ (Answer.Refused x)
   unfolding andThen
   question-refused p = record { is = question-by (subst (ComprehensionBy (comprehends (readPart 31) (inner l e) 255) s′ first) p (C .is)); kept = C .kept }
 
   question-found : {left n : ℕ} → r ≡ Filled.Read left n → ComprehensionFound (comprehends (readPart 31) (inner l e) 255) s′ first left n
   question-found p = subst (ComprehensionBy (comprehends (readPart 31) (inner l e) 255) s′ first) p (C .is)
 
-  pub question-over : {left n : ℕ} → r ≡ Filled.Read left n → e < length l → QuestionRead l s s′ (Answer.Refused 22)
+  pub question-over : {left n : ℕ} → r ≡ Filled.Read left n → e < length l → ReadQuestionPost l s s′ (Answer.Refused 22)
   unfolding andThen require
   question-over p o = record { is = question-by (question-found p .is) ∙ rw (ne-eqb (length (behind l)) 0 (omega (arith, length-behind))); kept = C .kept }
 
-  pub question-read : {left n : ℕ} → r ≡ Filled.Read left n → length l ≤ e → QuestionRead l s s′ (Answer.Question n)
+  pub question-read : {left n : ℕ} → r ≡ Filled.Read left n → length l ≤ e → ReadQuestionPost l s s′ (Answer.Question n)
   unfolding andThen require
   question-read {n = n} p o =
       let F = question-found p in
@@ -310,31 +310,31 @@ module _ {l : Bytes} {s s′ : List ℕ} {k e : ℕ} {r : Filled} (h : length l 
       }
 
 -- ---- room for what follows
-pub room-inside : {l : Bytes} {s : List ℕ} {p b : Place} {k e : ℕ} → Room 0 s p → Began l p k e b → Room 1 s b
+pub room-inside : {l : Bytes} {s : List ℕ} {p b : ParseState} {k e : ℕ} → Room 0 s p → Began l p k e b → Room 1 s b
 room-inside M B = record { words = M .words; nodes = omega (arith, B .node, B .left, M .nodes); deep = omega (arith, B .levels, B .depth, M .deep) }
 
-pub room-terms : {s : List ℕ} {p : Place} → Room 1 s p → Room 0 s p
+pub room-terms : {s : List ℕ} {p : ParseState} → Room 1 s p → Room 0 s p
 room-terms M = record { words = M .words; nodes = M .nodes; deep = omega (arith, M .deep) }
 
-pub room-parts : {s : List ℕ} {p : Place} → Room 1 s p → Room 0 s (insideOf p)
+pub room-parts : {s : List ℕ} {p : ParseState} → Room 1 s p → Room 0 s (insideOf p)
 room-parts M = record { words = M .words; nodes = M .nodes; deep = omega (arith, M .deep) }
 
-pub room-behind : {q : Bool} {x : E.Read Part} {l : Bytes} {s s′ : List ℕ} {p : Place} {used left i : ℕ} → Room 0 s p → Kept (p .node) s s′ → FrontFound q x l s′ p used left i →
+pub room-behind : {q : Bool} {x : E.Read Part} {l : Bytes} {s s′ : List ℕ} {p : ParseState} {used left i : ℕ} → Room 0 s p → Kept (p .node) s s′ → FrontFound q x l s′ p used left i →
     Room 0 s′ (behindOf p left i)
 room-behind M K F =
     record { words = omega (arith, K .long, M .words); nodes = omega (arith, F .found .end, F .found .spent, M .nodes); deep = M .deep }
 
-pub finishing-terms : {most : ℕ} {l : Bytes} {s s′ : List ℕ} {p : Place} {t : Several} {count left i k x : ℕ} → Room 1 s p → TermsRead most l s p s′ t → t ≡ Several.Read count left i →
-    k < 32 → x < 8589934592 → Finishing s′ k x p i
+pub finishing-terms : {most : ℕ} {l : Bytes} {s s′ : List ℕ} {p : ParseState} {t : Several} {count left i k x : ℕ} → Room 1 s p → TermsPost most l s p s′ t → t ≡ Several.Read count left i →
+    k < 32 → x < 8589934592 → FinishPre s′ k x p i
 finishing-terms M T e hk hx =
     let F = terms-found T e .0 in
     let n = F .end in
     record { words = omega (arith, T .kept .long, M .words); kind = hk; arg = hx; start = omega arith; below = omega (arith, F .spent, M .nodes); deep = omega (arith, M .deep) }
 
-pub few-terms : {most : ℕ} {l : Bytes} {s s′ : List ℕ} {p : Place} {t : Several} {count left i : ℕ} → Room 1 s p → TermsRead most l s p s′ t → t ≡ Several.Read count left i → count < 8589934592
+pub few-terms : {most : ℕ} {l : Bytes} {s s′ : List ℕ} {p : ParseState} {t : Several} {count left i : ℕ} → Room 1 s p → TermsPost most l s p s′ t → t ≡ Several.Read count left i → count < 8589934592
 few-terms M T e = let F = terms-found T e .0 in omega (arith, F .many, F .spent, M .nodes, count-nodes (F .trees))
 
-pub finishing-parts : (p : Place) {l : Bytes} {s s′ : List ℕ} {r : Filled} {left i b : ℕ} → Room 1 s p → PartsRead l s (insideOf p) s′ r → r ≡ Filled.Read left i → b ≤ 8 → Finishing s′ 14 b p i
+pub finishing-parts : (p : ParseState) {l : Bytes} {s s′ : List ℕ} {r : Filled} {left i b : ℕ} → Room 1 s p → PartsPost l s (insideOf p) s′ r → r ≡ Filled.Read left i → b ≤ 8 → FinishPre s′ 14 b p i
 finishing-parts p {l} {s′ = s′} M P e h =
     let F = subst (PartsBy l s′ (insideOf p)) e (P .is) in
     let n = F .end in

@@ -11,30 +11,30 @@ use Rattle.spec_encoding.specs.Record.{Bytes, refused, andThen, require, length
 use Rattle.spec_encoding.specs.Reader as E
 use Rattle.spec_encoding.specs.Reader.{Kind, kinds, unknown, comprehension, Part, term, Reader, yields, comprehends, content, atRecord, readPart}
 use Rattle.base_scratch.specs.Map.{nodesAt}
-use Rattle.front_words.specs.Packing.{nodeWord}
-use Rattle.front_words.specs.Laid.{nodes, nodesL, nodesQ, Laid, LaidL, LaidQ}
-use Rattle.front_words.proofs.Laws.{three, laid-same, laid-same-terms, laid-same-quals}
-use Rattle.front_parser.specs.Scratch.{Kept}
-use Rattle.front_parser.specs.Front.{Whole, Began, Begins, BeginsBy}
-use Rattle.front_parser.specs.Kinds.{LeafKind, HasTerms, of-field, of-record, of-two, of-not, Shaped, ShapedBy, Looks, LooksBy}
-use Rattle.front_parser.specs.Reads.{LaidP, Found, FillsBy, ContentRead, CompoundRead, FrontFound, TermBy, TermRead, headOf, ItemBy, ItemRead, ComprehensionBy, ComprehensionRead}
-use Rattle.front_parser.specs.declared.Place.{Place}
-use Rattle.front_parser.specs.declared.Counts.{Counts}
+use Rattle.front_words.specs.NodeWord.{nodeWord}
+use Rattle.front_words.specs.LaidTree.{nodes, nodesL, nodesQ, Laid, LaidL, LaidQ}
+use Rattle.front_words.proofs.NodeWords.{three, laid-same, laid-same-terms, laid-same-quals}
+use Rattle.front_parser.specs.ReaderScratch.{Kept}
+use Rattle.front_parser.specs.RecordFront.{Whole, Began, BeginPost, BeginsBy}
+use Rattle.front_parser.specs.RecordKinds.{LeafKind, HasTerms, of-field, of-record, of-two, of-not, ShapeOfPost, ShapedBy, LookAheadPost, LooksBy}
+use Rattle.front_parser.specs.ReaderContracts.{LaidP, Found, FillsBy, ContentRead, CompoundPost, FrontFound, TermBy, TermPost, headOf, ItemBy, QualifierPost, ComprehensionBy, ComprehensionPost}
+use Rattle.front_parser.specs.declared.ParseState.{ParseState}
+use Rattle.front_parser.specs.declared.Arity.{Arity}
 use Rattle.front_parser.specs.declared.Filled.{Filled}
 use Rattle.front_parser.specs.declared.Filled.the-variants as Filled
-use Rattle.front_parser.specs.declared.Front.{Front}
-use Rattle.front_parser.specs.declared.Front.the-variants as Front
+use Rattle.front_parser.specs.declared.TermFront.{TermFront}
+use Rattle.front_parser.specs.declared.TermFront.the-variants as TermFront
 use Rattle.front_parser.specs.declared.Item.{Item}
 use Rattle.front_parser.specs.declared.Item.the-variants as Item
 use Rattle.front_parser.specs.declared.Read.{Read}
-use Rattle.front_parser.specs.declared.bytes.Begun.{Begun}
-use Rattle.front_parser.specs.declared.bytes.Begun.the-variants as Begun
-use Rattle.front_parser.specs.declared.value.Shape.{Shape}
-use Rattle.front_parser.specs.declared.value.Shape.the-variants as Shape
+use Rattle.front_parser.specs.declared.bytes.RecordStart.{RecordStart}
+use Rattle.front_parser.specs.declared.bytes.RecordStart.the-variants as RecordStart
+use Rattle.front_parser.specs.declared.value.ContentKind.{ContentKind}
+use Rattle.front_parser.specs.declared.value.ContentKind.the-variants as ContentKind
 use Rattle.front_parser.specs.declared.value.Ahead.{Ahead}
 use Rattle.front_parser.specs.declared.value.Ahead.the-variants as Ahead
-use Rattle.front_parser.specs.declared.value.Value.{Value}
-use Rattle.front_parser.proofs.Leaves.{kept-refl, stops-refuses}
+use Rattle.front_parser.specs.declared.value.ArgumentRead.{ArgumentRead}
+use Rattle.front_parser.proofs.LeafRecords.{kept-refl, stops-refuses}
 
 -- ---- parts of the bytes: what stands behind so many bytes, and a record's content
 abbrev pub after : Bytes → ℕ → Bytes
@@ -71,13 +71,13 @@ pub quals-kept : (qs : Quals) {s s′ : List ℕ} {b : ℕ} (d a : ℕ) → Kept
 quals-kept qs {s} {s′} {b} d a K h L = laid-same-quals s s′ b (nodes-kept K) qs d a h L
 
 -- ---- a record that begins
-pub began : {l : Bytes} {p : Place} {g : Begun} → Begins l p g → {k e : ℕ} {b : Place} → g ≡ Begun.Record k e b → Began l p k e b
+pub began : {l : Bytes} {p : ParseState} {g : RecordStart} → BeginPost l p g → {k e : ℕ} {b : ParseState} → g ≡ RecordStart.Record k e b → Began l p k e b
 began {l} {p} B e = subst (BeginsBy l p) e (B .is)
 
-refused-at : {l : Bytes} {p : Place} {g : Begun} → Begins l p g → {x : ℕ} → g ≡ Begun.Refused x → (q : Bool) → readPart (p .levels) q l (p .left) ≡ refused x
+refused-at : {l : Bytes} {p : ParseState} {g : RecordStart} → BeginPost l p g → {x : ℕ} → g ≡ RecordStart.Refused x → (q : Bool) → readPart (p .levels) q l (p .left) ≡ refused x
 refused-at {l} {p} B e = stops-refuses (subst (BeginsBy l p) e (B .is))
 
-module _ {l : Bytes} {p b : Place} {k e : ℕ} (B : Began l p k e b) where
+module _ {l : Bytes} {p b : ParseState} {k e : ℕ} (B : Began l p k e b) where
   opened : (q : Bool) → readPart (p .levels) q l (p .left) ≡ andThen (content (readPart (b .levels)) q (getD kinds k unknown) (inner l e) (b .left)) (λ s. yields (s .is) (drop e l) (s .left))
   unfolding readPart atRecord require
   opened q =
@@ -112,25 +112,25 @@ module _ {l : Bytes} {p b : Place} {k e : ℕ} (B : Began l p k e b) where
   front-kept {s} {s′} K = subst (λ (a : ℕ). Kept a s s′) (B .node) K
 
 -- ---- term
-pub term-none : {l : Bytes} {s : List ℕ} {p : Place} {g : Begun} {x : ℕ} → Begins l p g → g ≡ Begun.Refused x → TermRead l s p s (Front.Refused x)
+pub term-none : {l : Bytes} {s : List ℕ} {p : ParseState} {g : RecordStart} {x : ℕ} → BeginPost l p g → g ≡ RecordStart.Refused x → TermPost l s p s (TermFront.Refused x)
 term-none B e = record { is = refused-at B e false; kept = kept-refl }
 
-module _ {l : Bytes} {s s′ : List ℕ} {p b : Place} {g : Begun} {k e : ℕ} {r : Filled} (G : Begins l p g) (ge : g ≡ Begun.Record k e b) (C : ContentRead k (inner l e) s b s′ r) where
-  pub term-refused : {x : ℕ} → r ≡ Filled.Refused x → TermRead l s p s′ (Front.Refused x)
+module _ {l : Bytes} {s s′ : List ℕ} {p b : ParseState} {g : RecordStart} {k e : ℕ} {r : Filled} (G : BeginPost l p g) (ge : g ≡ RecordStart.Record k e b) (C : ContentRead k (inner l e) s b s′ r) where
+  pub term-refused : {x : ℕ} → r ≡ Filled.Refused x → TermPost l s p s′ (TermFront.Refused x)
   term-refused h =
       let B = began G ge in
       record { is = front-refused B false (subst (FillsBy false (content (readPart (b .levels)) false (getD kinds k unknown) (inner l e) (b .left)) s′ b) h (C .is)); kept = front-kept B (C .kept) }
 
-  pub term-read : {left i : ℕ} → r ≡ Filled.Read left i → TermRead l s p s′ (Front.Read e left i)
+  pub term-read : {left i : ℕ} → r ≡ Filled.Read left i → TermPost l s p s′ (TermFront.Read e left i)
   term-read h =
       let B = began G ge in
       record { is = front-found B false (subst (FillsBy false (content (readPart (b .levels)) false (getD kinds k unknown) (inner l e) (b .left)) s′ b) h (C .is)); kept = front-kept B (C .kept) }
 
 -- ---- a term's content
-pub shaped-leaf : {k : ℕ} {h : Shape} → Shaped k h → h ≡ Shape.Value → LeafKind k
+pub shaped-leaf : {k : ℕ} {h : ContentKind} → ShapeOfPost k h → h ≡ ContentKind.Value → LeafKind k
 shaped-leaf {k} S e = subst (ShapedBy k) e (S .is)
 
-pub shaped-terms : {k : ℕ} {g : Shape} {h : Counts} → Shaped k g → g ≡ Shape.Terms h → HasTerms (getD kinds k unknown) false (h .least) (h .most) (h .skip) × (k < 32)
+pub shaped-terms : {k : ℕ} {g : ContentKind} {h : Arity} → ShapeOfPost k g → g ≡ ContentKind.Terms h → HasTerms (getD kinds k unknown) false (h .least) (h .most) (h .skip) × (k < 32)
 shaped-terms {k} S e = subst (ShapedBy k) e (S .is)
 
 terms-alike : {K : Kind} {l m n : ℕ} → HasTerms K false l m n → (R : Reader) (c : Bytes) (j : ℕ) → content R true K c j ≡ content R false K c j
@@ -140,13 +140,13 @@ terms-alike of-record R c j = refl
 terms-alike (of-two o) R c j = refl
 terms-alike of-not R c j = refl
 
-pub content-terms : {k : ℕ} {c : Bytes} {s s′ : List ℕ} {p : Place} {r : Filled} {g : Shape} {h : Counts} → Shaped k g → g ≡ Shape.Terms h →
-    CompoundRead k h c s p s′ r → ContentRead k c s p s′ r
+pub content-terms : {k : ℕ} {c : Bytes} {s s′ : List ℕ} {p : ParseState} {r : Filled} {g : ContentKind} {h : Arity} → ShapeOfPost k g → g ≡ ContentKind.Terms h →
+    CompoundPost k h c s p s′ r → ContentRead k c s p s′ r
 content-terms {k} {c} {s} {s′} {p} {r} S e C =
     let H = shaped-terms S e .0 in
     record { is = subst (λ (x : E.Read Part). FillsBy false x s′ p r) (terms-alike H (readPart (p .levels)) c (p .left)) (C .is false H); kept = C .kept }
 
-comprehension-fills : (k : ℕ) (c : Bytes) (s : List ℕ) (p : Place) (r : Filled) → getD kinds k unknown ≡ comprehension → ComprehensionBy (comprehends (readPart (p .levels)) c (p .left)) s p r →
+comprehension-fills : (k : ℕ) (c : Bytes) (s : List ℕ) (p : ParseState) (r : Filled) → getD kinds k unknown ≡ comprehension → ComprehensionBy (comprehends (readPart (p .levels)) c (p .left)) s p r →
     FillsBy false (content (readPart (p .levels)) false (getD kinds k unknown) c (p .left)) s p r
 unfolding content andThen
 comprehension-fills k c s p (Filled.Read left i) e F =
@@ -163,42 +163,42 @@ comprehension-fills k c s p (Filled.Refused x) e F =
     ap (λ (K : Kind). content (readPart (p .levels)) false K c (p .left)) e ∙
     ap (λ (x : E.Read Question). andThen x (λ s. yields (term (comp (s .is .monoid) (s .is .quals) (s .is .head))) [] (s .left))) F
 
-pub content-comprehension : {k : ℕ} {c : Bytes} {s s′ : List ℕ} {p : Place} {r : Filled} {g : Shape} → Shaped k g → g ≡ Shape.Comprehension →
-    ComprehensionRead c s p s′ r → ContentRead k c s p s′ r
+pub content-comprehension : {k : ℕ} {c : Bytes} {s s′ : List ℕ} {p : ParseState} {r : Filled} {g : ContentKind} → ShapeOfPost k g → g ≡ ContentKind.Comprehension →
+    ComprehensionPost c s p s′ r → ContentRead k c s p s′ r
 content-comprehension {k} {c} {s′ = s′} {p} {r} S e C = record { is = comprehension-fills k c s′ p r (subst (ShapedBy k) e (S .is)) (C .is); kept = C .kept }
 
-pub content-other : {k : ℕ} {c : Bytes} {s : List ℕ} {p : Place} {g : Shape} → Shaped k g → g ≡ Shape.Other → ContentRead k c s p s (Filled.Refused 22)
+pub content-other : {k : ℕ} {c : Bytes} {s : List ℕ} {p : ParseState} {g : ContentKind} → ShapeOfPost k g → g ≡ ContentKind.Other → ContentRead k c s p s (Filled.Refused 22)
 content-other {k} {c} {p = p} S e = record { is = (subst (ShapedBy k) e (S .is)) (readPart (p .levels)) c (p .left); kept = kept-refl }
 
 -- ---- a qualifier or the head
-pub item-none : {l : Bytes} {s : List ℕ} {p : Place} {g : Begun} {x : ℕ} → Begins l p g → g ≡ Begun.Refused x → ItemRead l s p s (Item.Refused x)
+pub item-none : {l : Bytes} {s : List ℕ} {p : ParseState} {g : RecordStart} {x : ℕ} → BeginPost l p g → g ≡ RecordStart.Refused x → QualifierPost l s p s (Item.Refused x)
 item-none B e = record { is = refused-at B e true; kept = kept-refl }
 
-head-by : (x : E.Read Part) (l : Bytes) (s : List ℕ) (p : Place) (f : Front) → TermBy x l s p f → ItemBy x l s p (headOf f)
-head-by x l s p (Front.Read used left i) T = T
-head-by x l s p (Front.Refused k) T = T
+head-by : (x : E.Read Part) (l : Bytes) (s : List ℕ) (p : ParseState) (f : TermFront) → TermBy x l s p f → ItemBy x l s p (headOf f)
+head-by x l s p (TermFront.Read used left i) T = T
+head-by x l s p (TermFront.Refused k) T = T
 
-pub item-head : {l : Bytes} {s s′ : List ℕ} {p b : Place} {g : Begun} {k e : ℕ} {a : Ahead} {f : Front} {i : Item} → Begins l p g → g ≡ Begun.Record k e b → Looks k a → a ≡ Ahead.Term →
-    TermRead l s p s′ f → i ≡ headOf f → ItemRead l s p s′ i
+pub item-head : {l : Bytes} {s s′ : List ℕ} {p b : ParseState} {g : RecordStart} {k e : ℕ} {a : Ahead} {f : TermFront} {i : Item} → BeginPost l p g → g ≡ RecordStart.Record k e b → LookAheadPost k a → a ≡ Ahead.Term →
+    TermPost l s p s′ f → i ≡ headOf f → QualifierPost l s p s′ i
 item-head {l} {s} {s′} {p} {b} {k = k} {e} {f = f} G ge A ae T ie =
     let B = began G ge in
     let same = (subst (LooksBy k) ae (A .is)) (readPart (b .levels)) (inner l e) (b .left) in
     let x : readPart (p .levels) false l (p .left) ≡ readPart (p .levels) true l (p .left) =
     opened B false ∙ ap (λ (x : E.Read Part). andThen x (λ s. yields (s .is) (drop e l) (s .left))) (sym same) ∙ sym (opened B true) in
-    subst (ItemRead l s p s′) (sym ie)
+    subst (QualifierPost l s p s′) (sym ie)
     (record { is = head-by _ l s′ p f (subst (λ (x : E.Read Part). TermBy x l s′ p f) x (T .is)); kept = T .kept })
 
-pub looks-qualifier : {k : ℕ} {a : Ahead} {h : Counts} → Looks k a → a ≡ Ahead.Qualifier h → HasTerms (getD kinds k unknown) true (h .least) (h .most) (h .skip) × (k < 32)
+pub looks-qualifier : {k : ℕ} {a : Ahead} {h : Arity} → LookAheadPost k a → a ≡ Ahead.Qualifier h → HasTerms (getD kinds k unknown) true (h .least) (h .most) (h .skip) × (k < 32)
 looks-qualifier {k} A e = subst (LooksBy k) e (A .is)
 
-module _ {l : Bytes} {s s′ : List ℕ} {p b : Place} {g : Begun} {k e : ℕ} {a : Ahead} {h : Counts} {r : Filled} (G : Begins l p g) (ge : g ≡ Begun.Record k e b) (A : Looks k a)
-    (ae : a ≡ Ahead.Qualifier h) (C : CompoundRead k h (inner l e) s b s′ r) where
-  pub item-refused : {x : ℕ} → r ≡ Filled.Refused x → ItemRead l s p s′ (Item.Refused x)
+module _ {l : Bytes} {s s′ : List ℕ} {p b : ParseState} {g : RecordStart} {k e : ℕ} {a : Ahead} {h : Arity} {r : Filled} (G : BeginPost l p g) (ge : g ≡ RecordStart.Record k e b) (A : LookAheadPost k a)
+    (ae : a ≡ Ahead.Qualifier h) (C : CompoundPost k h (inner l e) s b s′ r) where
+  pub item-refused : {x : ℕ} → r ≡ Filled.Refused x → QualifierPost l s p s′ (Item.Refused x)
   item-refused re =
       let B = began G ge in
       record { is = front-refused B true (subst (FillsBy true (content (readPart (b .levels)) true (getD kinds k unknown) (inner l e) (b .left)) s′ b) re (C .is true (looks-qualifier A ae .0))); kept = front-kept B (C .kept) }
 
-  pub item-read : {left i : ℕ} → r ≡ Filled.Read left i → ItemRead l s p s′ (Item.Qualifier e left i)
+  pub item-read : {left i : ℕ} → r ≡ Filled.Read left i → QualifierPost l s p s′ (Item.Qualifier e left i)
   item-read re =
       let B = began G ge in
       record { is = front-found B true (subst (FillsBy true (content (readPart (b .levels)) true (getD kinds k unknown) (inner l e) (b .left)) s′ b) re (C .is true (looks-qualifier A ae .0))); kept = front-kept B (C .kept) }

@@ -1,5 +1,5 @@
--- What the reader's functions ensure: by the definitions of encoding/specs, and by how the nodes lie in scratch.
-pub mod Scratch
-pub mod Front
-pub mod Kinds
-pub mod Reads
+-- What the reader's functions ensure: by the definitions of spec_encoding/specs, and by how the nodes lie in scratch.
+pub mod ReaderScratch
+pub mod RecordFront
+pub mod RecordKinds
+pub mod ReaderContracts

@@ -6,20 +6,20 @@ mod value;
 ghost use mathlib.Core.Path.{_≡_};
 ghost use Prim.Native.Nat.{_+_, _≤_, _<_};
 ghost use lib.ListN.{length};
-ghost use Rattle.front_parser.specs.Scratch.{Room};
-ghost use Rattle.front_parser.specs.Reads.{TermRead, TermsRead, CompoundRead, ContentRead, headOf, ItemRead, PartsRead, ComprehensionRead, QuestionRead};
+ghost use Rattle.front_parser.specs.ReaderScratch.{Room};
+ghost use Rattle.front_parser.specs.ReaderContracts.{TermPost, TermsPost, CompoundPost, ContentRead, headOf, QualifierPost, PartsPost, ComprehensionPost, ReadQuestionPost};
 use base_refusals::BROKEN_RECORD;
 use base_refusals::QUESTION_TOO_LONG;
 use base_syntax::KIND_COMPREHENSION;
 use base_syntax::MONOIDS;
-use bytes::Begun;
-use bytes::Header;
+use bytes::RecordHeader;
+use bytes::RecordStart;
 use bytes::begin;
 use bytes::byte;
 use bytes::read_header;
 use value::Ahead;
-use value::Shape;
-use value::Value;
+use value::ArgumentRead;
+use value::ContentKind;
 use value::finish;
 use value::fixed;
 use value::leaf;
@@ -36,7 +36,7 @@ const RECORDS: usize = 255;
 
 // Where a reader stands: how many levels may still be opened and how many records begun, the next node, and how many
 // comprehensions are around it.
-pub struct Place {
+pub struct ParseState {
     pub levels: usize,
     pub left: usize,
     pub node: usize,
@@ -44,7 +44,7 @@ pub struct Place {
 }
 
 // How many terms a record's content may have, and how many bytes stand before them.
-pub struct Counts {
+pub struct Arity {
     pub least: usize,
     pub most: usize,
     pub skip: usize,
@@ -57,7 +57,7 @@ pub enum Filled {
 }
 
 // The term at the front of some bytes: how many bytes it takes, and as above.
-pub enum Front {
+pub enum TermFront {
     Read(usize, usize, usize),
     Refused(u64),
 }
@@ -82,39 +82,39 @@ pub enum Read {
 }
 
 // The record at the front, where a term must stand.
-fn term(l: &[u8], s: &mut [u64], p: Place) -> Front
+fn term(l: &[u8], s: &mut [u64], p: ParseState) -> TermFront
     requires { ⌜ Room 0 (now s) p ⌝ }
-    ensures { λ r. ⌜ TermRead (now (l .entry)) (now (s .entry)) p (now (s .exit)) r ⌝ }
+    ensures { λ r. ⌜ TermPost (now (l .entry)) (now (s .entry)) p (now (s .exit)) r ⌝ }
 {
     match begin(l, p) {
-        Begun::Refused(x) => Front::Refused(x),
-        Begun::Record(k, e, b) => match content(k, &l[4..e], s, b) {
-            Filled::Refused(x) => Front::Refused(x),
-            Filled::Read(left, node) => Front::Read(e, left, node),
+        RecordStart::Refused(x) => TermFront::Refused(x),
+        RecordStart::Record(k, e, b) => match content(k, &l[4..e], s, b) {
+            Filled::Refused(x) => TermFront::Refused(x),
+            Filled::Read(left, node) => TermFront::Read(e, left, node),
         },
     }
 }
 
 // A term's content, by its kind.
-fn content(k: u64, c: &[u8], s: &mut [u64], p: Place) -> Filled
+fn content(k: u64, c: &[u8], s: &mut [u64], p: ParseState) -> Filled
     requires { ⌜ Room 1 (now s) p ⌝ }
     ensures { λ r. ⌜ ContentRead k (now (c .entry)) (now (s .entry)) p (now (s .exit)) r ⌝ }
 {
     match shape_of(k) {
-        Shape::Value => leaf(k, c, s, p),
-        Shape::Terms(h) => compound(k, h, c, s, p),
-        Shape::Comprehension => comprehension(c, s, p),
-        Shape::Other => Filled::Refused(BROKEN_RECORD),
+        ContentKind::Value => leaf(k, c, s, p),
+        ContentKind::Terms(h) => compound(k, h, c, s, p),
+        ContentKind::Comprehension => comprehension(c, s, p),
+        ContentKind::Other => Filled::Refused(BROKEN_RECORD),
     }
 }
 
 // Content that is terms, behind a field's index or a name: kinds 4 to 13 and the qualifiers.
-fn compound(k: u64, h: Counts, c: &[u8], s: &mut [u64], p: Place) -> Filled
+fn compound(k: u64, h: Arity, c: &[u8], s: &mut [u64], p: ParseState) -> Filled
     requires { ⌜ (k < 32) × Room 1 (now s) p ⌝ }
-    ensures { λ r. ⌜ CompoundRead k h (now (c .entry)) (now (s .entry)) p (now (s .exit)) r ⌝ }
+    ensures { λ r. ⌜ CompoundPost k h (now (c .entry)) (now (s .entry)) p (now (s .exit)) r ⌝ }
 {
     let skip = h.skip;
-    let Value::Is(a) = fixed(skip, c) else {
+    let ArgumentRead::Is(a) = fixed(skip, c) else {
         return Filled::Refused(BROKEN_RECORD);
     };
     match terms(&c[skip..], s, p, h.most) {
@@ -132,9 +132,9 @@ fn compound(k: u64, h: Counts, c: &[u8], s: &mut [u64], p: Place) -> Filled
 }
 
 // Terms one behind the other, at most so many, up to the end of the bytes.
-fn terms(l: &[u8], s: &mut [u64], p: Place, most: usize) -> Several
+fn terms(l: &[u8], s: &mut [u64], p: ParseState, most: usize) -> Several
     requires { ⌜ Room 0 (now s) p ⌝ }
-    ensures { λ r. ⌜ TermsRead most (now (l .entry)) (now (s .entry)) p (now (s .exit)) r ⌝ }
+    ensures { λ r. ⌜ TermsPost most (now (l .entry)) (now (s .entry)) p (now (s .exit)) r ⌝ }
 {
     if l.len() == 0 {
         return Several::Read(0, p.left, p.node);
@@ -143,9 +143,9 @@ fn terms(l: &[u8], s: &mut [u64], p: Place, most: usize) -> Several
         return Several::Refused(BROKEN_RECORD);
     }
     match term(l, s, p) {
-        Front::Refused(x) => Several::Refused(x),
-        Front::Read(used, left, node) => {
-            let next = Place {
+        TermFront::Refused(x) => Several::Refused(x),
+        TermFront::Read(used, left, node) => {
+            let next = ParseState {
                 levels: p.levels,
                 left,
                 node,
@@ -160,9 +160,9 @@ fn terms(l: &[u8], s: &mut [u64], p: Place, most: usize) -> Several
 }
 
 // The content of kind 14: a monoid, qualifiers, a head.
-fn comprehension(c: &[u8], s: &mut [u64], p: Place) -> Filled
+fn comprehension(c: &[u8], s: &mut [u64], p: ParseState) -> Filled
     requires { ⌜ Room 1 (now s) p ⌝ }
-    ensures { λ r. ⌜ ComprehensionRead (now (c .entry)) (now (s .entry)) p (now (s .exit)) r ⌝ }
+    ensures { λ r. ⌜ ComprehensionPost (now (c .entry)) (now (s .entry)) p (now (s .exit)) r ⌝ }
 {
     if c.len() == 0 {
         return Filled::Refused(BROKEN_RECORD);
@@ -174,7 +174,7 @@ fn comprehension(c: &[u8], s: &mut [u64], p: Place) -> Filled
     if MONOIDS < m {
         return Filled::Refused(BROKEN_RECORD);
     }
-    let inside = Place {
+    let inside = ParseState {
         levels: p.levels,
         left: p.left,
         node: p.node,
@@ -187,14 +187,14 @@ fn comprehension(c: &[u8], s: &mut [u64], p: Place) -> Filled
 }
 
 // "Any count of qualifiers, then one head term", which fills the rest.
-fn parts(l: &[u8], s: &mut [u64], p: Place) -> Filled
+fn parts(l: &[u8], s: &mut [u64], p: ParseState) -> Filled
     requires { ⌜ Room 0 (now s) p ⌝ }
-    ensures { λ r. ⌜ PartsRead (now (l .entry)) (now (s .entry)) p (now (s .exit)) r ⌝ }
+    ensures { λ r. ⌜ PartsPost (now (l .entry)) (now (s .entry)) p (now (s .exit)) r ⌝ }
 {
     match qualifier(l, s, p) {
         Item::Refused(x) => Filled::Refused(x),
         Item::Qualifier(used, left, node) => {
-            let next = Place {
+            let next = ParseState {
                 levels: p.levels,
                 left,
                 node,
@@ -213,13 +213,13 @@ fn parts(l: &[u8], s: &mut [u64], p: Place) -> Filled
 }
 
 // The record at the front, where a qualifier may stand; what is no qualifier is the head.
-fn qualifier(l: &[u8], s: &mut [u64], p: Place) -> Item
+fn qualifier(l: &[u8], s: &mut [u64], p: ParseState) -> Item
     requires { ⌜ Room 0 (now s) p ⌝ }
-    ensures { λ r. ⌜ ItemRead (now (l .entry)) (now (s .entry)) p (now (s .exit)) r ⌝ }
+    ensures { λ r. ⌜ QualifierPost (now (l .entry)) (now (s .entry)) p (now (s .exit)) r ⌝ }
 {
     match begin(l, p) {
-        Begun::Refused(x) => Item::Refused(x),
-        Begun::Record(k, e, b) => match look_ahead(k) {
+        RecordStart::Refused(x) => Item::Refused(x),
+        RecordStart::Record(k, e, b) => match look_ahead(k) {
             Ahead::Term => as_head(term(l, s, p)),
             Ahead::Qualifier(h) => match compound(k, h, &l[4..e], s, b) {
                 Filled::Refused(x) => Item::Refused(x),
@@ -229,30 +229,30 @@ fn qualifier(l: &[u8], s: &mut [u64], p: Place) -> Item
     }
 }
 
-fn as_head(r: Front) -> Item
+fn as_head(r: TermFront) -> Item
     ensures { λ i. ⌜ i ≡ headOf r ⌝ }
 {
     match r {
-        Front::Read(used, left, node) => Item::Head(used, left, node),
-        Front::Refused(x) => Item::Refused(x),
+        TermFront::Read(used, left, node) => Item::Head(used, left, node),
+        TermFront::Refused(x) => Item::Refused(x),
     }
 }
 
 // "A question is one record of kind 14", and nothing behind it.
 pub fn read_question(l: &[u8], s: &mut [u64]) -> Read
     requires { ⌜ 8192 ≤ length (now s) ⌝ }
-    ensures { λ r. ⌜ QuestionRead (now (l .entry)) (now (s .entry)) (now (s .exit)) r ⌝ }
+    ensures { λ r. ⌜ ReadQuestionPost (now (l .entry)) (now (s .entry)) (now (s .exit)) r ⌝ }
 {
     if QUESTION_BYTES < l.len() {
         return Read::Refused(QUESTION_TOO_LONG);
     }
-    let Header::Record(k, e) = read_header(l) else {
+    let RecordHeader::Record(k, e) = read_header(l) else {
         return Read::Refused(BROKEN_RECORD);
     };
     if k != KIND_COMPREHENSION {
         return Read::Refused(BROKEN_RECORD);
     }
-    let first = Place {
+    let first = ParseState {
         levels: LEVELS,
         left: RECORDS,
         node: 0,

@@ -2,14 +2,14 @@
 ghost use Prim.Native.Nat.{_+_, _<_};
 ghost use lib.ListN.{getD};
 ghost use Rattle.spec_encoding.specs.Reader.{kinds, unknown, number, truthK, nameK, tableK};
-ghost use Rattle.front_parser.specs.Scratch.{Room, Finishing, Finished};
-ghost use Rattle.front_parser.specs.Kinds.{Shaped, Looks, Valued, LeafKind, Fixed};
-ghost use Rattle.front_parser.specs.Reads.{ContentRead};
+ghost use Rattle.front_parser.specs.ReaderScratch.{Room, FinishPre, FinishPost};
+ghost use Rattle.front_parser.specs.RecordKinds.{ShapeOfPost, LookAheadPost, Valued, LeafKind, Fixed};
+ghost use Rattle.front_parser.specs.ReaderContracts.{ContentRead};
 use super::bytes::byte;
 use super::bytes::two;
-use crate::Counts;
+use crate::Arity;
 use crate::Filled;
-use crate::Place;
+use crate::ParseState;
 use base_refusals::BROKEN_RECORD;
 use base_syntax::KIND_BINDING;
 use base_syntax::KIND_COMPREHENSION;
@@ -29,56 +29,56 @@ use front_words::put_node;
 const LAST_NAME: u64 = 255;
 
 // What a term's content is.
-pub enum Shape {
+pub enum ContentKind {
     Value,
-    Terms(Counts),
+    Terms(Arity),
     Comprehension,
     Other,
 }
 
 // Whether a qualifier stands ahead, and what its content is.
 pub enum Ahead {
-    Qualifier(Counts),
+    Qualifier(Arity),
     Term,
 }
 
 // The argument that some bytes hold.
-pub enum Value {
+pub enum ArgumentRead {
     Is(u64),
     Broken,
 }
 
-pub fn shape_of(k: u64) -> Shape
-    ensures { λ r. ⌜ Shaped k r ⌝ }
+pub fn shape_of(k: u64) -> ContentKind
+    ensures { λ r. ⌜ ShapeOfPost k r ⌝ }
 {
     if k == 0 {
-        return Shape::Other;
+        return ContentKind::Other;
     }
     if k <= KIND_NAME {
-        return Shape::Value;
+        return ContentKind::Value;
     }
     if KIND_TABLE < k {
-        return Shape::Other;
+        return ContentKind::Other;
     }
     match k {
-        KIND_FIELD => Shape::Terms(Counts {
+        KIND_FIELD => ContentKind::Terms(Arity {
             least: 1,
             most: 1,
             skip: 1,
         }),
-        KIND_RECORD => Shape::Terms(Counts {
+        KIND_RECORD => ContentKind::Terms(Arity {
             least: 1,
             most: 8,
             skip: 0,
         }),
-        KIND_NOT => Shape::Terms(Counts {
+        KIND_NOT => ContentKind::Terms(Arity {
             least: 1,
             most: 1,
             skip: 0,
         }),
-        KIND_COMPREHENSION => Shape::Comprehension,
-        KIND_TABLE => Shape::Value,
-        _ => Shape::Terms(Counts {
+        KIND_COMPREHENSION => ContentKind::Comprehension,
+        KIND_TABLE => ContentKind::Value,
+        _ => ContentKind::Terms(Arity {
             least: 2,
             most: 2,
             skip: 0,
@@ -87,20 +87,20 @@ pub fn shape_of(k: u64) -> Shape
 }
 
 pub fn look_ahead(k: u64) -> Ahead
-    ensures { λ r. ⌜ Looks k r ⌝ }
+    ensures { λ r. ⌜ LookAheadPost k r ⌝ }
 {
     match k {
-        KIND_GENERATOR => Ahead::Qualifier(Counts {
+        KIND_GENERATOR => Ahead::Qualifier(Arity {
             least: 1,
             most: 1,
             skip: 2,
         }),
-        KIND_BINDING => Ahead::Qualifier(Counts {
+        KIND_BINDING => Ahead::Qualifier(Arity {
             least: 1,
             most: 1,
             skip: 2,
         }),
-        KIND_CONDITION => Ahead::Qualifier(Counts {
+        KIND_CONDITION => Ahead::Qualifier(Arity {
             least: 1,
             most: 1,
             skip: 0,
@@ -110,85 +110,89 @@ pub fn look_ahead(k: u64) -> Ahead
 }
 
 // One byte: a field's index, a table's number.
-fn index(c: &[u8]) -> Value
+fn index(c: &[u8]) -> ArgumentRead
     ensures { λ r. ⌜ Fixed 1 (now (c .entry)) r ⌝ }
 {
     if c.len() < 1 {
-        return Value::Broken;
+        return ArgumentRead::Broken;
     }
-    Value::Is(byte(c, 0))
+    ArgumentRead::Is(byte(c, 0))
 }
 
-fn short(c: &[u8]) -> Value
+fn short(c: &[u8]) -> ArgumentRead
     ensures { λ r. ⌜ Fixed 2 (now (c .entry)) r ⌝ }
 {
     if c.len() < 2 {
-        return Value::Broken;
+        return ArgumentRead::Broken;
     }
     let x = two(c, 0);
     if x <= LAST_NAME {
-        Value::Is(x)
+        ArgumentRead::Is(x)
     } else {
-        Value::Broken
+        ArgumentRead::Broken
     }
 }
 
 // The bytes before a record's terms: none, a field's index, or a name.
-pub fn fixed(skip: usize, c: &[u8]) -> Value
+pub fn fixed(skip: usize, c: &[u8]) -> ArgumentRead
     ensures { λ r. ⌜ Fixed skip (now (c .entry)) r ⌝ }
 {
     match skip {
-        0 => Value::Is(0),
+        0 => ArgumentRead::Is(0),
         1 => index(c),
         2 => short(c),
-        _ => Value::Broken,
+        _ => ArgumentRead::Broken,
     }
 }
 
-fn number(c: &[u8]) -> Value
+fn number(c: &[u8]) -> ArgumentRead
     ensures { λ r. ⌜ Valued number (now (c .entry)) r ⌝ }
 {
     if c.len() != 4 {
-        return Value::Broken;
+        return ArgumentRead::Broken;
     }
     let n = two(c, 0) + 65536 * two(c, 2);
     if n < ZERO {
-        Value::Is(n + ZERO)
+        ArgumentRead::Is(n + ZERO)
     } else {
-        Value::Is(n - ZERO)
+        ArgumentRead::Is(n - ZERO)
     }
 }
 
-fn truth(c: &[u8]) -> Value
+fn truth(c: &[u8]) -> ArgumentRead
     ensures { λ r. ⌜ Valued truthK (now (c .entry)) r ⌝ }
 {
     if c.len() != 1 {
-        return Value::Broken;
+        return ArgumentRead::Broken;
     }
     let b = byte(c, 0);
-    if b <= 1 { Value::Is(b) } else { Value::Broken }
+    if b <= 1 {
+        ArgumentRead::Is(b)
+    } else {
+        ArgumentRead::Broken
+    }
 }
 
-fn name(c: &[u8]) -> Value
+fn name(c: &[u8]) -> ArgumentRead
     ensures { λ r. ⌜ Valued nameK (now (c .entry)) r ⌝ }
 {
     if c.len() != 2 {
-        return Value::Broken;
+        return ArgumentRead::Broken;
     }
     short(c)
 }
 
-fn table(c: &[u8]) -> Value
+fn table(c: &[u8]) -> ArgumentRead
     ensures { λ r. ⌜ Valued tableK (now (c .entry)) r ⌝ }
 {
     if c.len() != 1 {
-        return Value::Broken;
+        return ArgumentRead::Broken;
     }
     index(c)
 }
 
 // Numbers, truths, names and tables.
-fn argument(k: u64, c: &[u8]) -> Value
+fn argument(k: u64, c: &[u8]) -> ArgumentRead
     requires { ⌜ LeafKind k ⌝ }
     ensures { λ r. ⌜ Valued (getD kinds k unknown) (now (c .entry)) r ⌝ }
 {
@@ -201,20 +205,20 @@ fn argument(k: u64, c: &[u8]) -> Value
 }
 
 // A record's own node, behind the nodes inside it.
-pub fn finish(s: &mut [u64], k: u64, a: u64, p: Place, left: usize, i: usize) -> Filled
-    requires { ⌜ Finishing (now s) k a p i ⌝ }
-    ensures { λ r. ⌜ Finished (now (s .entry)) k a p left i (now (s .exit)) r ⌝ }
+pub fn finish(s: &mut [u64], k: u64, a: u64, p: ParseState, left: usize, i: usize) -> Filled
+    requires { ⌜ FinishPre (now s) k a p i ⌝ }
+    ensures { λ r. ⌜ FinishPost (now (s .entry)) k a p left i (now (s .exit)) r ⌝ }
 {
     put_node(s, i, k, a, p.node as u64, p.depth);
     Filled::Read(left, i + 1)
 }
 
-pub fn leaf(k: u64, c: &[u8], s: &mut [u64], p: Place) -> Filled
+pub fn leaf(k: u64, c: &[u8], s: &mut [u64], p: ParseState) -> Filled
     requires { ⌜ LeafKind k × Room 1 (now s) p ⌝ }
     ensures { λ r. ⌜ ContentRead k (now (c .entry)) (now (s .entry)) p (now (s .exit)) r ⌝ }
 {
     match argument(k, c) {
-        Value::Broken => Filled::Refused(BROKEN_RECORD),
-        Value::Is(a) => finish(s, k, a, p, p.left, p.node),
+        ArgumentRead::Broken => Filled::Refused(BROKEN_RECORD),
+        ArgumentRead::Is(a) => finish(s, k, a, p, p.left, p.node),
     }
 }

@@ -1,3 +1,3 @@
 -- Laws of following names and fields.
-pub mod Laws
-pub mod Calls
+pub mod Exits
+pub mod CallCount

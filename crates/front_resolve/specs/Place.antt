@@ -11,15 +11,15 @@ use Rattle.spec_calculus.specs.Lists.{pick}
 use Rattle.spec_calculus.specs.Syntax.{Collection, of}
 use Rattle.spec_normal_form.specs.Form as Nf
 use Rattle.spec_normal_form.specs.Normal.{Sem, row, fields, nested, plain, nothing, quote, ranges, part, binary}
-use Rattle.front_theory.specs.Node.{nnum, ntruth, nrec, nbin, nnegate, ncomp, ntable}
-use Rattle.front_theory.specs.Flat.{Env, Offsets, boundOf, semsOf, compOf, levels, sem}
-use Rattle.front_theory.specs.Saturated.{limit, saturated}
-use Rattle.base_syntax.specs.Word.{monoidOf}
-use Rattle.front_sizes.specs.Packing.{stored}
-use Rattle.front_nodes.specs.Decode.{depthAt, childrenOf, qualifiersOf, nodesOf}
+use Rattle.front_theory.specs.NodeTable.{nnum, ntruth, nrec, nbin, nnegate, ncomp, ntable}
+use Rattle.front_theory.specs.NodeForms.{Env, Offsets, boundOf, semsOf, compOf, levels, sem}
+use Rattle.front_theory.specs.CappedOffsets.{limit, saturated}
+use Rattle.base_syntax.specs.MonoidWord.{monoidOf}
+use Rattle.front_sizes.specs.SizeWords.{stored}
+use Rattle.front_nodes.specs.NodeTable.{depthAt, childrenOf, qualifiersOf, nodesOf}
 use Rattle.front_nodes.specs.Levels.{Levelled}
-use Rattle.front_nodes.specs.declared.Node.{Node}
-use Rattle.front_nodes.specs.declared.Node.the-variants as No
+use Rattle.front_nodes.specs.declared.QueryNode.{QueryNode}
+use Rattle.front_nodes.specs.declared.QueryNode.the-variants as No
 use Rattle.front_resolve.specs.declared.Form.{Form}
 use Rattle.front_resolve.specs.declared.Form.the-variants.{Number, Truth, Row, Cell, Record, Two, Not, Comp, Table, Bad}
 use Rattle.front_resolve.specs.declared.Head.{Head}
@@ -73,27 +73,27 @@ placeSem K s r = formSem K s (r .node) (r .depth) (envOf (r .env)) (r .form)
 
 -- A form at node i is that node's own, or a row or a cell, or nothing. `nothing` is the number 0, so `Bad` says as much of
 -- what a node comes to as that number would.
-abbrev pub FormAt : List ℕ → ℕ → ℕ → Form → Type 0
-FormAt s i D (Number z) = (nodesOf s i ≡ nnum z) × (mag z < 2 ^ 33)
-FormAt s i D (Truth b) = nodesOf s i ≡ ntruth b
-FormAt s i D (Row g) = g ≤ limit
-FormAt s i D (Cell k g) = (k < 2 ^ 33) × (g ≤ limit)
-FormAt s i D Record = nodesOf s i ≡ nrec (childrenOf s i)
-FormAt s i D (Two o a b) = nodesOf s i ≡ nbin (binOf o) a b
-FormAt s i D (Not c) = nodesOf s i ≡ nnegate c
-FormAt s i D (Comp m h) = (nodesOf s i ≡ ncomp (monoidOf m) (qualifiersOf s i) h) × (D < levels)
-FormAt s i D (Table k) = (nodesOf s i ≡ ntable k) × (k < 2 ^ 33)
-FormAt s i D Bad = Unit {0}
+abbrev pub ProjectPre : List ℕ → ℕ → ℕ → Form → Type 0
+ProjectPre s i D (Number z) = (nodesOf s i ≡ nnum z) × (mag z < 2 ^ 33)
+ProjectPre s i D (Truth b) = nodesOf s i ≡ ntruth b
+ProjectPre s i D (Row g) = g ≤ limit
+ProjectPre s i D (Cell k g) = (k < 2 ^ 33) × (g ≤ limit)
+ProjectPre s i D Record = nodesOf s i ≡ nrec (childrenOf s i)
+ProjectPre s i D (Two o a b) = nodesOf s i ≡ nbin (binOf o) a b
+ProjectPre s i D (Not c) = nodesOf s i ≡ nnegate c
+ProjectPre s i D (Comp m h) = (nodesOf s i ≡ ncomp (monoidOf m) (qualifiersOf s i) h) × (D < levels)
+ProjectPre s i D (Table k) = (nodesOf s i ≡ ntable k) × (k < 2 ^ 33)
+ProjectPre s i D Bad = Unit {0}
 
-pub record Fine (s : List ℕ) (r : Place) : Type 0 where
-  pub form : FormAt s (r .node) (r .depth) (r .form)
+pub record SplicePre (s : List ℕ) (r : Place) : Type 0 where
+  pub form : ProjectPre s (r .node) (r .depth) (r .form)
   pub long : length (r .env) ≡ levels
 
 -- A place that came of node j: it stands there or before, and at its node's depth where the depths of the table agree.
 pub record From (s : List ℕ) (j D : ℕ) (r : Place) : Type 0 where
   pub below : r .node ≤ j
   pub level : (n : ℕ) → Levelled (nodesOf s) (depthAt s) n → j < n → depthAt s j ≡ D → depthAt s (r .node) ≡ r .depth
-  pub fine : Fine s r
+  pub fine : SplicePre s r
 
 -- The place that node i comes to has what the node comes to.
 pub record Heads (s : List ℕ) (i D : ℕ) (l : List ℕ) (r : Place) : Type 0 where
@@ -101,12 +101,12 @@ pub record Heads (s : List ℕ) (i D : ℕ) (l : List ℕ) (r : Place) : Type 0 
   pub from : From s i D r
 
 -- the place of the name that node x binds, in a comprehension at depth d
-pub record Follows (s : List ℕ) (x d : ℕ) (l : List ℕ) (r : Place) : Type 0 where
+pub record FollowPost (s : List ℕ) (x d : ℕ) (l : List ℕ) (r : Place) : Type 0 where
   pub is : (K : ℕ → Collection) → placeSem K s r ≡ boundOf (offsets s) (semN K s) x d (envOf l) (nodesOf s x)
   pub from : From s x (suc d) r
 
 -- the place of what a generator over h ranges through, from number n on
-pub record Spliced (s : List ℕ) (h : Place) (v : Bool) (n : ℕ) (r : Place) : Type 0 where
+pub record SplicePost (s : List ℕ) (h : Place) (v : Bool) (n : ℕ) (r : Place) : Type 0 where
   pub is : (K : ℕ → Collection) → placeSem K s r ≡ ranges (placeSem K s h) v n .head
   pub from : From s (h .node) (h .depth) r
 
@@ -125,11 +125,11 @@ pub record Stepped (s : List ℕ) (j : ℕ) (l : List ℕ) (P : Place → Type 0
   pub long : length l ≡ levels
 
 -- a step to field k of h, which does not look at the environment
-pub record ProjectedBy (s : List ℕ) (k : ℕ) (h : Head) (r : Next) : Type 0 where
+pub record ProjectPost (s : List ℕ) (k : ℕ) (h : Head) (r : Next) : Type 0 where
   pub is : (l : List ℕ) → length l ≡ levels → Stepped s (h .node) l (Projected s k (under l h)) r
 
 -- a node's form, where it is neither a name nor a field
-abbrev pub formFor : ℕ → Node → Form
+abbrev pub formFor : ℕ → QueryNode → Form
 formFor D (No.Number z) = Number z
 formFor D (No.Truth b) = Truth b
 formFor D (No.Name x d) = Bad

@@ -4,15 +4,15 @@ ghost use mathlib.Core.Bool.{_||_};
 ghost use Prim.Native.Nat.{_+_, _*_, _/_, _^_, _≤_, _<_};
 ghost use lib.ListN.{length, getD, set};
 ghost use Rattle.spec_normal_form.specs.Normal.{idempotent};
-ghost use Rattle.front_theory.specs.Flat.{levels};
-ghost use Rattle.front_theory.specs.Saturated.{limit};
-ghost use Rattle.base_syntax.specs.Word.{monoidOf};
-ghost use Rattle.front_resolve.specs.Place.{under, odd, bit, offsets, Fine, FormAt, Heads, Follows, Spliced, Stepped, ProjectedBy, formFor};
+ghost use Rattle.front_theory.specs.NodeForms.{levels};
+ghost use Rattle.front_theory.specs.CappedOffsets.{limit};
+ghost use Rattle.base_syntax.specs.MonoidWord.{monoidOf};
+ghost use Rattle.front_resolve.specs.Place.{under, odd, bit, offsets, SplicePre, ProjectPre, Heads, FollowPost, SplicePost, Stepped, ProjectPost, formFor};
 use base_syntax::Monoid;
 use base_syntax::Op;
 use front_nodes::Binder;
 use front_nodes::Found;
-use front_nodes::Node;
+use front_nodes::QueryNode;
 
 // What is left of a node: no name, no field. A row is its generator's number, a cell a field of a row.
 pub enum Form {
@@ -95,28 +95,28 @@ pub fn first_number(s: &[u64], x: usize, w: u64) -> u64
     if n < 513 { n } else { 513 }
 }
 
-fn form_of(n: Node, depth: usize) -> Form
+fn form_of(n: QueryNode, depth: usize) -> Form
     ensures { λ r. ⌜ r ≡ formFor depth n ⌝ }
 {
     match n {
-        Node::Number(z) => Form::Number(z),
-        Node::Truth(b) => Form::Truth(b),
-        Node::Name(x, d) => Form::Bad,
-        Node::Field(k, c) => Form::Bad,
-        Node::Record => Form::Record,
-        Node::Two(o, a, b) => Form::Two(o, a, b),
-        Node::Not(c) => Form::Not(c),
-        Node::Comp(m, h) => {
+        QueryNode::Number(z) => Form::Number(z),
+        QueryNode::Truth(b) => Form::Truth(b),
+        QueryNode::Name(x, d) => Form::Bad,
+        QueryNode::Field(k, c) => Form::Bad,
+        QueryNode::Record => Form::Record,
+        QueryNode::Two(o, a, b) => Form::Two(o, a, b),
+        QueryNode::Not(c) => Form::Not(c),
+        QueryNode::Comp(m, h) => {
             if 32 <= depth {
                 return Form::Bad;
             }
             Form::Comp(m, h)
         }
-        Node::Table(k) => Form::Table(k),
-        Node::Gen(c) => Form::Bad,
-        Node::Bind(c) => Form::Bad,
-        Node::Cond(c) => Form::Bad,
-        Node::Bad => Form::Bad,
+        QueryNode::Table(k) => Form::Table(k),
+        QueryNode::Gen(c) => Form::Bad,
+        QueryNode::Bind(c) => Form::Bad,
+        QueryNode::Cond(c) => Form::Bad,
+        QueryNode::Bad => Form::Bad,
     }
 }
 
@@ -147,7 +147,7 @@ fn step(s: &[u64], i: usize, depth: usize, env: &mut [u16; 32]) -> Next
 {
     let n = front_nodes::look(s, i);
     match n {
-        Node::Name(x, d) => {
+        QueryNode::Name(x, d) => {
             if depth <= d {
                 return Next::At(Head {
                     form: Form::Bad,
@@ -157,7 +157,7 @@ fn step(s: &[u64], i: usize, depth: usize, env: &mut [u16; 32]) -> Next
             }
             follow(s, x, d, env)
         }
-        Node::Field(k, c) => {
+        QueryNode::Field(k, c) => {
             let h = resolve(s, c, depth, env);
             project(s, k, h)
         }
@@ -172,7 +172,7 @@ fn step(s: &[u64], i: usize, depth: usize, env: &mut [u16; 32]) -> Next
 // The name that node x binds, in a comprehension at depth d.
 fn follow(s: &[u64], x: usize, d: usize, env: &mut [u16; 32]) -> Next
     requires { ⌜ (d < 2 ^ 63) × (length (now env) ≡ levels) ⌝ }
-    ensures { λ r. ⌜ Stepped (now (s .entry)) x (now (env .exit)) (Follows (now (s .entry)) x d (now (env .entry))) r ⌝ }
+    ensures { λ r. ⌜ Stepped (now (s .entry)) x (now (env .exit)) (FollowPost (now (s .entry)) x d (now (env .entry))) r ⌝ }
 {
     match front_nodes::bound_by(s, x) {
         Binder::Bind(c) => Next::On(c, d + 1),
@@ -191,8 +191,8 @@ fn follow(s: &[u64], x: usize, d: usize, env: &mut [u16; 32]) -> Next
 
 // What a generator over h ranges through, from number n on.
 fn splice(s: &[u64], h: Head, v: bool, n: u64, env: &mut [u16; 32]) -> Next
-    requires { ⌜ Fine (now s) (under (now env) h) × (n ≤ limit) ⌝ }
-    ensures { λ r. ⌜ Stepped (now (s .entry)) (h .node) (now (env .exit)) (Spliced (now (s .entry)) (under (now (env .entry)) h) v n) r ⌝ }
+    requires { ⌜ SplicePre (now s) (under (now env) h) × (n ≤ limit) ⌝ }
+    ensures { λ r. ⌜ Stepped (now (s .entry)) (h .node) (now (env .exit)) (SplicePost (now (s .entry)) (under (now (env .entry)) h) v n) r ⌝ }
 {
     let f = h.form;
     match f {
@@ -215,8 +215,8 @@ fn splice(s: &[u64], h: Head, v: bool, n: u64, env: &mut [u16; 32]) -> Next
 
 // Field k of h, in whatever environment h stands.
 fn project(s: &[u64], k: usize, h: Head) -> Next
-    requires { ⌜ FormAt (now s) (h .node) (h .depth) (h .form) × (k < 2 ^ 33) ⌝ }
-    ensures { λ r. ⌜ ProjectedBy (now (s .entry)) k h r ⌝ }
+    requires { ⌜ ProjectPre (now s) (h .node) (h .depth) (h .form) × (k < 2 ^ 33) ⌝ }
+    ensures { λ r. ⌜ ProjectPost (now (s .entry)) k h r ⌝ }
 {
     let f = h.form;
     match f {

@@ -1,5 +1,5 @@
-pub mod Accepts
-pub mod Codes
-pub mod Laws
-pub mod Noted
+pub mod PassIsScope
+pub mod KindNumbers
+pub mod Exits
+pub mod BinderWords
 pub mod OneBinder

@@ -14,13 +14,13 @@ use Rattle.spec_calculus.specs.Syntax.{Term, Terms, Quals, num, truth, name, fi
 use Rattle.spec_calculus.proofs.Lists.{All, all-append}
 use Rattle.spec_checks.specs.Scope.{inScope, binders, bindersL, bindersQ, member, distinct, namesHold}
 use Rattle.spec_encoding.specs.Reader.{Kind, kinds, unknown}
-use Rattle.front_words.specs.Laid.{nodes, nodesL, nodesQ, Node, Laid, LaidL, LaidQ}
+use Rattle.front_words.specs.LaidTree.{nodes, nodesL, nodesQ, Node, Laid, LaidL, LaidQ}
 use Rattle.base_scratch.specs.Map.{bindersAt, shapesAt}
-use Rattle.front_words.specs.Packing.{kindOf, argOf}
-use Rattle.front_words.specs.Tree.{kindAt, argAt}
+use Rattle.front_words.specs.NodeWord.{kindOf, argOf}
+use Rattle.front_words.specs.NodeTree.{kindAt, argAt}
 use Rattle.front_scope.specs.Binders.{bindsName, boundBy, bindersOf}
-use Rattle.front_scope.specs.Pass.{Small, SmallL, SmallQ}
-use Rattle.front_scope.proofs.Noted.{binderOf, binder-word, nodes-kept}
+use Rattle.front_scope.specs.ScopePass.{Small, SmallL, SmallQ}
+use Rattle.front_scope.proofs.BinderWords.{binderOf, binder-word, nodes-kept}
 
 -- the names that the n nodes from a on bind
 unfoldable boundIn : List ℕ → ℕ → ℕ → List ℕ

@@ -7,7 +7,7 @@ use Rattle.spec_calculus.specs.Lists.{pick, guard}
 use Rattle.spec_encoding.specs.Reader.{Kind, unknown, number, truthK, nameK, fieldK, record′, not, tableK, comprehension, generator, binding, condition, two-terms}
 use Rattle.base_scratch.specs.Map.{names}
 use Rattle.front_words.specs.Binders.{putBinder}
-use Rattle.front_words.specs.Tree.{kindAt, argAt}
+use Rattle.front_words.specs.NodeTree.{kindAt, argAt}
 
 -- generators and bindings bind a name
 abbrev pub bindsName : Kind → Bool

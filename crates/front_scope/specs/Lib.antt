@@ -1,4 +1,4 @@
 -- The scope check as it runs: names seen and names that hold, carried through the tree.
-pub mod Pass
-pub mod Words
+pub mod ScopePass
+pub mod PassContract
 pub mod Binders

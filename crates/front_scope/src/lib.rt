@@ -3,11 +3,11 @@ ghost use mathlib.Core.Path.{_≡_};
 ghost use mathlib.Core.Bool.{false, _&&_};
 ghost use Prim.Native.Nat.{_+_, _≤_, _<_, _^_};
 ghost use lib.ListN.{length, getD};
-ghost use Rattle.front_words.specs.Packing.{kindOf, nodeWord};
-ghost use Rattle.front_words.specs.Tree.{argAt};
+ghost use Rattle.front_words.specs.NodeWord.{kindOf, nodeWord};
+ghost use Rattle.front_words.specs.NodeTree.{argAt};
 ghost use Rattle.front_scope.specs.Binders.{cleared, noted, bindersOf};
-ghost use Rattle.front_scope.specs.Pass.{names, Full, binds};
-ghost use Rattle.front_scope.specs.Words.{TermPassed, LeafPassed, OperandsPassed, CompPassed, TermsPassed, QualsPassed, QualPassed, Judged};
+ghost use Rattle.front_scope.specs.ScopePass.{names, Full, binds};
+ghost use Rattle.front_scope.specs.PassContract.{TermPost, LeafPost, OperandsPost, ComprehensionPost, TermsPost, QualsPost, QualifierPost, NamesHoldPost};
 use base_scratch::NAMES;
 use base_syntax::KIND_BINDING;
 use base_syntax::KIND_COMPREHENSION;
@@ -72,7 +72,7 @@ fn bound(seen: &mut [bool; 256], scope: &mut [bool; 256], x: u64, ok: bool) -> b
 // Node 0, which nothing lies before: a name, or nothing to check.
 fn leaf(s: &[u64], scope: &[bool; 256], ok: bool) -> bool
     requires { ⌜ length (now scope) ≡ 256 ⌝ }
-    ensures { λ r. ⌜ LeafPassed (now (s .entry)) (now (scope .entry)) ok r ⌝ }
+    ensures { λ r. ⌜ LeafPost (now (s .entry)) (now (scope .entry)) ok r ⌝ }
 {
     if kind_at(s, 0) == KIND_NAME {
         return used(scope, arg_at(s, 0), ok);
@@ -83,7 +83,7 @@ fn leaf(s: &[u64], scope: &[bool; 256], ok: bool) -> bool
 // The term that ends at e.
 fn term(s: &[u64], e: usize, seen: &mut [bool; 256], scope: &mut [bool; 256], ok: bool) -> bool
     requires { ⌜ Full (names (now seen) (now scope) ok) ⌝ }
-    ensures { λ r. ⌜ TermPassed (now (s .entry)) e (names (now (seen .entry)) (now (scope .entry)) ok) (names (now (seen .exit)) (now (scope .exit)) r) ⌝ }
+    ensures { λ r. ⌜ TermPost (now (s .entry)) e (names (now (seen .entry)) (now (scope .entry)) ok) (names (now (seen .exit)) (now (scope .exit)) r) ⌝ }
 {
     if e <= 1 {
         return leaf(s, scope, ok);
@@ -103,7 +103,7 @@ fn term(s: &[u64], e: usize, seen: &mut [bool; 256], scope: &mut [bool; 256], ok
 // The two operands of node i: the second ends at i, the first where the second begins.
 fn operands(s: &[u64], i: usize, seen: &mut [bool; 256], scope: &mut [bool; 256], ok: bool) -> bool
     requires { ⌜ (1 ≤ i) × Full (names (now seen) (now scope) ok) ⌝ }
-    ensures { λ r. ⌜ OperandsPassed (now (s .entry)) i (names (now (seen .entry)) (now (scope .entry)) ok) (names (now (seen .exit)) (now (scope .exit)) r) ⌝ }
+    ensures { λ r. ⌜ OperandsPost (now (s .entry)) i (names (now (seen .entry)) (now (scope .entry)) ok) (names (now (seen .exit)) (now (scope .exit)) r) ⌝ }
 {
     let b = start_at(s, i - 1);
     let k = term(s, b, seen, scope, ok);
@@ -119,7 +119,7 @@ fn comprehension(
     ok: bool,
 ) -> bool
     requires { ⌜ (1 ≤ i) × Full (names (now seen) (now scope) ok) ⌝ }
-    ensures { λ r. ⌜ CompPassed (now (s .entry)) i (names (now (seen .entry)) (now (scope .entry)) ok) (names (now (seen .exit)) (now (scope .exit)) r) ⌝ }
+    ensures { λ r. ⌜ ComprehensionPost (now (s .entry)) i (names (now (seen .entry)) (now (scope .entry)) ok) (names (now (seen .exit)) (now (scope .exit)) r) ⌝ }
 {
     let a = start_at(s, i);
     let b = start_at(s, i - 1);
@@ -140,7 +140,7 @@ fn terms(
     ok: bool,
 ) -> bool
     requires { ⌜ Full (names (now seen) (now scope) ok) ⌝ }
-    ensures { λ r. ⌜ TermsPassed (now (s .entry)) lo e (names (now (seen .entry)) (now (scope .entry)) ok) (names (now (seen .exit)) (now (scope .exit)) r) ⌝ }
+    ensures { λ r. ⌜ TermsPost (now (s .entry)) lo e (names (now (seen .entry)) (now (scope .entry)) ok) (names (now (seen .exit)) (now (scope .exit)) r) ⌝ }
 {
     if e <= lo {
         return ok;
@@ -160,7 +160,7 @@ fn quals(
     ok: bool,
 ) -> bool
     requires { ⌜ Full (names (now seen) (now scope) ok) ⌝ }
-    ensures { λ r. ⌜ QualsPassed (now (s .entry)) lo e (names (now (seen .entry)) (now (scope .entry)) ok) (names (now (seen .exit)) (now (scope .exit)) r) ⌝ }
+    ensures { λ r. ⌜ QualsPost (now (s .entry)) lo e (names (now (seen .entry)) (now (scope .entry)) ok) (names (now (seen .exit)) (now (scope .exit)) r) ⌝ }
 {
     if e <= lo {
         return ok;
@@ -173,7 +173,7 @@ fn quals(
 // The qualifier that is node i: its term, then the name that it binds.
 fn qualifier(s: &[u64], i: usize, seen: &mut [bool; 256], scope: &mut [bool; 256], ok: bool) -> bool
     requires { ⌜ Full (names (now seen) (now scope) ok) ⌝ }
-    ensures { λ r. ⌜ QualPassed (now (s .entry)) i (names (now (seen .entry)) (now (scope .entry)) ok) (names (now (seen .exit)) (now (scope .exit)) r) ⌝ }
+    ensures { λ r. ⌜ QualifierPost (now (s .entry)) i (names (now (seen .entry)) (now (scope .entry)) ok) (names (now (seen .exit)) (now (scope .exit)) r) ⌝ }
 {
     match kind_at(s, i) {
         KIND_GENERATOR => {
@@ -191,7 +191,7 @@ fn qualifier(s: &[u64], i: usize, seen: &mut [bool; 256], scope: &mut [bool; 256
 
 // Whether the names of the tree that ends at n hold.
 pub fn names_hold(s: &[u64], n: usize) -> bool
-    ensures { λ r. ⌜ Judged (now (s .entry)) n r ⌝ }
+    ensures { λ r. ⌜ NamesHoldPost (now (s .entry)) n r ⌝ }
 {
     let mut seen = [false; 256];
     let mut scope = [false; 256];

@@ -1,2 +1,2 @@
 -- Laws of the words of sizes.
-pub mod Laws
+pub mod SizeWords

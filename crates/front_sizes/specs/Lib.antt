@@ -1,2 +1,2 @@
 -- How much each node writes, as words in scratch.
-pub mod Packing
+pub mod SizeWords

@@ -2,13 +2,13 @@
 ghost use mathlib.Core.Path.{_≡_};
 ghost use Prim.Native.Nat.{_+_, _<_};
 ghost use lib.ListN.{set};
-ghost use Rattle.front_sizes.specs.Packing.{place, wordAt, pairOf, pack, Small, termCount, conditionCount, splicedCount, stored};
+ghost use Rattle.front_sizes.specs.SizeWords.{place, wordAt, pairOf, pack, Small, termCount, conditionCount, splicedCount, stored};
 use base_scratch::SIZES;
 use base_scratch::load;
 use base_scratch::store;
 
 // What something writes: its size and its generators. Of a qualifier's offsets: where "some" does not give way, where it does.
-pub struct Count {
+pub struct FormSize {
     pub size: u64,
     pub gens: u64,
 }
@@ -26,23 +26,23 @@ fn word(s: &[u64], i: usize, k: usize) -> u64
 }
 
 // The pair in the low 20 bits.
-fn pair(w: u64) -> Count
+fn pair(w: u64) -> FormSize
     ensures { λ r. ⌜ r ≡ pairOf w ⌝ }
 {
-    Count {
+    FormSize {
         size: w % 1024,
         gens: w / 1024 % 1024,
     }
 }
 
-pub fn term_count(s: &[u64], i: usize) -> Count
+pub fn term_count(s: &[u64], i: usize) -> FormSize
     ensures { λ r. ⌜ r ≡ termCount (now (s .entry)) i ⌝ }
 {
     pair(word(s, i, 0))
 }
 
 // `v` says whether "some" gives way.
-pub fn condition_count(s: &[u64], i: usize, v: bool) -> Count
+pub fn condition_count(s: &[u64], i: usize, v: bool) -> FormSize
     ensures { λ r. ⌜ r ≡ conditionCount (now (s .entry)) i v ⌝ }
 {
     let w = word(s, i, 0);
@@ -52,7 +52,7 @@ pub fn condition_count(s: &[u64], i: usize, v: bool) -> Count
     pair(w / 1048576)
 }
 
-pub fn spliced_count(s: &[u64], i: usize, v: bool) -> Count
+pub fn spliced_count(s: &[u64], i: usize, v: bool) -> FormSize
     ensures { λ r. ⌜ r ≡ splicedCount (now (s .entry)) i v ⌝ }
 {
     let w = word(s, i, 1);
@@ -74,7 +74,7 @@ pub fn offset(s: &[u64], i: usize, v: bool) -> u64
 }
 
 // Three pairs as a word.
-fn packed(a: Count, b: Count, c: Count) -> u64
+fn packed(a: FormSize, b: FormSize, c: FormSize) -> u64
     requires { ⌜ Small a × Small b × Small c ⌝ }
     ensures { λ r. ⌜ r ≡ pack a b c ⌝ }
 {
@@ -95,7 +95,7 @@ fn put(s: &mut [u64], i: usize, k: usize, w: u64)
 }
 
 // Node i as a term, and as a condition where "some" does not give way and where it does.
-pub fn put_first(s: &mut [u64], i: usize, term: Count, stays: Count, yields: Count)
+pub fn put_first(s: &mut [u64], i: usize, term: FormSize, stays: FormSize, yields: FormSize)
     requires { ⌜ Small term × Small stays × Small yields ⌝ }
     ensures { λ r. ⌜ now (s .exit) ≡ set (now (s .entry)) (place i 0) (pack term stays yields) ⌝ }
 {
@@ -103,7 +103,7 @@ pub fn put_first(s: &mut [u64], i: usize, term: Count, stays: Count, yields: Cou
 }
 
 // Node i spliced, where "some" does not give way and where it does, and its offsets.
-pub fn put_second(s: &mut [u64], i: usize, stays: Count, yields: Count, offsets: Count)
+pub fn put_second(s: &mut [u64], i: usize, stays: FormSize, yields: FormSize, offsets: FormSize)
     requires { ⌜ Small stays × Small yields × Small offsets ⌝ }
     ensures { λ r. ⌜ now (s .exit) ≡ set (now (s .entry)) (place i 1) (pack stays yields offsets) ⌝ }
 {

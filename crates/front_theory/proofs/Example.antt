@@ -13,11 +13,11 @@ use Rattle.spec_checks.specs.Scope.{inScope, binders, member, distinct, namesHo
 use Rattle.spec_normal_form.specs.Form.{_⊕_, gens, asForm}
 use Rattle.spec_normal_form.specs.Normal.{quote, idempotent, givesWay, condition, ranges, nth, part, binary, before, norm, normal}
 use Rattle.spec_normal_form.specs.Size.{nodes}
-use Rattle.front_theory.specs.Node.{Node, nnum, ntruth, nname, nfield, nrec, nbin, ncomp, ntable, ngen, nbind, ncond, nbad, Below, Inside, PostOrder, qualifiers}
-use Rattle.front_theory.specs.Flat.{outside, clausesOf, semsOf, semAt, sem}
-use Rattle.front_theory.specs.Tree.{Slots, slot, noNames, firstOf, restOf, behind, Holds, PlacedQ, Placed}
-use Rattle.front_theory.specs.Saturated.{left, saturated}
-use Rattle.front_theory.proofs.Saturated.{saturated-is, written}
+use Rattle.front_theory.specs.NodeTable.{Node, nnum, ntruth, nname, nfield, nrec, nbin, ncomp, ntable, ngen, nbind, ncond, nbad, Below, Inside, PostOrder, qualifiers}
+use Rattle.front_theory.specs.NodeForms.{outside, clausesOf, semsOf, semAt, sem}
+use Rattle.front_theory.specs.QuestionNodes.{Slots, slot, noNames, firstOf, restOf, behind, Holds, PlacedQ, Placed}
+use Rattle.front_theory.specs.CappedOffsets.{left, saturated}
+use Rattle.front_theory.proofs.CappedOffsets.{saturated-is, written}
 
 -- a node table from a list
 unfoldable at : List Node → ℕ → Node

@@ -1,5 +1,5 @@
 pub mod NodeTypes
-pub mod Represents
-pub mod Laws
-pub mod Fitting
-pub mod Checked
+pub mod ShapesOfTypes
+pub mod Exits
+pub mod ShapeWords
+pub mod QuestionTypes

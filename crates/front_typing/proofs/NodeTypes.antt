@@ -10,9 +10,9 @@ use Rattle.spec_calculus.specs.Syntax.{Collection, Monoid, Term, Terms, Quals, 
 use Rattle.spec_calculus.specs.Value.{Tables}
 use Rattle.spec_checks.specs.Types.{Ty, number, record′, coll, Typed, wrong, has, fieldType, ofTruth, binType, compType, ranges, typedAs, record″, consType, Context, typeOf, typesOf, typeOfQ}
 use Rattle.spec_checks.specs.Types as Ty
-use Rattle.front_theory.specs.Node.{Node, Nodes, nnum, ntruth, nname, nfield, nrec, nbin, nnegate, ncomp, ntable, ngen, nbind, ncond, nbad, Below, Inside, PostOrder}
-use Rattle.front_theory.specs.Tree.{Slots, slot, noNames, firstOf, restOf, behind, Holds, HoldsL, HoldsQ}
-use Rattle.front_typing.specs.Typing.{Rule, typesBy, behindQual, behindQuals, typeBy, typeUpTo, nodeType}
+use Rattle.front_theory.specs.NodeTable.{Node, Nodes, nnum, ntruth, nname, nfield, nrec, nbin, nnegate, ncomp, ntable, ngen, nbind, ncond, nbad, Below, Inside, PostOrder}
+use Rattle.front_theory.specs.QuestionNodes.{Slots, slot, noNames, firstOf, restOf, behind, Holds, HoldsL, HoldsQ}
+use Rattle.front_typing.specs.NodeTypes.{Rule, typesBy, behindQual, behindQuals, typeBy, typeUpTo, nodeType}
 
 module _ (J : Rule) (T : Tables) (N : Nodes) (P : PostOrder N) where
   -- ---- only the nodes before a node matter

@@ -1,4 +1,4 @@
 -- The types of a question's nodes, and their shapes: what a type is at its head.
-pub mod Typing
+pub mod NodeTypes
 pub mod Shapes
-pub mod Words
+pub mod ShapeWords

@@ -6,10 +6,10 @@ use lib.Dec.{ltb, eqb}
 use Rattle.spec_calculus.specs.Lists.{pick}
 use Rattle.spec_calculus.specs.Syntax as Sy
 use Rattle.spec_calculus.specs.Syntax.{Collection, list, Monoid, of, sum, max, some, all, Bin, plus, minus, times, equal, less, and, or}
-use Rattle.front_theory.specs.Node.{Node, Nodes, nnum, ntruth, nname, nfield, nrec, nbin, nnegate, ncomp, ntable, ngen, nbind, ncond, nbad}
-use Rattle.front_typing.specs.declared.Shape.{Shape}
-use Rattle.front_typing.specs.declared.Shape.the-variants.{Wrong, Number, Truth, Record, Row, Table, Coll}
-use Rattle.front_typing.specs.Typing.{Rule}
+use Rattle.front_theory.specs.NodeTable.{Node, Nodes, nnum, ntruth, nname, nfield, nrec, nbin, nnegate, ncomp, ntable, ngen, nbind, ncond, nbad}
+use Rattle.front_typing.specs.declared.TypeHead.{TypeHead}
+use Rattle.front_typing.specs.declared.TypeHead.the-variants.{Wrong, Number, Truth, Record, Row, Table, Coll}
+use Rattle.front_typing.specs.NodeTypes.{Rule}
 
 -- what is known of the tables
 pub record Known : Type 0 where
@@ -18,7 +18,7 @@ pub record Known : Type 0 where
   pub kind : ℕ → Collection
 
 -- 0 where there is no type
-abbrev pub classOf : Shape → ℕ
+abbrev pub classOf : TypeHead → ℕ
 classOf Wrong = 0
 classOf Number = 1
 classOf Truth = 2
@@ -27,13 +27,13 @@ classOf (Row k) = 4
 classOf (Table k) = 5
 classOf (Coll j) = 6
 
-abbrev pub fits : Shape → Bool
+abbrev pub fits : TypeHead → Bool
 fits a = ltb 0 (classOf a)
 
-abbrev pub isNumber : Shape → Bool
+abbrev pub isNumber : TypeHead → Bool
 isNumber a = eqb (classOf a) 1
 
-abbrev pub isTruth : Shape → Bool
+abbrev pub isTruth : TypeHead → Bool
 isTruth a = eqb (classOf a) 2
 
 -- the parts of a record, the monoid and the head of a comprehension, where node j is one
@@ -91,17 +91,17 @@ headOf (ncond c) = 0
 headOf nbad = 0
 
 -- the shape of part k
-unfoldable pub partShape : (ℕ → Shape) → ℕ → List ℕ → Shape
+unfoldable pub partShape : (ℕ → TypeHead) → ℕ → List ℕ → TypeHead
 partShape σ k [] = Wrong
 partShape σ zero (c ∷ cs) = σ c
 partShape σ (suc k) (c ∷ cs) = partShape σ k cs
 
 -- column k of a row of n
-abbrev pub cellShape : ℕ → ℕ → Shape
+abbrev pub cellShape : ℕ → ℕ → TypeHead
 cellShape k n = pick (ltb k n) Number Wrong
 
 -- "field takes a record"
-unfoldable pub fieldShape : Known → Nodes → (ℕ → Shape) → ℕ → Shape → Shape
+unfoldable pub fieldShape : Known → Nodes → (ℕ → TypeHead) → ℕ → TypeHead → TypeHead
 fieldShape I N σ k (Record j) = partShape σ k (partsOf (N j))
 fieldShape I N σ k (Row t) = cellShape k (I .columns t)
 fieldShape I N σ k Wrong = Wrong
@@ -111,7 +111,7 @@ fieldShape I N σ k (Table t) = Wrong
 fieldShape I N σ k (Coll j) = Wrong
 
 -- "a generator takes a collection": its elements
-unfoldable pub elementShape : Nodes → (ℕ → Shape) → Shape → Shape
+unfoldable pub elementShape : Nodes → (ℕ → TypeHead) → TypeHead → TypeHead
 elementShape N σ (Table t) = Row t
 elementShape N σ (Coll j) = σ (headOf (N j))
 elementShape N σ Wrong = Wrong
@@ -121,7 +121,7 @@ elementShape N σ (Record j) = Wrong
 elementShape N σ (Row t) = Wrong
 
 -- whether a generator over this may stand in m
-unfoldable pub stands : Rule → Known → Nodes → Monoid → Shape → Bool
+unfoldable pub stands : Rule → Known → Nodes → Monoid → TypeHead → Bool
 stands J I N m (Table t) = J (I .kind t) m
 stands J I N m (Coll j) = J (collectionOf (N j)) m
 stands J I N m Wrong = false
@@ -131,13 +131,13 @@ stands J I N m (Record j) = false
 stands J I N m (Row t) = false
 
 -- "Arithmetic, equal and less take numbers; and, or, not and conditions take truths"
-unfoldable pub twoNumbers : Shape → Shape → Shape → Shape
+unfoldable pub twoNumbers : TypeHead → TypeHead → TypeHead → TypeHead
 twoNumbers a b r = pick (isNumber a && isNumber b) r Wrong
 
-unfoldable pub twoTruths : Shape → Shape → Shape → Shape
+unfoldable pub twoTruths : TypeHead → TypeHead → TypeHead → TypeHead
 twoTruths a b r = pick (isTruth a && isTruth b) r Wrong
 
-unfoldable pub binShape : Bin → Shape → Shape → Shape
+unfoldable pub binShape : Bin → TypeHead → TypeHead → TypeHead
 binShape plus a b = twoNumbers a b Number
 binShape minus a b = twoNumbers a b Number
 binShape times a b = twoNumbers a b Number
@@ -146,18 +146,18 @@ binShape less a b = twoNumbers a b Truth
 binShape and a b = twoTruths a b Truth
 binShape or a b = twoTruths a b Truth
 
-unfoldable pub truthShape : Shape → Shape
+unfoldable pub truthShape : TypeHead → TypeHead
 truthShape a = pick (isTruth a) Truth Wrong
 
-abbrev pub numberShape : Shape → Shape
+abbrev pub numberShape : TypeHead → TypeHead
 numberShape a = pick (isNumber a) Number Wrong
 
 -- the collection that node i makes of heads like a
-abbrev pub gathersShape : ℕ → Shape → Shape
+abbrev pub gathersShape : ℕ → TypeHead → TypeHead
 gathersShape i a = pick (fits a) (Coll i) Wrong
 
 -- "Sum and max have number heads, some and all truth heads, the collections any head." Min as max.
-unfoldable pub compShape : ℕ → Monoid → Shape → Shape
+unfoldable pub compShape : ℕ → Monoid → TypeHead → TypeHead
 compShape i (of c) a = gathersShape i a
 compShape i sum a = numberShape a
 compShape i max a = numberShape a
@@ -165,12 +165,12 @@ compShape i Sy.min a = numberShape a
 compShape i some a = truthShape a
 compShape i all a = truthShape a
 
-unfoldable pub allFit : (ℕ → Shape) → List ℕ → Bool
+unfoldable pub allFit : (ℕ → TypeHead) → List ℕ → Bool
 allFit σ [] = true
 allFit σ (c ∷ cs) = fits (σ c) && allFit σ cs
 
 -- whether a qualifier fits into a comprehension of m
-abbrev pub qualFits : Rule → Known → Nodes → (ℕ → Shape) → Monoid → Node → Bool
+abbrev pub qualFits : Rule → Known → Nodes → (ℕ → TypeHead) → Monoid → Node → Bool
 qualFits J I N σ m (ngen c) = stands J I N m (σ c)
 qualFits J I N σ m (nbind c) = fits (σ c)
 qualFits J I N σ m (ncond c) = isTruth (σ c)
@@ -185,12 +185,12 @@ qualFits J I N σ m (ncomp n cs h) = false
 qualFits J I N σ m (ntable k) = false
 qualFits J I N σ m nbad = false
 
-unfoldable pub qualsFit : Rule → Known → Nodes → (ℕ → Shape) → Monoid → List ℕ → Bool
+unfoldable pub qualsFit : Rule → Known → Nodes → (ℕ → TypeHead) → Monoid → List ℕ → Bool
 qualsFit J I N σ m [] = true
 qualsFit J I N σ m (c ∷ cs) = qualFits J I N σ m (N c) && qualsFit J I N σ m cs
 
 -- the shape of node i, where σ has the shapes of the nodes before it
-abbrev pub shapeBy : Rule → Known → Nodes → (ℕ → Shape) → ℕ → Node → Shape
+abbrev pub shapeBy : Rule → Known → Nodes → (ℕ → TypeHead) → ℕ → Node → TypeHead
 shapeBy J I N σ i (nnum z) = Number
 shapeBy J I N σ i (ntruth b) = Truth
 shapeBy J I N σ i (nname x d) = σ x

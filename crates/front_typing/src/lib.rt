@@ -4,12 +4,12 @@ ghost use mathlib.Core.Bool.{true, false};
 ghost use Prim.Native.Nat.{_+_, _≤_, _<_};
 ghost use lib.ListN.{getD};
 ghost use Rattle.spec_checks.specs.Types.{mayStand};
-ghost use Rattle.front_nodes.specs.Decode.{nodesOf};
-ghost use Rattle.base_syntax.specs.Word.{monoidOf};
+ghost use Rattle.front_nodes.specs.NodeTable.{nodesOf};
+ghost use Rattle.base_syntax.specs.MonoidWord.{monoidOf};
 ghost use Rattle.base_syntax.specs.Numbers.{binOf};
 ghost use Rattle.base_tables.specs.Description.{collectionNumber};
 ghost use Rattle.front_typing.specs.Shapes.{classOf, fits, isNumber, isTruth, collects, collectionOf, headOf, cellShape, numberShape, truthShape, gathersShape, twoNumbers, twoTruths, binShape, compShape};
-ghost use Rattle.front_typing.specs.Words.{numbered as numberedWord, shapeWord, shapeIn, shapesIn, collectionBy, rules, Makes, tableAt, partAt, fieldAt, elementAt, partsFit, mayRange, qualFitsAt, qualsFitAt, recordAt, compAt, shapeOf, shapedUpTo, Judges};
+ghost use Rattle.front_typing.specs.ShapeWords.{numbered as numberedWord, shapeWord, shapeIn, shapesIn, collectionBy, rules, MakerPost, tableAt, partAt, fieldAt, elementAt, partsFit, mayRange, qualFitsAt, qualsFitAt, recordAt, compAt, shapeOf, shapedUpTo, Judges};
 use base_scratch::SHAPES;
 use base_scratch::TABLES;
 use base_scratch::load;
@@ -18,11 +18,11 @@ use base_scratch::store;
 use base_syntax::Monoid;
 use base_syntax::Op;
 use front_nodes::Found;
-use front_nodes::Node;
+use front_nodes::QueryNode;
 
 // What a node's type is at its head. A type can be exponentially large, so none is ever built: a record and a collection
 // are told by the node that makes them, a row and a table by the table's number.
-pub enum Shape {
+pub enum TypeHead {
     Wrong,
     Number,
     Truth,
@@ -41,33 +41,33 @@ pub enum Made {
 
 // ---- shapes
 
-fn class(a: Shape) -> u64
+fn class(a: TypeHead) -> u64
     ensures { λ r. ⌜ r ≡ classOf a ⌝ }
 {
     match a {
-        Shape::Wrong => 0,
-        Shape::Number => 1,
-        Shape::Truth => 2,
-        Shape::Record(_) => 3,
-        Shape::Row(_) => 4,
-        Shape::Table(_) => 5,
-        Shape::Coll(_) => 6,
+        TypeHead::Wrong => 0,
+        TypeHead::Number => 1,
+        TypeHead::Truth => 2,
+        TypeHead::Record(_) => 3,
+        TypeHead::Row(_) => 4,
+        TypeHead::Table(_) => 5,
+        TypeHead::Coll(_) => 6,
     }
 }
 
-fn is_typed(a: Shape) -> bool
+fn is_typed(a: TypeHead) -> bool
     ensures { λ r. ⌜ r ≡ fits a ⌝ }
 {
     0 < class(a)
 }
 
-fn is_number(a: Shape) -> bool
+fn is_number(a: TypeHead) -> bool
     ensures { λ r. ⌜ r ≡ isNumber a ⌝ }
 {
     class(a) == 1
 }
 
-fn is_truth(a: Shape) -> bool
+fn is_truth(a: TypeHead) -> bool
     ensures { λ r. ⌜ r ≡ isTruth a ⌝ }
 {
     class(a) == 2
@@ -86,37 +86,37 @@ fn numbered(c: u64, j: usize) -> u64
     }
 }
 
-fn packed(a: Shape) -> u64
+fn packed(a: TypeHead) -> u64
     ensures { λ r. ⌜ r ≡ shapeWord a ⌝ }
 {
     match a {
-        Shape::Wrong => 0,
-        Shape::Number => 1,
-        Shape::Truth => 2,
-        Shape::Record(j) => numbered(3, j),
-        Shape::Row(k) => numbered(4, k),
-        Shape::Table(k) => numbered(5, k),
-        Shape::Coll(j) => numbered(6, j),
+        TypeHead::Wrong => 0,
+        TypeHead::Number => 1,
+        TypeHead::Truth => 2,
+        TypeHead::Record(j) => numbered(3, j),
+        TypeHead::Row(k) => numbered(4, k),
+        TypeHead::Table(k) => numbered(5, k),
+        TypeHead::Coll(j) => numbered(6, j),
     }
 }
 
-fn shape_in(w: u64) -> Shape
+fn shape_in(w: u64) -> TypeHead
     ensures { λ r. ⌜ r ≡ shapeIn w ⌝ }
 {
     let j = (w / 8) as usize;
     match w % 8 {
-        1 => Shape::Number,
-        2 => Shape::Truth,
-        3 => Shape::Record(j),
-        4 => Shape::Row(j),
-        5 => Shape::Table(j),
-        6 => Shape::Coll(j),
-        _ => Shape::Wrong,
+        1 => TypeHead::Number,
+        2 => TypeHead::Truth,
+        3 => TypeHead::Record(j),
+        4 => TypeHead::Row(j),
+        5 => TypeHead::Table(j),
+        6 => TypeHead::Coll(j),
+        _ => TypeHead::Wrong,
     }
 }
 
 // The shape of node j.
-fn shape_at(s: &[u64], j: usize) -> Shape
+fn shape_at(s: &[u64], j: usize) -> TypeHead
     ensures { λ r. ⌜ r ≡ shapesIn (now (s .entry)) j ⌝ }
 {
     shape_in(load_at(s, SHAPES, j))
@@ -135,39 +135,39 @@ fn description(s: &[u64], t: usize) -> u64
 }
 
 // "25: .. table that does not fit"
-fn table(s: &[u64], k: usize) -> Shape
+fn table(s: &[u64], k: usize) -> TypeHead
     ensures { λ r. ⌜ r ≡ tableAt (now (s .entry)) k ⌝ }
 {
     if (k as u64) < load(s, TABLES) {
-        return Shape::Table(k);
+        return TypeHead::Table(k);
     }
-    Shape::Wrong
+    TypeHead::Wrong
 }
 
 // ---- what a shape refers to
 
 // What node j makes.
 fn maker(s: &[u64], j: usize) -> Made
-    ensures { λ r. ⌜ Makes (now (s .entry)) j r ⌝ }
+    ensures { λ r. ⌜ MakerPost (now (s .entry)) j r ⌝ }
 {
     match front_nodes::look(s, j) {
-        Node::Record => Made::Record,
-        Node::Comp(m, h) => Made::Comp(m, h),
+        QueryNode::Record => Made::Record,
+        QueryNode::Comp(m, h) => Made::Comp(m, h),
         _ => Made::Other,
     }
 }
 
 // Part k of the record that node j makes.
-fn part(s: &[u64], j: usize, k: usize) -> Shape
+fn part(s: &[u64], j: usize, k: usize) -> TypeHead
     ensures { λ r. ⌜ r ≡ partAt (now (s .entry)) j k ⌝ }
 {
     match maker(s, j) {
         Made::Record => match front_nodes::child(s, j, k) {
             Found::At(c) => shape_at(s, c),
-            Found::Nothing => Shape::Wrong,
+            Found::Nothing => TypeHead::Wrong,
         },
-        Made::Comp(_, _) => Shape::Wrong,
-        Made::Other => Shape::Wrong,
+        Made::Comp(_, _) => TypeHead::Wrong,
+        Made::Other => TypeHead::Wrong,
     }
 }
 
@@ -204,34 +204,34 @@ fn gathered(s: &[u64], j: usize) -> u64
 // ---- the rules
 
 // "field takes a record"
-fn field(s: &[u64], k: usize, a: Shape) -> Shape
+fn field(s: &[u64], k: usize, a: TypeHead) -> TypeHead
     ensures { λ r. ⌜ r ≡ fieldAt (now (s .entry)) k a ⌝ }
 {
     match a {
-        Shape::Record(j) => part(s, j, k),
-        Shape::Row(t) => cell(k, base_tables::columns(description(s, t))),
-        _ => Shape::Wrong,
+        TypeHead::Record(j) => part(s, j, k),
+        TypeHead::Row(t) => cell(k, base_tables::columns(description(s, t))),
+        _ => TypeHead::Wrong,
     }
 }
 
 // Column k of a row of so many.
-fn cell(k: usize, columns: usize) -> Shape
+fn cell(k: usize, columns: usize) -> TypeHead
     ensures { λ r. ⌜ r ≡ cellShape k columns ⌝ }
 {
     if k < columns {
-        return Shape::Number;
+        return TypeHead::Number;
     }
-    Shape::Wrong
+    TypeHead::Wrong
 }
 
 // "a generator takes a collection": the shape of its elements.
-fn element(s: &[u64], a: Shape) -> Shape
+fn element(s: &[u64], a: TypeHead) -> TypeHead
     ensures { λ r. ⌜ r ≡ elementAt (now (s .entry)) a ⌝ }
 {
     match a {
-        Shape::Table(t) => Shape::Row(t),
-        Shape::Coll(j) => shape_at(s, head(s, j)),
-        _ => Shape::Wrong,
+        TypeHead::Table(t) => TypeHead::Row(t),
+        TypeHead::Coll(j) => shape_at(s, head(s, j)),
+        _ => TypeHead::Wrong,
     }
 }
 
@@ -263,18 +263,18 @@ fn allowed(rule: bool, c: u64, m: Monoid) -> bool
 }
 
 // Whether a generator over this may stand in a comprehension of m.
-fn may_range(s: &[u64], rule: bool, m: Monoid, a: Shape) -> bool
+fn may_range(s: &[u64], rule: bool, m: Monoid, a: TypeHead) -> bool
     ensures { λ r. ⌜ r ≡ mayRange rule (now (s .entry)) (monoidOf m) a ⌝ }
 {
     match a {
-        Shape::Table(t) => allowed(rule, base_tables::collection(description(s, t)), m),
-        Shape::Coll(j) => allowed(rule, gathered(s, j), m),
+        TypeHead::Table(t) => allowed(rule, base_tables::collection(description(s, t)), m),
+        TypeHead::Coll(j) => allowed(rule, gathered(s, j), m),
         _ => false,
     }
 }
 
 // "Arithmetic, equal and less take numbers"
-fn two_numbers(a: Shape, b: Shape, r: Shape) -> Shape
+fn two_numbers(a: TypeHead, b: TypeHead, r: TypeHead) -> TypeHead
     ensures { λ z. ⌜ z ≡ twoNumbers a b r ⌝ }
 {
     if is_number(a) {
@@ -282,11 +282,11 @@ fn two_numbers(a: Shape, b: Shape, r: Shape) -> Shape
             return r;
         }
     }
-    Shape::Wrong
+    TypeHead::Wrong
 }
 
 // "and, or, not and conditions take truths"
-fn two_truths(a: Shape, b: Shape, r: Shape) -> Shape
+fn two_truths(a: TypeHead, b: TypeHead, r: TypeHead) -> TypeHead
     ensures { λ z. ⌜ z ≡ twoTruths a b r ⌝ }
 {
     if is_truth(a) {
@@ -294,38 +294,38 @@ fn two_truths(a: Shape, b: Shape, r: Shape) -> Shape
             return r;
         }
     }
-    Shape::Wrong
+    TypeHead::Wrong
 }
 
-fn number(a: Shape) -> Shape
+fn number(a: TypeHead) -> TypeHead
     ensures { λ r. ⌜ r ≡ numberShape a ⌝ }
 {
     if is_number(a) {
-        return Shape::Number;
+        return TypeHead::Number;
     }
-    Shape::Wrong
+    TypeHead::Wrong
 }
 
-fn truth(a: Shape) -> Shape
+fn truth(a: TypeHead) -> TypeHead
     ensures { λ r. ⌜ r ≡ truthShape a ⌝ }
 {
     if is_truth(a) {
-        return Shape::Truth;
+        return TypeHead::Truth;
     }
-    Shape::Wrong
+    TypeHead::Wrong
 }
 
-fn binary(o: Op, a: Shape, b: Shape) -> Shape
+fn binary(o: Op, a: TypeHead, b: TypeHead) -> TypeHead
     ensures { λ r. ⌜ r ≡ binShape (binOf o) a b ⌝ }
 {
     match o {
-        Op::Plus => two_numbers(a, b, Shape::Number),
-        Op::Minus => two_numbers(a, b, Shape::Number),
-        Op::Times => two_numbers(a, b, Shape::Number),
-        Op::Equal => two_numbers(a, b, Shape::Truth),
-        Op::Less => two_numbers(a, b, Shape::Truth),
-        Op::And => two_truths(a, b, Shape::Truth),
-        Op::Or => two_truths(a, b, Shape::Truth),
+        Op::Plus => two_numbers(a, b, TypeHead::Number),
+        Op::Minus => two_numbers(a, b, TypeHead::Number),
+        Op::Times => two_numbers(a, b, TypeHead::Number),
+        Op::Equal => two_numbers(a, b, TypeHead::Truth),
+        Op::Less => two_numbers(a, b, TypeHead::Truth),
+        Op::And => two_truths(a, b, TypeHead::Truth),
+        Op::Or => two_truths(a, b, TypeHead::Truth),
     }
 }
 
@@ -356,9 +356,9 @@ fn qual_fits(s: &[u64], c: usize, m: Monoid, rule: bool) -> bool
     ensures { λ r. ⌜ r ≡ qualFitsAt rule (now (s .entry)) (monoidOf m) c ⌝ }
 {
     match front_nodes::look(s, c) {
-        Node::Gen(a) => may_range(s, rule, m, shape_at(s, a)),
-        Node::Bind(a) => is_typed(shape_at(s, a)),
-        Node::Cond(a) => is_truth(shape_at(s, a)),
+        QueryNode::Gen(a) => may_range(s, rule, m, shape_at(s, a)),
+        QueryNode::Bind(a) => is_typed(shape_at(s, a)),
+        QueryNode::Cond(a) => is_truth(shape_at(s, a)),
         _ => false,
     }
 }
@@ -380,7 +380,7 @@ fn quals_fit(s: &[u64], i: usize, m: Monoid, rule: bool) -> bool
 }
 
 // "Sum and max have number heads, some and all truth heads, the collections any head." Min as max.
-fn comprehends(i: usize, m: Monoid, a: Shape) -> Shape
+fn comprehends(i: usize, m: Monoid, a: TypeHead) -> TypeHead
     ensures { λ r. ⌜ r ≡ compShape i (monoidOf m) a ⌝ }
 {
     match m {
@@ -395,53 +395,53 @@ fn comprehends(i: usize, m: Monoid, a: Shape) -> Shape
     }
 }
 
-fn collected(i: usize, a: Shape) -> Shape
+fn collected(i: usize, a: TypeHead) -> TypeHead
     ensures { λ r. ⌜ r ≡ gathersShape i a ⌝ }
 {
     if is_typed(a) {
-        return Shape::Coll(i);
+        return TypeHead::Coll(i);
     }
-    Shape::Wrong
+    TypeHead::Wrong
 }
 
-fn comprehension(s: &[u64], i: usize, m: Monoid, h: usize, rule: bool) -> Shape
+fn comprehension(s: &[u64], i: usize, m: Monoid, h: usize, rule: bool) -> TypeHead
     ensures { λ r. ⌜ r ≡ compAt rule (now (s .entry)) i (monoidOf m) h ⌝ }
 {
     if quals_fit(s, i, m, rule) {
         return comprehends(i, m, shape_at(s, h));
     }
-    Shape::Wrong
+    TypeHead::Wrong
 }
 
-fn recorded(s: &[u64], i: usize) -> Shape
+fn recorded(s: &[u64], i: usize) -> TypeHead
     ensures { λ r. ⌜ r ≡ recordAt (now (s .entry)) i ⌝ }
 {
     if all_typed(s, i) {
-        return Shape::Record(i);
+        return TypeHead::Record(i);
     }
-    Shape::Wrong
+    TypeHead::Wrong
 }
 
 // ---- the nodes in turn
 
 // The shape of node i, from those of the nodes before it.
-fn shape_of(s: &[u64], i: usize, rule: bool) -> Shape
+fn shape_of(s: &[u64], i: usize, rule: bool) -> TypeHead
     ensures { λ r. ⌜ r ≡ shapeOf rule (now (s .entry)) i ⌝ }
 {
     match front_nodes::look(s, i) {
-        Node::Number(_) => Shape::Number,
-        Node::Truth(_) => Shape::Truth,
-        Node::Name(x, _) => shape_at(s, x),
-        Node::Field(k, c) => field(s, k, shape_at(s, c)),
-        Node::Record => recorded(s, i),
-        Node::Two(o, a, b) => binary(o, shape_at(s, a), shape_at(s, b)),
-        Node::Not(c) => truth(shape_at(s, c)),
-        Node::Comp(m, h) => comprehension(s, i, m, h, rule),
-        Node::Table(k) => table(s, k),
-        Node::Gen(c) => element(s, shape_at(s, c)),
-        Node::Bind(c) => shape_at(s, c),
-        Node::Cond(c) => truth(shape_at(s, c)),
-        Node::Bad => Shape::Wrong,
+        QueryNode::Number(_) => TypeHead::Number,
+        QueryNode::Truth(_) => TypeHead::Truth,
+        QueryNode::Name(x, _) => shape_at(s, x),
+        QueryNode::Field(k, c) => field(s, k, shape_at(s, c)),
+        QueryNode::Record => recorded(s, i),
+        QueryNode::Two(o, a, b) => binary(o, shape_at(s, a), shape_at(s, b)),
+        QueryNode::Not(c) => truth(shape_at(s, c)),
+        QueryNode::Comp(m, h) => comprehension(s, i, m, h, rule),
+        QueryNode::Table(k) => table(s, k),
+        QueryNode::Gen(c) => element(s, shape_at(s, c)),
+        QueryNode::Bind(c) => shape_at(s, c),
+        QueryNode::Cond(c) => truth(shape_at(s, c)),
+        QueryNode::Bad => TypeHead::Wrong,
     }
 }
 

@@ -1,2 +1,2 @@
 -- Laws of the node words.
-pub mod Laws
+pub mod NodeWords

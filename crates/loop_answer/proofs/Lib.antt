@@ -1,2 +1,2 @@
 -- What stands in scratch, and the two ways out.
-pub mod Laws
+pub mod ByLoopsOutcome

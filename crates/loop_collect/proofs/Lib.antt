@@ -1,5 +1,5 @@
 -- What laying words comes to, and one law for each way out of the writers.
-pub mod Laying
-mod Meanings
-pub mod Laws
-mod Runs
+pub mod LaidValues
+mod ShapeMeanings
+pub mod Exits
+mod TwoRuns

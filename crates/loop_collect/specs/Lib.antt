@@ -1,3 +1,3 @@
 -- A value's words in the answer buffer.
-pub mod Laying
+pub mod LaidValues
 pub mod Contract

@@ -1,6 +1,6 @@
 -- What the words of values come to, and one law for each way out of the evaluator.
-pub mod Words
-pub mod Skips
-pub mod Sizes
-pub mod Laws
-mod Merged
+pub mod HeadWords
+pub mod SkippedRows
+pub mod WordBounds
+pub mod Exits
+mod MergedRows

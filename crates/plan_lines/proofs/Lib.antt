@@ -1,4 +1,4 @@
 -- What laying comes to, and one law for each way out of the writers.
-mod Joined
-mod Laws
-mod Print
+mod JoinedConditions
+mod Exits
+mod PlanCall

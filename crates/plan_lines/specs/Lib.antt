@@ -1,3 +1,3 @@
 -- The lines of the plan that marked words stand for, laid into a byte buffer below a limit.
-pub mod Text
-pub mod Printed
+pub mod PartTexts
+pub mod PlanCall

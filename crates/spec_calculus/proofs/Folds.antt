@@ -11,7 +11,7 @@ use Rattle.spec_calculus.specs.Lists.{bindL, guard, pick}
 use Rattle.spec_calculus.specs.Syntax.{Collection, list, bag, set, Monoid, of, sum, max, min, some, all}
 use Rattle.spec_calculus.specs.Value.{Value, Values, num, truth, rec, coll, vnil, vcons, toList, fromList, asInt, asBool, elems}
 use Rattle.spec_calculus.specs.Order.{compareZ, leV}
-use Rattle.spec_calculus.specs.Rearranged.{Rearranged, nil, Repeated, reorder, chain, Alike}
+use Rattle.spec_calculus.specs.Rearrangement.{Rearranged, nil, Repeated, reorder, chain, Alike}
 use Rattle.spec_calculus.specs.Greatest.{atMost, One, Last}
 use Rattle.spec_calculus.specs.Monoid.{Entry, none, start, step, greater, lesser, against, total, finish, foldBy, ordered, canonical, raw}
 use Rattle.spec_calculus.proofs.Lists.{All, all-imp}

@@ -6,4 +6,4 @@ pub mod Order
 pub mod Folds
 pub mod Magnitude
 pub mod WellFormed
-pub mod Stored
+pub mod StoredTables

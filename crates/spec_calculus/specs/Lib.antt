@@ -3,7 +3,7 @@ pub mod Lists
 pub mod Syntax
 pub mod Value
 pub mod Order
-pub mod Rearranged
+pub mod Rearrangement
 pub mod Greatest
 pub mod Monoid
 pub mod Meaning

@@ -1,6 +1,6 @@
 -- What the checks give.
-pub mod Fits
+pub mod GeneratorFits
 pub mod Judgement
 pub mod Refold
-pub mod Raw
-pub mod Stored
+pub mod RawArranged
+pub mod StoredTables

@@ -8,10 +8,10 @@ use Rattle.spec_calculus.specs.Lists.{pick}
 use Rattle.spec_encoding.specs.Record.{Bytes, Result, refused, got, andThen, require}
 use Rattle.spec_plan.specs.Planner.{planOf}
 use Rattle.spec_plan.specs.Lines.{ascii, decimal, signedDecimal, lines}
-use Rattle.spec_outcome.specs.Written.{words}
-use Rattle.spec_outcome.specs.Accepted.{Accepted, examine}
+use Rattle.spec_outcome.specs.WrittenForm.{words}
+use Rattle.spec_outcome.specs.Acceptance.{Accepted, examine}
 use Rattle.spec_outcome.specs.Outcome.{G, looped}
-use Rattle.spec_desk.specs.Split.{tablesEnd}
+use Rattle.spec_desk.specs.TablesEnd.{tablesEnd}
 
 -- "answer its words": each behind a space, and byte 10 ends the line
 unfoldable pub spaced : List ℤ → Bytes

@@ -1,4 +1,4 @@
 -- Laws of the bytes.
 pub mod Data
 pub mod Refusals
-pub mod Given
+pub mod QuestionLimits

@@ -10,8 +10,8 @@ use Rattle.spec_normal_form.specs.Normal.{Sem, fields, plain, scons, quo
 use Rattle.spec_normal_form.specs.Place.{Place, Places, PlaceQ, put, putL, putQ}
 use Rattle.spec_normal_form.specs.Place as Pl
 use Rattle.spec_normal_form.specs.Rules.{Rewrites, none, onwards}
-use Rattle.spec_normal_form.proofs.Writing.{normal-is-quote}
-use Rattle.spec_normal_form.proofs.Agree.{comp-cong}
+use Rattle.spec_normal_form.proofs.WriteOut.{normal-is-quote}
+use Rattle.spec_normal_form.proofs.Locality.{comp-cong}
 use Rattle.spec_normal_form.proofs.Rules.{rule-keeps}
 
 module _ (K : ℕ → Collection) (s t : Term) (e : (δ : SemEnv) → norm K s δ ≡ norm K t δ) where

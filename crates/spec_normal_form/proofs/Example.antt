@@ -12,7 +12,7 @@ use Rattle.spec_normal_form.specs.Normal.{normal}
 use Rattle.spec_normal_form.specs.NoRule.{termOf, questionOf, NoRule, behind, Ordered}
 use Rattle.spec_normal_form.specs.Rules.{_⊞_, ownNames, sub, Rule, bound-name, flat-generator, rename, Rewrites, none, onwards}
 use Rattle.spec_normal_form.specs.Place.{hole, put}
-use Rattle.spec_normal_form.proofs.Fixed.{rewriting-ends-there}
+use Rattle.spec_normal_form.proofs.FixedPoint.{rewriting-ends-there}
 
 abbrev bags : ℕ → Collection
 bags k = bag

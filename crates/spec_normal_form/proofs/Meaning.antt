@@ -15,13 +15,13 @@ use Rattle.spec_calculus.specs.Meaning.{Env, eval, evals, runs, meaning}
 use Rattle.spec_calculus.proofs.Lists.{bind-bind, bind-one, guard-bind, guard-guard, upd-hit, upd-miss}
 use Rattle.spec_calculus.proofs.Folds.{canon, Eqv, eqv-bind, eqv-guard, fold-eqv, repeats-eqv}
 use Rattle.spec_checks.specs.Types.{Ty, Tys, number, truth, record′, coll, ynil, ycons, wrong, has, cells, typeAt, Context, mayStand, generatorsFit}
-use Rattle.spec_checks.proofs.Fits.{mayStand-trans, fit-eqv}
+use Rattle.spec_checks.proofs.GeneratorFits.{mayStand-trans, fit-eqv}
 use Rattle.spec_checks.proofs.Judgement.{operand, result, Gathers, Has, HasL, HasQ, untyped, same-type, question-typed}
 use Rattle.spec_normal_form.specs.Form.{Form, Clauses, done, _⊕_, gens, gensC, value, values, loops, normalValue}
 use Rattle.spec_normal_form.specs.Form as Nf
 use Rattle.spec_normal_form.specs.Normal.{Sem, Sems, row, both, nested, plain, scons, quote, quotes, idempotent, givesWay, one, condition, Splice, ranges, nth, part, pair, binary, before, SemEnv, norm, norms, walk, nowhere, normal}
-use Rattle.spec_normal_form.proofs.Writing.{next-number, loops-append, normal-is-quote}
-use Rattle.spec_normal_form.proofs.Idempotent.{Within, Safe, or-safe, false-safe, safe-set, idempotent-within, within-safe}
+use Rattle.spec_normal_form.proofs.WriteOut.{next-number, loops-append, normal-is-quote}
+use Rattle.spec_normal_form.proofs.IdempotentMonoids.{Within, Safe, or-safe, false-safe, safe-set, idempotent-within, within-safe}
 
 -- a later world: more generators, the rows of the earlier ones unchanged
 record Later (n : ℕ) (ρ : Env) (j : ℕ) (σ : Env) : Type 0 where

@@ -13,8 +13,8 @@ use Rattle.spec_normal_form.specs.Form.{Form, Forms, Clauses, fnil, fcon
 use Rattle.spec_normal_form.specs.Form as Nf
 use Rattle.spec_normal_form.specs.Normal.{Sem, Sems, row, fields, both, nested, plain, snil, scons, nothing, quote, quotes, idempotent, condition, Splice, never, ranges, nth, part, pair, binary, before, SemEnv, norm, norms, walk, nowhere, normal}
 use Rattle.spec_normal_form.specs.Size.{nodes, nodesF, nodesC}
-use Rattle.spec_normal_form.proofs.Writing.{condition-cases, normal-is-quote}
-use Rattle.spec_normal_form.proofs.Numbered.{Numbered, NumberedF, NumberedC, normal-numbered}
+use Rattle.spec_normal_form.proofs.WriteOut.{condition-cases, normal-is-quote}
+use Rattle.spec_normal_form.proofs.GeneratorNumbers.{Numbered, NumberedF, NumberedC, normal-numbered}
 
 -- constants are "signed, four bytes each"; a field's index and a table's number are one byte
 abbrev mutual

@@ -13,9 +13,9 @@ use Rattle.spec_normal_form.specs.Form.{done, _⊕_, gens, gensC}
 use Rattle.spec_normal_form.specs.Form as Nf
 use Rattle.spec_normal_form.specs.Normal.{Sem, row, nested, idempotent, givesWay, condition, Splice, ranges, nth, part, binary, before, SemEnv, norm, walk}
 use Rattle.spec_normal_form.specs.Rules.{_⊞_, ownNames, termAt, ReadsOnly, only, sub, subQ, Fresh, Rule, bound-name, record-field, bare-table, and-condition, flat-generator, some-condition, rename}
-use Rattle.spec_normal_form.proofs.Writing.{inFront, before-append}
-use Rattle.spec_normal_form.proofs.Agree.{upd-grows, Agree, agree-upd, agree-out, comp-cong, norm-agree, walk-agree}
-use Rattle.spec_normal_form.proofs.Substitute.{fresh-split, sub-ok, walk-sub}
+use Rattle.spec_normal_form.proofs.WriteOut.{inFront, before-append}
+use Rattle.spec_normal_form.proofs.Locality.{upd-grows, Agree, agree-upd, agree-out, comp-cong, norm-agree, walk-agree}
+use Rattle.spec_normal_form.proofs.Substitution.{fresh-split, sub-ok, walk-sub}
 
 -- a set stands only where repeats do not count
 may-stand-idempotent : (c : Collection) (m : Monoid) → mayStand c m ≡ true → idempotent (of c) ≡ true → idempotent m ≡ true

@@ -11,7 +11,7 @@ use Rattle.spec_normal_form.specs.Form.{Form, Clauses, done, _⊕_, gens
 use Rattle.spec_normal_form.specs.Form as Nf
 use Rattle.spec_normal_form.specs.Size.{nodes, nodesF, nodesC, sizeFits}
 use Rattle.spec_normal_form.specs.Normal.{Sem, Sems, row, fields, both, nested, plain, snil, scons, nothing, quote, quotes, idempotent, givesWay, one, condition, Splice, never, ranges, nth, part, pair, binary, before, SemEnv, norm, norms, walk, nowhere, normal}
-use Rattle.spec_normal_form.proofs.Writing.{condition-cases, normal-is-quote}
+use Rattle.spec_normal_form.proofs.WriteOut.{condition-cases, normal-is-quote}
 
 -- What a term comes to, with a count in place of what is written. No generator is numbered.
 mutual

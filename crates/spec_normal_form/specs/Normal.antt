@@ -1,7 +1,7 @@
 -- The normal form of a question. Document 01 applies six rules until none applies. Here the result is computed directly
 -- (normalisation by evaluation): what a term comes to, with what each name comes to given, then written out. Where a rule
 -- acts is marked (1) to (6) in 01's order. That every rule leaves the result the same, and that none applies to it, are
--- theorems (proofs/Rules, proofs/Proper).
+-- theorems (proofs/Rules, proofs/NoRuleApplies).
 use mathlib.Core.Bool.{Bool, true, false, _||_}
 use Prim.Native.Nat.{ℕ, zero, suc, _+_}
 use lib.IntN.{pos}

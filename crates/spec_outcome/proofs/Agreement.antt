@@ -16,12 +16,12 @@ use Rattle.spec_encoding.specs.Record.{Bytes, Result, refused, got, andThen, re
 use Rattle.spec_encoding.proofs.Refusals.{Only, only-then, only-require}
 use Rattle.spec_normal_form.specs.Normal.{normal}
 use Rattle.spec_normal_form.proofs.Meaning.{normal-keeps}
-use Rattle.spec_normal_form.proofs.Numbered.{normal-numbered}
+use Rattle.spec_normal_form.proofs.GeneratorNumbers.{normal-numbered}
 use Rattle.spec_plan.specs.Planner.{planOf}
 use Rattle.spec_plan.specs.Operators.{planValue}
-use Rattle.spec_plan.proofs.Numbering.{unnesting-numbered}
-use Rattle.spec_outcome.specs.Written.{words}
-use Rattle.spec_outcome.specs.Accepted.{Accepted, examine}
+use Rattle.spec_plan.proofs.NumberedIsScoped.{unnesting-numbered}
+use Rattle.spec_outcome.specs.WrittenForm.{words}
+use Rattle.spec_outcome.specs.Acceptance.{Accepted, examine}
 use Rattle.spec_outcome.specs.Outcome.{Outcome, Answer, scratchWords, settled, withScratch, G, written, answered, looped, byLoops, planned, byPlan}
 use Rattle.spec_outcome.proofs.Checks.{got-is, passed, Passed, examined, numbers, examine-only}
 
@@ -121,6 +121,6 @@ answered-same v d l s s′ b b′ e f =
 
 -- Demand 3: for all answer buffers of one length and all scratch of one length, whatever they held before, answering by plan
 -- and answering by loops give the same number, 0 or a refusal's, the same length and the same answer words.
-pub demand-3 : (d l : Bytes) (s s′ : List ℕ) (b b′ : List ℤ) → length s ≡ length s′ → length b ≡ length b′ → SameAnswer (wordsOf (examine d l)) (byPlan d l s b) (byLoops d l s′ b′)
+pub outcomes-agree : (d l : Bytes) (s s′ : List ℕ) (b b′ : List ℤ) → length s ≡ length s′ → length b ≡ length b′ → SameAnswer (wordsOf (examine d l)) (byPlan d l s b) (byLoops d l s′ b′)
 unfolding byLoops
-demand-3 d l s s′ b b′ e f = rw (same-outcome d l s b) (answered-same (λ a. meaning canonical (a .tables) (a .question)) d l s s′ b b′ e f)
+outcomes-agree d l s s′ b b′ e f = rw (same-outcome d l s b) (answered-same (λ a. meaning canonical (a .tables) (a .question)) d l s s′ b b′ e f)

@@ -12,8 +12,8 @@ use Rattle.spec_normal_form.specs.Normal.{normal}
 use Rattle.spec_plan.specs.Planner.{planOf}
 use Rattle.spec_plan.specs.Operators.{planValue}
 use Rattle.spec_plan.specs.Lines.{ascii, lines}
-use Rattle.spec_outcome.specs.Written.{words}
-use Rattle.spec_outcome.specs.Accepted.{Accepted, judge}
+use Rattle.spec_outcome.specs.WrittenForm.{words}
+use Rattle.spec_outcome.specs.Acceptance.{Accepted, judge}
 use Rattle.spec_outcome.specs.Outcome.{G}
 use Rattle.spec_calculus.specs.Lists as Lists
 use Rattle.spec_calculus.specs.Value as Value
@@ -30,8 +30,8 @@ use Rattle.spec_normal_form.specs.Bound as Bound
 use Rattle.spec_plan.specs.Operators as Operators
 use Rattle.spec_plan.specs.Planner as Planner
 use Rattle.spec_plan.specs.Lines as Lines
-use Rattle.spec_outcome.specs.Written as Written
-use Rattle.spec_outcome.specs.Accepted as Accepted
+use Rattle.spec_outcome.specs.WrittenForm as Written
+use Rattle.spec_outcome.specs.Acceptance as Accepted
 use Rattle.spec_outcome.specs.Outcome as Outcome
 
 -- all the definitions that the cases compute with

@@ -18,8 +18,8 @@ use Rattle.spec_normal_form.specs.Normal.{normal}
 use Rattle.spec_normal_form.specs.Size.{sizeFits, nodes}
 use Rattle.spec_normal_form.specs.Bound.{numbersFit}
 use Rattle.spec_normal_form.specs.Form.{asForm}
-use Rattle.spec_normal_form.proofs.Numbered.{Numbered, normal-numbered}
-use Rattle.spec_outcome.specs.Accepted.{Accepted, judge, examine}
+use Rattle.spec_normal_form.proofs.GeneratorNumbers.{Numbered, normal-numbered}
+use Rattle.spec_outcome.specs.Acceptance.{Accepted, judge, examine}
 
 pub got-is : {A : Type 0} (x y : A) → _≡_ {A = Result A} (got x) (got y) → x ≡ y
 got-is x y h = cc

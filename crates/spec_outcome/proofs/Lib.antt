@@ -1,8 +1,8 @@
 -- Theorems about the outcomes.
 pub mod Cases
 pub mod Checks
-pub mod Judging
-pub mod Written
+pub mod CheckOrder
+pub mod AnswerLength
 pub mod Agreement
 pub mod RowOrder
-pub mod Rewritten
+pub mod RowOrderBytes

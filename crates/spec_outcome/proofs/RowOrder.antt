@@ -14,30 +14,30 @@ use Rattle.spec_calculus.specs.Value.{Value, junk, coll, fromList, Tables, noTa
 use Rattle.spec_calculus.specs.Order.{leV}
 use Rattle.spec_calculus.specs.Monoid.{canonical, raw}
 use Rattle.spec_calculus.specs.Meaning.{meaning}
-use Rattle.spec_calculus.specs.Rearranged.{Rearranged, reorder, Alike}
+use Rattle.spec_calculus.specs.Rearrangement.{Rearranged, reorder, Alike}
 use Rattle.spec_calculus.proofs.Sorting.{rearranged-path, insert-rearranged}
 use Rattle.spec_calculus.proofs.Folds.{alike-arranged, canonical-of}
-use Rattle.spec_calculus.proofs.Stored.{eval-same}
+use Rattle.spec_calculus.proofs.StoredTables.{eval-same}
 use Rattle.spec_encoding.specs.Record.{Bytes, Result, refused, got, andThen, require}
 use Rattle.spec_encoding.specs.Data.{readData}
 use Rattle.spec_encoding.specs.Reader.{readQuestion}
 use Rattle.spec_encoding.proofs.Refusals.{Only}
 use Rattle.spec_checks.specs.Scope.{namesHold}
 use Rattle.spec_checks.specs.Types.{wrong, typeOf, mayStand, isTyped, typesFit, generatorsFit}
-use Rattle.spec_checks.proofs.Stored.{type-same}
+use Rattle.spec_checks.proofs.StoredTables.{type-same}
 use Rattle.spec_normal_form.specs.Form.{NormalForm, asForm, normalValue}
 use Rattle.spec_normal_form.specs.Normal.{normal}
 use Rattle.spec_normal_form.specs.Size.{sizeFits}
 use Rattle.spec_normal_form.specs.Bound.{numbersFit}
-use Rattle.spec_normal_form.proofs.Stored.{sorted, value-sorted}
+use Rattle.spec_normal_form.proofs.StoredTables.{sorted, value-sorted}
 use Rattle.spec_plan.specs.Planner.{planOf}
 use Rattle.spec_plan.specs.Lines.{lines}
-use Rattle.spec_outcome.specs.Written.{words}
-use Rattle.spec_outcome.specs.Accepted.{Accepted, judge, examine}
+use Rattle.spec_outcome.specs.WrittenForm.{words}
+use Rattle.spec_outcome.specs.Acceptance.{Accepted, judge, examine}
 use Rattle.spec_outcome.specs.Outcome.{Outcome, Answer, scratchWords, settled, withScratch, G, written, answered, looped, byLoops, byPlan, checked, printed, planLines}
 use Rattle.spec_outcome.specs.RowOrder.{Reordered, Restated, Restates, Rereads, Way, looping, planning, by, SameWords}
-use Rattle.spec_outcome.proofs.Written.{Keeping, kept-length}
-use Rattle.spec_outcome.proofs.Judging.{data-refused, question-refused, judged-as}
+use Rattle.spec_outcome.proofs.AnswerLength.{Keeping, kept-length}
+use Rattle.spec_outcome.proofs.CheckOrder.{data-refused, question-refused, judged-as}
 use Rattle.spec_outcome.proofs.Checks.{examine-only}
 use Rattle.spec_outcome.proofs.Agreement.{same-outcome, wordsOf, scratch-short, scratch-long}
 

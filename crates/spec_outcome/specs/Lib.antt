@@ -1,6 +1,6 @@
 -- What each open call gives back and leaves behind.
-pub mod Written
-pub mod Accepted
+pub mod WrittenForm
+pub mod Acceptance
 pub mod Outcome
 pub mod RowOrder
 pub mod Gives

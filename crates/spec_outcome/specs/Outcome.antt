@@ -13,8 +13,8 @@ use Rattle.spec_normal_form.specs.Form.{normalValue}
 use Rattle.spec_plan.specs.Planner.{planOf}
 use Rattle.spec_plan.specs.Operators.{planValue}
 use Rattle.spec_plan.specs.Lines.{lines}
-use Rattle.spec_outcome.specs.Written.{words}
-use Rattle.spec_outcome.specs.Accepted.{Accepted, examine}
+use Rattle.spec_outcome.specs.WrittenForm.{words}
+use Rattle.spec_outcome.specs.Acceptance.{Accepted, examine}
 
 -- number, length, the lent buffer and scratch afterwards
 pub record Outcome (A : Type 0) : Type 0 where

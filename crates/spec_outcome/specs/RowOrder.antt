@@ -9,7 +9,7 @@ use lib.IntN.{ℤ}
 use Rattle.spec_calculus.specs.Lists.{bindL}
 use Rattle.spec_calculus.specs.Syntax.{Collection, list, bag, set}
 use Rattle.spec_calculus.specs.Value.{Value, Table, Tables}
-use Rattle.spec_calculus.specs.Rearranged.{Rearranged}
+use Rattle.spec_calculus.specs.Rearrangement.{Rearranged}
 use Rattle.spec_calculus.proofs.Lists.{All}
 use Rattle.spec_encoding.specs.Record.{Bytes, Result, refused, got}
 use Rattle.spec_encoding.specs.Data.{collectionOf}

@@ -14,8 +14,8 @@ use Rattle.spec_calculus.proofs.Lists.{bind-ext, bind-guard, guard-guard, All, 
 use Rattle.spec_normal_form.specs.Form.{Form, Forms, Clauses, num, truth, row, cell, rec, bin, negate, comp, fnil, fcons, done, gen, cond, value, values, loops}
 use Rattle.spec_plan.specs.Operators.{sourceRows}
 use Rattle.spec_plan.specs.Planner.{free, mentions, mentionsF, mentionsC, Gen, from, fromUnit, source, gensOf, condsOf, orUnit, planGens, sift, early, late}
-use Rattle.spec_plan.proofs.Rows.{eqb-self}
-use Rattle.spec_plan.proofs.Scoped.{clear, ScopedC}
+use Rattle.spec_plan.proofs.StreamRows.{eqb-self}
+use Rattle.spec_plan.proofs.ConditionScope.{clear, ScopedC}
 
 unfoldable pub bindG : Gen → Value → Env → Env
 bindG (from g k) v ρ = upd g v ρ

@@ -15,9 +15,9 @@ use Rattle.spec_normal_form.specs.Form.{Form}
 use Rattle.spec_plan.specs.Plan.{PTerm, Source, Op}
 use Rattle.spec_plan.specs.Operators.{Place, row, pad, Row, Stream, meets, whole, sourceRows, numbered, matches, kept, matchesOrPad, number, same, apply, exec}
 use Rattle.spec_plan.specs.Planner.{free, Slots, termL, conj, Gen, source, sift, slot, slots, after, grows}
-use Rattle.spec_plan.proofs.Rows.{length-snoc, whole-row, whole-pad, eqb-off, same-last, Apart, apart-bind}
-use Rattle.spec_plan.proofs.Scoped.{clear}
-use Rattle.spec_plan.proofs.Homes.{walks, grows-walks}
+use Rattle.spec_plan.proofs.StreamRows.{length-snoc, whole-row, whole-pad, eqb-off, same-last, Apart, apart-bind}
+use Rattle.spec_plan.proofs.ConditionScope.{clear}
+use Rattle.spec_plan.proofs.ConditionHomes.{walks, grows-walks}
 use Rattle.spec_plan.proofs.Conditions.{bindG, hold, placed}
 use Rattle.spec_plan.proofs.Slots.{envOf, Stable, slot-stable, env-slot, conj-all, early-ok}
 

@@ -1,13 +1,13 @@
 -- Theorems about the plan.
 pub mod Cases
 pub mod Examples
-pub mod Rows
+pub mod StreamRows
 pub mod Nest
-pub mod Scoped
-pub mod Homes
+pub mod ConditionScope
+pub mod ConditionHomes
 pub mod Conditions
 pub mod Slots
 pub mod Growth
 pub mod Unnesting
-pub mod Numbering
+pub mod NumberedIsScoped
 pub mod NoQuestion

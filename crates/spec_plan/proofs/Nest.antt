@@ -11,7 +11,7 @@ use Rattle.spec_calculus.specs.Monoid.{Fold}
 use Rattle.spec_calculus.proofs.Lists.{map-map, All, Some}
 use Rattle.spec_plan.specs.Plan.{PTerm}
 use Rattle.spec_plan.specs.Operators.{val, Row, Stream, whole, same, Group, group, enter, heads, groups, close}
-use Rattle.spec_plan.proofs.Rows.{same-self, Front, Differ}
+use Rattle.spec_plan.proofs.StreamRows.{same-self, Front, Differ}
 
 enter-same : (r : Row) (vs ws : List Value) (l : List Group) → enter r vs (group r ws ∷ l) ≡ group r (vs ++ ws) ∷ l
 unfolding enter pick

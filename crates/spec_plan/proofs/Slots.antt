@@ -18,7 +18,7 @@ use Rattle.spec_normal_form.specs.Form as Nf
 use Rattle.spec_plan.specs.Plan.{PTerm, place, pbin}
 use Rattle.spec_plan.specs.Operators.{Place, row, val, Row, valueOf, evalP, evalPs, meets, whole}
 use Rattle.spec_plan.specs.Planner.{free, frees, Slots, next, nexts, term, terms, nextL, termL, joined, conj, Gen, from, fromUnit, orUnit, slot, slots, after}
-use Rattle.spec_plan.proofs.Rows.{length-snoc, at-before, at-here, whole-val}
+use Rattle.spec_plan.proofs.StreamRows.{length-snoc, at-before, at-here, whole-val}
 use Rattle.spec_plan.proofs.Conditions.{bindG, hold}
 
 -- where there is no generator there is one over unit

@@ -16,9 +16,9 @@ use Rattle.spec_normal_form.specs.Form.{Form, Forms, Clauses, NormalForm, asFor
 use Rattle.spec_plan.specs.Plan.{PTerm, Op, join, outer, nest}
 use Rattle.spec_plan.specs.Operators.{Place, val, Row, Stream, evalP, whole, matches, matchesOrPad, heads, groups, close, apply, exec, one, planValue}
 use Rattle.spec_plan.specs.Planner.{free, Slots, next, term, nextL, termL, conj, planGens, condsOf, sift, early, late, slots, after, grows, ops, opsF, opsC, noSlots, planOf}
-use Rattle.spec_plan.proofs.Rows.{Differ, Grows, apart-differ, differ-bind, differ-map}
+use Rattle.spec_plan.proofs.StreamRows.{Differ, Grows, apart-differ, differ-bind, differ-map}
 use Rattle.spec_plan.proofs.Nest.{nest-all}
-use Rattle.spec_plan.proofs.Scoped.{Scoped, ScopedF, ScopedC}
+use Rattle.spec_plan.proofs.ConditionScope.{Scoped, ScopedF, ScopedC}
 use Rattle.spec_plan.proofs.Conditions.{hold, loops-placed, sift-all}
 use Rattle.spec_plan.proofs.Slots.{envOf, Stable, stable-up, env-stable, slots-stable, places, placesF, placesL, Widens, widens, widensL, next-le, nextL-le, term-ok, meetsAll, conj-all, late-ok}
 use Rattle.spec_plan.proofs.Growth.{exec-append, Grew, grew-more, grew-take, join-local, outer-local, grown, exec-grows, grown-on, grown-apart, grown-live, grown-some, grown-whole}

@@ -1,4 +1,4 @@
 -- That a pass offers the rows that the plan offers.
-pub mod Counting
-pub mod Told
+pub mod CountExits
+pub mod OfferedRows
 pub mod Call

@@ -1,3 +1,3 @@
 -- How many rows a pass offers.
-pub mod Offered
+pub mod OfferedRows
 pub mod Contract

@@ -1,10 +1,10 @@
 // A call for the tests, beside the open ones and in an archive of its own: how many rows a pass offers.
 ghost use mathlib.Core.List.{[]};
 ghost use Rattle.exec_step.specs.Contract.{Waiting};
-ghost use Rattle.form_prepared.specs.Answering.{Asked};
+ghost use Rattle.form_prepared.specs.AnswerContract.{Asked};
 ghost use Rattle.spec_outcome.specs.Gives.{Gives};
-ghost use Rattle.test_offers.specs.Offered.{offered};
-ghost use Rattle.test_offers.specs.Contract.{Counts, Tells};
+ghost use Rattle.test_offers.specs.OfferedRows.{offered};
+ghost use Rattle.test_offers.specs.Contract.{CountPost, RowsOfPost};
 use engine::Admitted;
 use engine::Reply;
 use engine::admit;
@@ -18,7 +18,7 @@ use plan_marks::make_plan;
 // 2^64 - 1 at most.
 fn count(s: &mut [u64], data: &[u8], out: &mut [i64], code: usize) -> u64
     requires { ⌜ Waiting (now «data») (now s) (now out) 0 code ⌝ }
-    ensures { λ r. ⌜ Counts (now («data» .entry)) (now (s .entry)) (now (out .entry)) code (now (s .exit)) (now (out .exit)) r ⌝ }
+    ensures { λ r. ⌜ CountPost (now («data» .entry)) (now (s .entry)) (now (out .entry)) code (now (s .exit)) (now (out .exit)) r ⌝ }
 {
     let mut at = code;
     let mut n: u64 = 0;
@@ -36,7 +36,7 @@ fn count(s: &mut [u64], data: &[u8], out: &mut [i64], code: usize) -> u64
 // limit 0 nothing is written, so any buffer does. Words from 2,048 on stay.
 fn rows_of(s: &mut [u64], data: &[u8]) -> u64
     requires { ⌜ Asked (now «data») (now s) ⌝ }
-    ensures { λ r. ⌜ Tells (now («data» .entry)) (now (s .entry)) (now (s .exit)) r ⌝ }
+    ensures { λ r. ⌜ RowsOfPost (now («data» .entry)) (now (s .entry)) (now (s .exit)) r ⌝ }
 {
     make_plan(s);
     let first = link(s);

@@ -12,7 +12,7 @@ use base_scratch::SHAPES;
 use base_scratch::SIZES;
 use base_scratch::STARTS;
 use base_scratch::TOTALS;
-use front_end::Front;
+use front_end::FrontResult;
 
 // The bytes of the listing's data.
 const DATA: usize = 48;
@@ -300,8 +300,8 @@ fn walk(data: &[u8], question: &[u8], s: &mut [u64])
     requires { ⌜ 8192 ≤ length (now s) ⌝ }
 {
     match front_end::front_end(data, question, s) {
-        Front::Refused(_) => {}
-        Front::Nodes(n) => show_question(s, n),
+        FrontResult::Refused(_) => {}
+        FrontResult::Nodes(n) => show_question(s, n),
     }
     front_end::prepare(data, question, s);
     say(b"normal form (front_emit::write_form)\n");

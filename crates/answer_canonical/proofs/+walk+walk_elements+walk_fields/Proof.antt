@@ -1,10 +1,11 @@
+-- `answer_canonical`: `walk`, `walk_elements` and `walk_fields` meet their contracts together, by WalkExits, form_words/NodeWords, answer_types/Types.
 use native.Mathlib.Omega.{arith}
 use mathlib.Core.Path.{refl, ap, _∙_}
 use Prim.Native.Nat.{_+_}
-use Rattle.form_words.specs.Tree.{left}
-use Rattle.form_words.proofs.Laws.{next-past}
+use Rattle.form_words.specs.FormTree.{left}
+use Rattle.form_words.proofs.NodeWords.{next-past}
 use Rattle.answer_types.proofs.Types.{reshape, as-words, laid-as}
-use Rattle.answer_canonical.proofs.Walking.{walk-words, walk-record, walk-collection, walked, fields-none, fields-more, Walking, walk-first, walk-again, walk-last}
+use Rattle.answer_canonical.proofs.WalkExits.{walk-words, walk-record, walk-collection, walked, fields-none, fields-more, Walking, walk-first, walk-again, walk-last}
 use borrow.Author.Needs.{needs}
 use Prim.Native.Nat.{ℕ, _<_}
 use borrow.Fn.Kinds.{In}

@@ -1,5 +1,6 @@
+-- `answer_canonical::carry` meets its contract, by WalkExits.
 use mathlib.Core.Path.{refl}
-use Rattle.answer_canonical.proofs.Walking.{carried}
+use Rattle.answer_canonical.proofs.WalkExits.{carried}
 use borrow.Author.Needs.{needs}
 use Rattle.answer_canonical.proofs.carry.Statement.{statement}
 use Rattle.answer_canonical.proofs.carry.Tie as tie

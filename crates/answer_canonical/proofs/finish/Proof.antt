@@ -1,6 +1,7 @@
+-- `answer_canonical::finish` meets its contract, by WalkExits, answer_types/Types.
 use mathlib.Core.Path.{refl}
 use Rattle.answer_types.proofs.Types.{laid-as}
-use Rattle.answer_canonical.proofs.Walking.{walked, finished}
+use Rattle.answer_canonical.proofs.WalkExits.{walked, finished}
 use borrow.Author.Needs.{needs}
 use Rattle.answer_canonical.proofs.finish.Statement.{statement}
 use Rattle.answer_canonical.proofs.finish.Tie as tie

@@ -1,4 +1,5 @@
-use Rattle.answer_settle.proofs.Finishing.{settled}
+-- `answer_settle::settle` meets its contract, by FinishSettles.
+use Rattle.answer_settle.proofs.FinishSettles.{settled}
 use borrow.Author.Needs.{needs}
 use Rattle.answer_settle.proofs.settle.Statement.{statement}
 use Rattle.answer_settle.proofs.settle.Tie as tie

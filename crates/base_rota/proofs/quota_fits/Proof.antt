@@ -1,4 +1,4 @@
--- `rota::quota_fits`: 0 does not fit, and else 1,000 decides.
+-- `base_rota::quota_fits`: 0 does not fit, and else 1,000 decides.
 use mathlib.Core.Path.{refl}
 use Rattle.base_rota.proofs.Laws.{quota-none, quota-some}
 use Rattle.base_rota.proofs.quota_fits.Statement.{statement}

@@ -1,4 +1,4 @@
--- `rota::rota_fits`: the quotas from the loop's place on decide.
+-- `base_rota::rota_fits`: the quotas from the loop's place on decide.
 use native.Mathlib.Omega.{arith}
 use mathlib.Core.Path.{_≡_}
 use Prim.Native.Nat.{_-_, _≤_}

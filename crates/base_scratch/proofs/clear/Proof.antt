@@ -1,4 +1,4 @@
--- `scratch::clear` meets its contract.
+-- `base_scratch::clear` meets its contract, by Laws.
 use borrow.Author.Needs.{needs}
 use Rattle.base_scratch.specs.Map.{scratchSize}
 use Rattle.base_scratch.proofs.Laws.{wiped-front}

@@ -1,4 +1,4 @@
--- `scratch::load`: outside, the list says 0 too. Assumes nothing.
+-- `base_scratch::load`: outside, the list says 0 too. Assumes nothing.
 use mathlib.Core.Path.{sym}
 use lib.ListN.{List·getD-eq-default}
 use borrow.Author.Needs.{needs}

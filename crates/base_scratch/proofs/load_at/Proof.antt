@@ -1,4 +1,4 @@
--- `scratch::load_at`: a word outside by its number alone is outside.
+-- `base_scratch::load_at`: a word outside by its number alone is outside.
 use mathlib.Core.Path.{sym}
 use native.Mathlib.Omega.{arith}
 use lib.ListN.{List·getD-eq-default}

@@ -1,4 +1,4 @@
--- `scratch::store`: outside, nothing is stored. Assumes nothing.
+-- `base_scratch::store`: outside, nothing is stored. Assumes nothing.
 use mathlib.Core.Path.{sym}
 use lib.Seq.{set-out}
 use borrow.Author.Needs.{needs}

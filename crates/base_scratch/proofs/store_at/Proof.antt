@@ -1,4 +1,4 @@
--- `scratch::store_at`: a word outside by its number alone is outside.
+-- `base_scratch::store_at`: a word outside by its number alone is outside.
 use mathlib.Core.Path.{sym}
 use native.Mathlib.Omega.{arith}
 use lib.Seq.{set-out}

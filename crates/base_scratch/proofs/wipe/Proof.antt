@@ -1,15 +1,15 @@
--- `scratch::wipe` meets its contract.
+-- `base_scratch::wipe` meets its contract, by Laws.
 use borrow.Author.Needs.{needs}
 use native.Mathlib.Omega.{arith}
 use mathlib.Core.Path.{refl}
 use Prim.Native.Nat.{_-_, _≤_}
-use Rattle.base_scratch.specs.Wiped.{Wiped}
+use Rattle.base_scratch.specs.ZeroedWords.{WipePost}
 use Rattle.base_scratch.proofs.Laws.{wiped-none, wiped-more, wiped-all}
 use Rattle.base_scratch.proofs.wipe.Statement.{statement}
 use Rattle.base_scratch.proofs.wipe.Tie as tie
 
 abbrev Inv-loop : tie.InvT-loop
-Inv-loop s₀ a b i₀ s i = Wiped a i s₀ s × (a ≤ i) × (i ≤ b)
+Inv-loop s₀ a b i₀ s i = WipePost a i s₀ s × (a ≤ i) × (i ≤ b)
 
 abbrev μ-loop : tie.MeasureT-loop
 μ-loop s₀ a b i₀ s i = b - i

@@ -1,3 +1,4 @@
+-- `base_syntax::choose` meets its contract, by base_signed/SignedWords.
 use mathlib.Core.Path.{_≡_, sym, ap, _∙_}
 use mathlib.Core.Bool.{Bool}
 use lib.IntN.{ℤ}
@@ -5,8 +6,8 @@ use mir.Syntax.{w64}
 use mir.Val.{SFits, ofZ}
 use mir.Facts.{toZ-ofZ, sfits-lit}
 use Rattle.spec_calculus.specs.Lists.{pick}
-use Rattle.base_signed.proofs.Word.{eq-yes, eq-no}
-use Rattle.base_syntax.specs.Word.{noneWord, chosen}
+use Rattle.base_signed.proofs.SignedWords.{eq-yes, eq-no}
+use Rattle.base_syntax.specs.MonoidWord.{noneWord, chosen}
 use Rattle.base_syntax.proofs.choose.Statement.{statement}
 use Rattle.base_syntax.proofs.choose.Tie as tie
 

@@ -1,4 +1,4 @@
--- `tables::byte_at`: a byte outside reads as 0. Assumes nothing.
+-- `base_tables::byte_at`: a byte outside reads as 0. Assumes nothing.
 use mathlib.Core.Path.{sym}
 use native.Mathlib.Omega.{arith}
 use lib.ListN.{List·getD-eq-default}

@@ -1,7 +1,7 @@
--- `tables::cell`: each way out is one of `cellIn`'s. Assumes nothing.
+-- `base_tables::cell`: each way out is one of `cellIn`'s. Assumes nothing.
 use mir.Facts.{toZ-ofZ}
-use Rattle.base_signed.proofs.Word.{fits}
-use Rattle.base_tables.proofs.Readers.{cell-below, cell-beside, cell-inside}
+use Rattle.base_signed.proofs.SignedWords.{fits}
+use Rattle.base_tables.proofs.ByteReaders.{cell-below, cell-beside, cell-inside}
 use borrow.Author.Needs.{needs}
 use Rattle.base_tables.proofs.cell.Statement.{statement}
 use Rattle.base_tables.proofs.cell.Tie as tie

@@ -1,7 +1,7 @@
--- `tables::cells`: the product is small. Assumes nothing.
+-- `base_tables::cells`: the product is small. Assumes nothing.
 use mathlib.Core.Path.{refl}
 use native.Mathlib.Omega.{arith}
-use Rattle.base_tables.proofs.Readers.{few}
+use Rattle.base_tables.proofs.ByteReaders.{few}
 use Rattle.base_tables.proofs.cells.Statement.{statement}
 use Rattle.base_tables.proofs.cells.Tie as tie
 

@@ -1,5 +1,5 @@
--- `tables::describe` packs the description. Assumes nothing.
-use Rattle.base_tables.proofs.Readers.{describes}
+-- `base_tables::describe` packs the description. Assumes nothing.
+use Rattle.base_tables.proofs.ByteReaders.{describes}
 use borrow.Author.Needs.{needs}
 use Rattle.base_tables.proofs.describe.Statement.{statement}
 use Rattle.base_tables.proofs.describe.Tie as tie

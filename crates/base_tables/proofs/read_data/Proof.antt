@@ -1,9 +1,9 @@
--- `tables::read_data`. The loop's invariant is `Going`; the measure, the bytes that are left. Assumes nothing.
+-- `base_tables::read_data`. The loop's invariant is `Going`; the measure, the bytes that are left. Assumes nothing.
 use Prim.Native.Nat.{_-_}
 use native.Mathlib.Omega.{arith}
 use mathlib.Core.Path.{sym, _∙_}
 use lib.ListN.{length}
-use Rattle.base_tables.proofs.Loop.{Going, going-first, going-ninth, going-refused, going-falls, going-next, going-ended}
+use Rattle.base_tables.proofs.ReadLoop.{Going, going-first, going-ninth, going-refused, going-falls, going-next, going-ended}
 use borrow.Author.Needs.{needs}
 use Rattle.base_tables.proofs.read_data.Statement.{statement}
 use Rattle.base_tables.proofs.read_data.Tie as tie

@@ -1,6 +1,6 @@
--- `tables::read_header`: each way out gives what `headerAt` does. Assumes nothing.
+-- `base_tables::read_header`: each way out gives what `headerAt` does. Assumes nothing.
 use native.Mathlib.Omega.{arith}
-use Rattle.base_tables.proofs.Readers.{header-bad, header-good}
+use Rattle.base_tables.proofs.ByteReaders.{header-bad, header-good}
 use borrow.Author.Needs.{needs}
 use Rattle.base_tables.proofs.read_header.Statement.{statement}
 use Rattle.base_tables.proofs.read_header.Tie as tie

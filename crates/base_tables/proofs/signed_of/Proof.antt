@@ -1,5 +1,5 @@
--- `tables::signed_of`: the upper half of the words are the negative numbers. Assumes nothing.
-use Rattle.base_tables.proofs.Readers.{low, high, high-ok}
+-- `base_tables::signed_of`: the upper half of the words are the negative numbers. Assumes nothing.
+use Rattle.base_tables.proofs.ByteReaders.{low, high, high-ok}
 use borrow.Author.Needs.{needs}
 use Rattle.base_tables.proofs.signed_of.Statement.{statement}
 use Rattle.base_tables.proofs.signed_of.Tie as tie

@@ -1,6 +1,6 @@
--- `tables::table_at`: each way out is one of `tableAt`'s. Assumes nothing.
+-- `base_tables::table_at`: each way out is one of `tableAt`'s. Assumes nothing.
 use native.Mathlib.Omega.{arith}
-use Rattle.base_tables.proofs.Readers.{table-bad, table-within, table-unfit, table-is}
+use Rattle.base_tables.proofs.ByteReaders.{table-bad, table-within, table-unfit, table-is}
 use borrow.Author.Needs.{needs}
 use Rattle.base_tables.proofs.table_at.Statement.{statement}
 use Rattle.base_tables.proofs.table_at.Tie as tie

@@ -1,6 +1,6 @@
--- `tables::well_formed`: each way out is one of `fits`'s tests. Assumes nothing.
+-- `base_tables::well_formed`: each way out is one of `fits`'s tests. Assumes nothing.
 use native.Mathlib.Omega.{arith}
-use Rattle.base_tables.proofs.Readers.{unfit, fits-length}
+use Rattle.base_tables.proofs.ByteReaders.{unfit, fits-length}
 use borrow.Author.Needs.{needs}
 use Rattle.base_tables.proofs.well_formed.Statement.{statement}
 use Rattle.base_tables.proofs.well_formed.Tie as tie

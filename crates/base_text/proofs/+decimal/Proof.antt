@@ -1,5 +1,6 @@
+-- `base_text::decimal` meets its contract, by Decimals.
 use native.Mathlib.Omega.{arith}
-use Rattle.base_text.proofs.Numbers.{decimal-one, decimal-more}
+use Rattle.base_text.proofs.Decimals.{decimal-one, decimal-more}
 use borrow.Author.Needs.{needs}
 use Prim.Native.Nat.{ℕ, _<_}
 use borrow.Fn.Kinds.{In}

@@ -1,4 +1,5 @@
-use Rattle.base_text.proofs.Laying.{laid-in, laid-limit, laid-past}
+-- `base_text::lay` meets its contract, by LaidText.
+use Rattle.base_text.proofs.LaidText.{laid-in, laid-limit, laid-past}
 use borrow.Author.Needs.{needs}
 use Rattle.base_text.proofs.lay.Statement.{statement}
 use Rattle.base_text.proofs.lay.Tie as tie

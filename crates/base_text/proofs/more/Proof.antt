@@ -1,4 +1,5 @@
-use Rattle.base_text.proofs.Laying.{bump-more, bump-full}
+-- `base_text::more` meets its contract, by LaidText.
+use Rattle.base_text.proofs.LaidText.{bump-more, bump-full}
 use borrow.Author.Needs.{needs}
 use Rattle.base_text.proofs.more.Statement.{statement}
 use Rattle.base_text.proofs.more.Tie as tie

@@ -1,4 +1,5 @@
-use Rattle.base_text.proofs.Laying.{lays-put}
+-- `base_text::put` meets its contract, by LaidText.
+use Rattle.base_text.proofs.LaidText.{lays-put}
 use borrow.Author.Needs.{needs}
 use Rattle.base_text.proofs.put.Statement.{statement}
 use Rattle.base_text.proofs.put.Tie as tie

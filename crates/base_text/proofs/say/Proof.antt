@@ -1,8 +1,9 @@
+-- `base_text::say` meets its contract, by LaidText.
 use mathlib.Core.Path.{_≡_, refl, _∙_}
 use Prim.Native.Nat.{_-_}
 use lib.ListN.{length, take}
-use Rattle.base_text.specs.Laying.{Lays}
-use Rattle.base_text.proofs.Laying.{lays-nil, said-more, said-all}
+use Rattle.base_text.specs.LaidText.{Lays}
+use Rattle.base_text.proofs.LaidText.{lays-nil, said-more, said-all}
 use borrow.Author.Needs.{needs}
 use Rattle.base_text.proofs.say.Statement.{statement}
 use Rattle.base_text.proofs.say.Tie as tie

@@ -1,10 +1,11 @@
+-- `base_text::signed` meets its contract, by Decimals, base_signed/SignedWords.
 use mathlib.Core.Path.{ap, _∙_}
 use lib.Dec.{lit<}
 use lib.IntN.{natAbs}
 use mir.Facts.{toZ-ofZ}
 use Rattle.spec_plan.specs.Lines.{ascii}
-use Rattle.base_signed.proofs.Word.{fits, lt-is}
-use Rattle.base_text.proofs.Numbers.{signed-minus, signed-plus}
+use Rattle.base_signed.proofs.SignedWords.{fits, lt-is}
+use Rattle.base_text.proofs.Decimals.{signed-minus, signed-plus}
 use borrow.Author.Needs.{needs}
 use Rattle.base_text.proofs.signed.Statement.{statement}
 use Rattle.base_text.proofs.signed.Tie as tie

@@ -1,6 +1,6 @@
 -- `answer_line`: its three parts. Assumes nothing.
 use Rattle.spec_plan.specs.Lines.{ascii}
-use Rattle.desk_text.proofs.Lines.{answer-is, answer-most}
+use Rattle.desk_text.proofs.DeskLines.{answer-is, answer-most}
 use borrow.Author.Needs.{needs}
 use Rattle.desk_text.proofs.answer_line.Statement.{statement}
 use Rattle.desk_text.proofs.answer_line.Tie as tie

@@ -3,7 +3,7 @@ use mathlib.Core.Path.{refl, sym}
 use native.Mathlib.Omega.{arith}
 use lib.Seq.{length-take-le}
 use Rattle.spec_plan.specs.Lines.{ascii}
-use Rattle.desk_text.proofs.Left.{left-long, left-asks}
+use Rattle.desk_text.proofs.LentBuffers.{left-long, left-asks}
 use Rattle.desk_text.proofs.Replies.{prints-counts, desk-long, desk-asks}
 use borrow.Author.Needs.{needs}
 use Rattle.desk_text.proofs.printout.Statement.{statement}

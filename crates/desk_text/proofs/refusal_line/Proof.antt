@@ -1,6 +1,6 @@
 -- `refusal_line`: its three parts. Assumes nothing.
 use Rattle.spec_plan.specs.Lines.{ascii}
-use Rattle.desk_text.proofs.Lines.{refusal-is}
+use Rattle.desk_text.proofs.DeskLines.{refusal-is}
 use borrow.Author.Needs.{needs}
 use Rattle.desk_text.proofs.refusal_line.Statement.{statement}
 use Rattle.desk_text.proofs.refusal_line.Tie as tie

@@ -5,7 +5,7 @@ use native.Mathlib.Omega.{arith}
 use lib.ListN.{length}
 use lib.Seq.{length-take-le}
 use Rattle.base_scratch.specs.Map.{scratchSize}
-use Rattle.desk_text.proofs.Left.{answer-clears, plan-clears}
+use Rattle.desk_text.proofs.LentBuffers.{answer-clears, plan-clears}
 use Rattle.desk_text.proofs.Replies.{refuses, answers, prints-refusal, prints-answer}
 use borrow.Author.Needs.{needs}
 use Rattle.desk_text.proofs.reply.Statement.{statement}

@@ -4,12 +4,12 @@ use Prim.Native.Nat.{_-_, _*_, _≤_}
 use native.Mathlib.Omega.{arith}
 use lib.ListN.{length, take}
 use mir.Facts.{toZ-ofZ}
-use Rattle.base_signed.proofs.Word.{fits}
+use Rattle.base_signed.proofs.SignedWords.{fits}
 use Rattle.spec_plan.specs.Lines.{ascii, signedDecimal}
-use Rattle.base_text.specs.Laying.{Lays}
-use Rattle.base_text.proofs.Laying.{lays-nil, lays-as}
+use Rattle.base_text.specs.LaidText.{Lays}
+use Rattle.base_text.proofs.LaidText.{lays-nil, lays-as}
 use Rattle.spec_desk.specs.Desk.{spaced}
-use Rattle.desk_text.proofs.Lines.{spaced-more, spaced-all, spaced-longer, spaced-most}
+use Rattle.desk_text.proofs.DeskLines.{spaced-more, spaced-all, spaced-longer, spaced-most}
 use borrow.Author.Needs.{needs}
 use Rattle.desk_text.proofs.spaced_words.Statement.{statement}
 use Rattle.desk_text.proofs.spaced_words.Tie as tie

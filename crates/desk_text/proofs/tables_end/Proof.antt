@@ -2,7 +2,7 @@
 use Prim.Native.Nat.{_-_}
 use native.Mathlib.Omega.{arith}
 use lib.ListN.{length}
-use Rattle.desk_text.proofs.Split.{Past, past-none, past-all, past-bad, past-more, record-room}
+use Rattle.desk_text.proofs.TablesEnd.{Past, past-none, past-all, past-bad, past-more, record-room}
 use borrow.Author.Needs.{needs}
 use Rattle.desk_text.proofs.tables_end.Statement.{statement}
 use Rattle.desk_text.proofs.tables_end.Tie as tie

@@ -1,3 +1,4 @@
+-- `engine::dislogha_answer_by_loops` meets its contract, by Calls.
 use Rattle.spec_outcome.specs.Outcome.{looped, byLoops}
 use Rattle.engine.proofs.Calls.{room-refused, asked, room-answered, answer-scant, answer-refused, answer-given}
 use borrow.Author.Needs.{needs}

@@ -1,3 +1,4 @@
+-- `engine::dislogha_answer_by_plan` meets its contract, by Calls.
 use Rattle.engine.proofs.Calls.{room-refused, asked, room-answered, answer-scant, answer-refused, answer-given}
 use Rattle.spec_outcome.specs.Outcome.{planned, byPlan}
 use borrow.Author.Needs.{needs}

@@ -1,3 +1,4 @@
+-- `engine::dislogha_begin` meets its contract, by Calls, PortionCalls.
 use mathlib.Core.Path.{refl}
 use Rattle.engine.proofs.Calls.{room-refused}
 use Rattle.engine.proofs.PortionCalls.{begin-scant, begin-refused, begin-accepted}

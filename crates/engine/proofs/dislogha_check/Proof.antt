@@ -1,3 +1,4 @@
+-- `engine::dislogha_check` meets its contract, by Calls.
 use Rattle.engine.proofs.Calls.{room-refused, room-accepted, check-scant, check-refused, check-accepted}
 use borrow.Author.Needs.{needs}
 use Rattle.engine.proofs.dislogha_check.Statement.{statement}

@@ -1,3 +1,4 @@
+-- `engine::dislogha_plan_lines` meets its contract, by Calls.
 use native.Mathlib.Omega.{arith}
 use Rattle.engine.proofs.Calls.{room-refused, room-accepted, lines-scant, lines-refused, lines-given}
 use Rattle.spec_outcome.specs.Outcome.{planLines}

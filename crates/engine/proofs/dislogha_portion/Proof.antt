@@ -1,3 +1,4 @@
+-- `engine::dislogha_portion` meets its contract, by PortionCalls.
 use native.Mathlib.Omega.{arith}
 use mathlib.Core.Path.{refl}
 use Rattle.engine.proofs.PortionCalls.{no-rows, many-rows, scant-scratch, portion-refused, portion-nothing, portion-on, portion-short, portion-full}

@@ -1,6 +1,7 @@
+-- `form_arith::negated` meets its contract, by Exits, base_signed/SignedWords.
 use mir.Facts.{toZ-ofZ}
-use Rattle.base_signed.proofs.Word.{fits}
-use Rattle.form_arith.proofs.Leaves.{negated-is}
+use Rattle.base_signed.proofs.SignedWords.{fits}
+use Rattle.form_arith.proofs.Exits.{negated-is}
 use borrow.Author.Needs.{needs}
 use Rattle.form_arith.proofs.negated.Statement.{statement}
 use Rattle.form_arith.proofs.negated.Tie as tie

@@ -1,5 +1,6 @@
+-- `form_arith::truth_word` meets its contract.
 use mathlib.Core.Path.{sym, ap}
-use Rattle.form_arith.specs.Sorts.{truthWord}
+use Rattle.form_arith.specs.WordSorts.{truthWord}
 use Rattle.form_arith.proofs.truth_word.Statement.{statement}
 use Rattle.form_arith.proofs.truth_word.Tie as tie
 

@@ -1,5 +1,6 @@
+-- `form_guarded::bounded` meets its contract, by Exits.
 use Rattle.spec_normal_form.specs.Bound.{binBound}
-use Rattle.form_guarded.proofs.Laws.{bound-by}
+use Rattle.form_guarded.proofs.Exits.{bound-by}
 use mathlib.Core.Path.{refl}
 use borrow.Author.Needs.{needs}
 use Rattle.form_guarded.proofs.bounded.Statement.{statement}

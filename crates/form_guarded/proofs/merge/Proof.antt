@@ -1,6 +1,7 @@
-use Rattle.form_guarded.proofs.Laws.{merge-ready, merge-none, merged}
+-- `form_guarded::merge` meets its contract, by Exits, base_signed/SignedWords.
+use Rattle.form_guarded.proofs.Exits.{merge-ready, merge-none, merged}
 use mir.Facts.{toZ-ofZ}
-use Rattle.base_signed.proofs.Word.{fits}
+use Rattle.base_signed.proofs.SignedWords.{fits}
 use borrow.Author.Needs.{needs}
 use Rattle.form_guarded.proofs.merge.Statement.{statement}
 use Rattle.form_guarded.proofs.merge.Tie as tie

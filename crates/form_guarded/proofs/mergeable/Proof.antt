@@ -1,4 +1,5 @@
-use Rattle.form_guarded.proofs.Laws.{room-by}
+-- `form_guarded::mergeable` meets its contract, by Exits.
+use Rattle.form_guarded.proofs.Exits.{room-by}
 use mathlib.Core.Path.{refl}
 use borrow.Author.Needs.{needs}
 use Rattle.form_guarded.proofs.mergeable.Statement.{statement}

@@ -1,6 +1,7 @@
-use Rattle.form_guarded.proofs.Laws.{operate-ready, operate-none, operated}
+-- `form_guarded::operate` meets its contract, by Exits, base_signed/SignedWords.
+use Rattle.form_guarded.proofs.Exits.{operate-ready, operate-none, operated}
 use mir.Facts.{toZ-ofZ}
-use Rattle.base_signed.proofs.Word.{fits}
+use Rattle.base_signed.proofs.SignedWords.{fits}
 use borrow.Author.Needs.{needs}
 use Rattle.form_guarded.proofs.operate.Statement.{statement}
 use Rattle.form_guarded.proofs.operate.Tie as tie

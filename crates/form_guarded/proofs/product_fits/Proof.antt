@@ -1,4 +1,5 @@
-use Rattle.form_guarded.proofs.Laws.{product-small, product-none, product-near}
+-- `form_guarded::product_fits` meets its contract, by Exits.
+use Rattle.form_guarded.proofs.Exits.{product-small, product-none, product-near}
 use borrow.Author.Needs.{needs}
 use Rattle.form_guarded.proofs.product_fits.Statement.{statement}
 use Rattle.form_guarded.proofs.product_fits.Tie as tie

@@ -1,4 +1,5 @@
-use Rattle.form_guarded.proofs.Laws.{sum-far, sum-near}
+-- `form_guarded::sum_fits` meets its contract, by Exits.
+use Rattle.form_guarded.proofs.Exits.{sum-far, sum-near}
 use borrow.Author.Needs.{needs}
 use Rattle.form_guarded.proofs.sum_fits.Statement.{statement}
 use Rattle.form_guarded.proofs.sum_fits.Tie as tie

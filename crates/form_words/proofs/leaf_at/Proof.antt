@@ -1,9 +1,10 @@
+-- `form_words::leaf_at` meets its contract, by NodeWords, base_signed/SignedWords.
 use borrow.Author.Needs.{needs}
 use mathlib.Core.Path.{_∙_}
 use native.Mathlib.Omega.{arith}
 use mir.Facts.{toZ-ofZ}
-use Rattle.base_signed.proofs.Word.{fits}
-use Rattle.form_words.proofs.Laws.{leaf-out, leaf-number, leaf-cell, leaf-rest}
+use Rattle.base_signed.proofs.SignedWords.{fits}
+use Rattle.form_words.proofs.NodeWords.{leaf-out, leaf-number, leaf-cell, leaf-rest}
 use Rattle.form_words.proofs.leaf_at.Statement.{statement}
 use Rattle.form_words.proofs.leaf_at.Tie as tie
 

@@ -1,9 +1,10 @@
+-- `form_words::look` meets its contract, by NodeWords, base_signed/SignedWords.
 use borrow.Author.Needs.{needs}
 use mathlib.Core.Path.{refl, _∙_}
 use native.Mathlib.Omega.{arith}
 use mir.Facts.{toZ-ofZ}
-use Rattle.base_signed.proofs.Word.{fits}
-use Rattle.form_words.proofs.Laws.{look-out, look-number, look-truth, look-row, look-cell, look-record, look-binary, look-negation, look-comprehension, look-generator, look-condition, look-rest}
+use Rattle.base_signed.proofs.SignedWords.{fits}
+use Rattle.form_words.proofs.NodeWords.{look-out, look-number, look-truth, look-row, look-cell, look-record, look-binary, look-negation, look-comprehension, look-generator, look-condition, look-rest}
 use Rattle.form_words.proofs.look.Statement.{statement}
 use Rattle.form_words.proofs.look.Tie as tie
 

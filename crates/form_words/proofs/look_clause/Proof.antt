@@ -1,5 +1,6 @@
+-- `form_words::look_clause` meets its contract, by NodeWords.
 use borrow.Author.Needs.{needs}
-use Rattle.form_words.proofs.Laws.{clause-out, clause-generator, clause-condition, clause-head}
+use Rattle.form_words.proofs.NodeWords.{clause-out, clause-generator, clause-condition, clause-head}
 use Rattle.form_words.proofs.look_clause.Statement.{statement}
 use Rattle.form_words.proofs.look_clause.Tie as tie
 

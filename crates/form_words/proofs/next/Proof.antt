@@ -1,5 +1,6 @@
+-- `form_words::next` meets its contract, by NodeWords.
 use borrow.Author.Needs.{needs}
-use Rattle.form_words.proofs.Laws.{next-out, next-in, next-cut}
+use Rattle.form_words.proofs.NodeWords.{next-out, next-in, next-cut}
 use Rattle.form_words.proofs.next.Statement.{statement}
 use Rattle.form_words.proofs.next.Tie as tie
 

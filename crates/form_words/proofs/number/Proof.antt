@@ -1,5 +1,6 @@
+-- `form_words::number` meets its contract, by NodeWords.
 use borrow.Author.Needs.{needs}
-use Rattle.form_words.proofs.Laws.{number-ok, number-is}
+use Rattle.form_words.proofs.NodeWords.{number-ok, number-is}
 use Rattle.form_words.proofs.number.Statement.{statement}
 use Rattle.form_words.proofs.number.Tie as tie
 

@@ -1,12 +1,13 @@
+-- `front_bounds`: `clauses_size`, `form_size` and `record_fits` meet their contracts together, by CutBounds, base_signed/SignedWords, form_words/NodeWords.
 use borrow.Author.Needs.{needs}
 use native.Mathlib.Omega.{arith}
 use mathlib.Core.Path.{refl}
 use Prim.Native.Nat.{_+_, ℕ, _<_}
 use mir.Facts.{toZ-ofZ}
-use Rattle.base_signed.proofs.Word.{fits}
-use Rattle.form_words.specs.Tree.{left}
-use Rattle.form_words.proofs.Laws.{recast, recastC, next-past}
-use Rattle.front_bounds.proofs.Laws.{small-number, size-number, size-truth, size-row, size-cell, size-record, size-binary, size-negation, size-comprehension, size-generator, size-condition, size-nothing, clauses-generator, clauses-condition, clauses-head, fields-end, fields-more}
+use Rattle.base_signed.proofs.SignedWords.{fits}
+use Rattle.form_words.specs.FormTree.{left}
+use Rattle.form_words.proofs.NodeWords.{recast, recastC, next-past}
+use Rattle.front_bounds.proofs.CutBounds.{small-number, size-number, size-truth, size-row, size-cell, size-record, size-binary, size-negation, size-comprehension, size-generator, size-condition, size-nothing, clauses-generator, clauses-condition, clauses-head, fields-end, fields-more}
 use borrow.Fn.Kinds.{In}
 use borrow.Fn.PlainCycle.{Measures, is, falls, and}
 use Rattle.front_bounds.proofs.clauses_size.Reads as clauses-size

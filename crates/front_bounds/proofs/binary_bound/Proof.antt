@@ -1,10 +1,11 @@
+-- `front_bounds::binary_bound` meets its contract.
 use borrow.Author.Needs.{needs}
 use mathlib.Core.Path.{_≡_, refl, sym, ap, _∙_}
 use Prim.Native.Nat.{ℕ}
 use Rattle.spec_normal_form.specs.Bound.{binBound}
 use Rattle.base_syntax.specs.declared.Op.{Op}
 use Rattle.base_syntax.specs.Numbers.{binOf}
-use Rattle.front_bounds.specs.Size.{cut}
+use Rattle.front_bounds.specs.CutBounds.{cut}
 use Rattle.front_bounds.proofs.binary_bound.Statement.{statement}
 use Rattle.front_bounds.proofs.binary_bound.Tie as tie
 

@@ -1,5 +1,6 @@
+-- `front_bounds::bound_fits` meets its contract, by CutBounds.
 use borrow.Author.Needs.{needs}
-use Rattle.front_bounds.proofs.Laws.{verdict}
+use Rattle.front_bounds.proofs.CutBounds.{verdict}
 use Rattle.front_bounds.proofs.bound_fits.Statement.{statement}
 use Rattle.front_bounds.proofs.bound_fits.Tie as tie
 

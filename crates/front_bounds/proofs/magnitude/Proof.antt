@@ -1,6 +1,7 @@
+-- `front_bounds::magnitude` meets its contract, by base_signed/SignedWords.
 use borrow.Author.Needs.{needs}
 use native.Mathlib.Omega.{arith}
-use Rattle.base_signed.proofs.Word.{negative-ok, negative-cast, negative-is, positive-cast}
+use Rattle.base_signed.proofs.SignedWords.{negative-ok, negative-cast, negative-is, positive-cast}
 use Rattle.front_bounds.proofs.magnitude.Statement.{statement}
 use Rattle.front_bounds.proofs.magnitude.Tie as tie
 

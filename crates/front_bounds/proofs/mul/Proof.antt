@@ -1,6 +1,7 @@
+-- `front_bounds::mul` meets its contract, by CutBounds.
 use borrow.Author.Needs.{needs}
 use native.Mathlib.Omega.{arith}
-use Rattle.front_bounds.proofs.Laws.{mul-in, product-none, product-in, product-over}
+use Rattle.front_bounds.proofs.CutBounds.{mul-in, product-none, product-in, product-over}
 use Rattle.front_bounds.proofs.mul.Statement.{statement}
 use Rattle.front_bounds.proofs.mul.Tie as tie
 

@@ -1,9 +1,10 @@
+-- `front_bounds::per_generator` meets its contract.
 use borrow.Author.Needs.{needs}
 use mathlib.Core.Path.{_≡_, refl, sym, ap, _∙_}
 use Prim.Native.Nat.{ℕ}
 use Rattle.base_syntax.specs.declared.Monoid.{Monoid}
-use Rattle.base_syntax.specs.Word.{monoidOf}
-use Rattle.front_bounds.specs.Size.{perGenerator}
+use Rattle.base_syntax.specs.MonoidWord.{monoidOf}
+use Rattle.front_bounds.specs.CutBounds.{perGenerator}
 use Rattle.front_bounds.proofs.per_generator.Statement.{statement}
 use Rattle.front_bounds.proofs.per_generator.Tie as tie
 

@@ -1,15 +1,16 @@
+-- `front_emit`: `binary`, `clause`, `comprehension`, `copied`, `emit`, `fields`, `negated`, `placed`, `qualifier`, `qualifiers`, `recorded`, `single` and `source` meet their contracts together, by WriterExits, TermCalls, QualifierCalls, ConditionCalls.
 use native.Mathlib.Omega.{arith}
 use mathlib.Core.Path.{_≡_, refl, _∙_}
 use lib.ListN.{length}
 use Prim.Native.Nat.{_+_, _-_, _*_, ℕ, _<_}
-use Rattle.front_nodes.proofs.Laws.{recast, looked-inside}
+use Rattle.front_nodes.proofs.ReaderExits.{recast, looked-inside}
 use Rattle.front_resolve.specs.Place.{under}
-use Rattle.front_resolve.proofs.Laws.{picks-cast}
-use Rattle.front_emit.proofs.Done.{moved, movedF, movedQ, one-done, qual-source, qual-condition}
-use Rattle.front_emit.proofs.Terms.{term-place, term-done, has-place, two-below, not-below, comp-below, ends, ends-later, two-first, two-second, two-done, not-first, not-done, record-first, record-done, field-first, FieldsLeft, left-all, left-none, left-less, one-has-place, one-first}
-use Rattle.front_emit.proofs.Copies.{copy-ok, copy-starts, copy-done, comp-first, comp-second, comp-written, quals-end, quals-first, quals-second, quals-written, qual-skipped, qual-silent, qual-source-first, qual-condition-first}
-use Rattle.front_emit.proofs.Conditions.{source-comp, source-table, source-never, spliced-written, table-written, never-written, single-starts, both-first, some-first, split-cast, yields-starts, ClauseLeft, left-first, left-source, left-sourced, left-condition, left-one, left-and, left-some}
-use Rattle.front_emit.proofs.Leaves.{simple-starts, simple-written}
+use Rattle.front_resolve.proofs.Exits.{picks-cast}
+use Rattle.front_emit.proofs.WriterExits.{moved, movedF, movedQ, one-done, qual-source, qual-condition}
+use Rattle.front_emit.proofs.TermCalls.{term-place, term-done, has-place, two-below, not-below, comp-below, ends, ends-later, two-first, two-second, two-done, not-first, not-done, record-first, record-done, field-first, FieldsLeft, left-all, left-none, left-less, one-has-place, one-first}
+use Rattle.front_emit.proofs.QualifierCalls.{copy-ok, copy-starts, copy-done, comp-first, comp-second, comp-written, quals-end, quals-first, quals-second, quals-written, qual-skipped, qual-silent, qual-source-first, qual-condition-first}
+use Rattle.front_emit.proofs.ConditionCalls.{source-comp, source-table, source-never, spliced-written, table-written, never-written, single-starts, both-first, some-first, split-cast, yields-starts, ClauseLeft, left-first, left-source, left-sourced, left-condition, left-one, left-and, left-some}
+use Rattle.front_emit.proofs.LeafForms.{simple-starts, simple-written}
 use borrow.Author.Needs.{needs}
 use Prim.Native.Nat.{ℕ, _<_}
 use borrow.Fn.Kinds.{In}

@@ -1,7 +1,8 @@
+-- `front_emit::collection_number` meets its contract, by SmallFunctions.
 use borrow.Author.Needs.{needs}
 use native.Mathlib.Omega.{arith}
 use mathlib.Core.Path.{_∙_, ap, sym}
-use Rattle.front_emit.proofs.Small.{numberBy, no-such-table, not-described, not-read, described, number-list}
+use Rattle.front_emit.proofs.SmallFunctions.{numberBy, no-such-table, not-described, not-read, described, number-list}
 use Rattle.front_emit.proofs.collection_number.Statement.{statement}
 use Rattle.front_emit.proofs.collection_number.Tie as tie
 

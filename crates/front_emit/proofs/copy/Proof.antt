@@ -1,4 +1,5 @@
-use Rattle.front_emit.proofs.Small.{copy-is}
+-- `front_emit::copy` meets its contract, by SmallFunctions.
+use Rattle.front_emit.proofs.SmallFunctions.{copy-is}
 use borrow.Author.Needs.{needs}
 use Rattle.front_emit.proofs.copy.Statement.{statement}
 use Rattle.front_emit.proofs.copy.Tie as tie

@@ -1,3 +1,4 @@
+-- `front_emit::generator` meets its contract.
 use borrow.Author.Needs.{needs}
 use mathlib.Core.Path.{refl}
 use Rattle.front_emit.proofs.generator.Statement.{statement}

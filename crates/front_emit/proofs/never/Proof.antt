@@ -1,6 +1,7 @@
+-- `front_emit::never` meets its contract, by WriterExits.
 use borrow.Author.Needs.{needs}
 use native.Mathlib.Omega.{arith}
-use Rattle.front_emit.proofs.Done.{behind-place, never-done}
+use Rattle.front_emit.proofs.WriterExits.{behind-place, never-done}
 use Rattle.front_emit.proofs.never.Statement.{statement}
 use Rattle.front_emit.proofs.never.Tie as tie
 

@@ -1,6 +1,7 @@
+-- `front_emit::simple` meets its contract, by LeafForms.
 use borrow.Author.Needs.{needs}
 use native.Mathlib.Omega.{arith}
-use Rattle.front_emit.proofs.Leaves.{one-place, cell-small, row-small, table-starts, simple-number, simple-truth, simple-row, simple-cell, simple-table, simple-rest}
+use Rattle.front_emit.proofs.LeafForms.{one-place, cell-small, row-small, table-starts, simple-number, simple-truth, simple-row, simple-cell, simple-table, simple-rest}
 use Rattle.front_emit.proofs.simple.Statement.{statement}
 use Rattle.front_emit.proofs.simple.Tie as tie
 

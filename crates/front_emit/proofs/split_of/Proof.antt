@@ -1,5 +1,6 @@
+-- `front_emit::split_of` meets its contract, by SmallFunctions.
 use borrow.Author.Needs.{needs}
-use Rattle.front_emit.proofs.Small.{split-rest, split-and, split-binary, split-some, split-stays, split-comp}
+use Rattle.front_emit.proofs.SmallFunctions.{split-rest, split-and, split-binary, split-some, split-stays, split-comp}
 use Rattle.front_emit.proofs.split_of.Statement.{statement}
 use Rattle.front_emit.proofs.split_of.Tie as tie
 

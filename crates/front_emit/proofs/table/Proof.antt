@@ -1,8 +1,9 @@
+-- `front_emit::table` meets its contract, by TermCalls, WriterExits.
 use borrow.Author.Needs.{needs}
 use native.Mathlib.Omega.{arith}
-use Rattle.front_emit.specs.Start.{collections}
-use Rattle.front_emit.proofs.Terms.{room-less}
-use Rattle.front_emit.proofs.Done.{behind-place, numbered-place, room-behind, closes-arg, table-done}
+use Rattle.front_emit.specs.WriterStart.{collections}
+use Rattle.front_emit.proofs.TermCalls.{room-less}
+use Rattle.front_emit.proofs.WriterExits.{behind-place, numbered-place, room-behind, closes-arg, table-done}
 use Rattle.front_emit.proofs.table.Statement.{statement}
 use Rattle.front_emit.proofs.table.Tie as tie
 

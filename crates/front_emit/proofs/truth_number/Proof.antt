@@ -1,8 +1,9 @@
+-- `front_emit::truth_number` meets its contract, by SmallFunctions.
 use Prim.Native.Nat.{_<_}
 use mathlib.Core.Bool.{true, false}
 use native.Mathlib.Omega.{arith}
 use Rattle.spec_calculus.specs.Lists.{pick}
-use Rattle.front_emit.proofs.Small.{truth-is}
+use Rattle.front_emit.proofs.SmallFunctions.{truth-is}
 use Rattle.front_emit.proofs.truth_number.Statement.{statement}
 use Rattle.front_emit.proofs.truth_number.Tie as tie
 

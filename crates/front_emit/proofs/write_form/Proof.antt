@@ -1,7 +1,8 @@
+-- `front_emit::write_form` meets its contract, by FormInScratch.
 use borrow.Author.Needs.{needs}
 use mathlib.Core.Path.{refl}
 use lib.ListN.{replicate}
-use Rattle.front_emit.proofs.Held.{whole-starts, whole-done}
+use Rattle.front_emit.proofs.FormInScratch.{whole-starts, whole-done}
 use Rattle.front_emit.proofs.write_form.Statement.{statement}
 use Rattle.front_emit.proofs.write_form.Tie as tie
 

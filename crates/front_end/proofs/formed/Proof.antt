@@ -1,6 +1,6 @@
--- `front::formed` meets its contract.
-use Rattle.front_end.proofs.Outs.{off, on}
-use Rattle.front_end.proofs.Behind.{bound-over, all-pass}
+-- `front_end::formed` meets its contract, by Exits, PrepareExits.
+use Rattle.front_end.proofs.Exits.{off, on}
+use Rattle.front_end.proofs.PrepareExits.{bound-over, all-pass}
 use borrow.Author.Needs.{needs}
 use Rattle.front_end.proofs.formed.Statement.{statement}
 use Rattle.front_end.proofs.formed.Tie as tie

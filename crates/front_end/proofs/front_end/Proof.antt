@@ -1,5 +1,5 @@
--- `front::front_end` meets its contract.
-use Rattle.front_end.proofs.Outs.{data-wrong, question-few, question-wrong, question-right}
+-- `front_end::front_end` meets its contract, by Exits.
+use Rattle.front_end.proofs.Exits.{data-wrong, question-few, question-wrong, question-right}
 use borrow.Author.Needs.{needs}
 use Rattle.front_end.proofs.front_end.Statement.{statement}
 use Rattle.front_end.proofs.front_end.Tie as tie

@@ -1,5 +1,5 @@
--- `front::judged` meets its contract.
-use Rattle.front_end.proofs.Outs.{off, on, names-wrong, names-right}
+-- `front_end::judged` meets its contract, by Exits.
+use Rattle.front_end.proofs.Exits.{off, on, names-wrong, names-right}
 use borrow.Author.Needs.{needs}
 use Rattle.front_end.proofs.judged.Statement.{statement}
 use Rattle.front_end.proofs.judged.Tie as tie

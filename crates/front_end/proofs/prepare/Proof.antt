@@ -1,5 +1,5 @@
--- `front::prepare` meets its contract.
-use Rattle.front_end.proofs.Behind.{refused-before, root-may, then-formed}
+-- `front_end::prepare` meets its contract, by PrepareExits.
+use Rattle.front_end.proofs.PrepareExits.{refused-before, root-may, then-formed}
 use borrow.Author.Needs.{needs}
 use Rattle.front_end.proofs.prepare.Statement.{statement}
 use Rattle.front_end.proofs.prepare.Tie as tie

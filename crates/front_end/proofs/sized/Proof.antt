@@ -1,5 +1,5 @@
--- `front::sized` meets its contract.
-use Rattle.front_end.proofs.Outs.{too-large, small-enough}
+-- `front_end::sized` meets its contract, by Exits.
+use Rattle.front_end.proofs.Exits.{too-large, small-enough}
 use borrow.Author.Needs.{needs}
 use Rattle.front_end.proofs.sized.Statement.{statement}
 use Rattle.front_end.proofs.sized.Tie as tie

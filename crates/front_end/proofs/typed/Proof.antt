@@ -1,5 +1,5 @@
--- `front::typed` meets its contract.
-use Rattle.front_end.proofs.Outs.{off, on, types-wrong, generators-wrong, both-fit}
+-- `front_end::typed` meets its contract, by Exits.
+use Rattle.front_end.proofs.Exits.{off, on, types-wrong, generators-wrong, both-fit}
 use borrow.Author.Needs.{needs}
 use Rattle.front_end.proofs.typed.Statement.{statement}
 use Rattle.front_end.proofs.typed.Tie as tie

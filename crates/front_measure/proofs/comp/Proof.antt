@@ -1,6 +1,6 @@
--- `measure::comp` meets its contract.
-use Rattle.base_syntax.specs.Word.{monoidOf}
-use Rattle.front_measure.proofs.Parts.{comp-deep, comp-is}
+-- `front_measure::comp` meets its contract, by PartExits.
+use Rattle.base_syntax.specs.MonoidWord.{monoidOf}
+use Rattle.front_measure.proofs.PartExits.{comp-deep, comp-is}
 use borrow.Author.Needs.{needs}
 use Rattle.front_measure.proofs.comp.Statement.{statement}
 use Rattle.front_measure.proofs.comp.Tie as tie

@@ -1,5 +1,5 @@
--- `measure::conditions` meets its contract.
-use Rattle.front_measure.proofs.Parts.{pair-is}
+-- `front_measure::conditions` meets its contract, by PartExits.
+use Rattle.front_measure.proofs.PartExits.{pair-is}
 use borrow.Author.Needs.{needs}
 use Rattle.front_measure.proofs.conditions.Statement.{statement}
 use Rattle.front_measure.proofs.conditions.Tie as tie

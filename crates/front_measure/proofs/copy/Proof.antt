@@ -1,5 +1,5 @@
--- `measure::copy` meets its contract.
-use Rattle.front_measure.proofs.Parts.{whole-is}
+-- `front_measure::copy` meets its contract, by PartExits.
+use Rattle.front_measure.proofs.PartExits.{whole-is}
 use borrow.Author.Needs.{needs}
 use Rattle.front_measure.proofs.copy.Statement.{statement}
 use Rattle.front_measure.proofs.copy.Tie as tie

@@ -1,5 +1,5 @@
--- `measure::followed` meets its contract.
-use Rattle.front_measure.proofs.Parts.{followed-is}
+-- `front_measure::followed` meets its contract, by PartExits.
+use Rattle.front_measure.proofs.PartExits.{followed-is}
 use borrow.Author.Needs.{needs}
 use Rattle.front_measure.proofs.followed.Statement.{statement}
 use Rattle.front_measure.proofs.followed.Tie as tie

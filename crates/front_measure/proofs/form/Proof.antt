@@ -1,5 +1,5 @@
--- `measure::form` meets its contract.
-use Rattle.front_measure.proofs.Parts.{form-kept}
+-- `front_measure::form` meets its contract, by PartExits.
+use Rattle.front_measure.proofs.PartExits.{form-kept}
 use borrow.Author.Needs.{needs}
 use Rattle.front_measure.proofs.form.Statement.{statement}
 use Rattle.front_measure.proofs.form.Tie as tie

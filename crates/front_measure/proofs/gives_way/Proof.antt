@@ -1,8 +1,8 @@
--- `measure::gives_way` meets its contract.
+-- `front_measure::gives_way` meets its contract.
 use mathlib.Core.Path.{sym, ap}
 use mathlib.Core.Bool.{true}
 use Rattle.spec_normal_form.specs.Normal.{givesWay}
-use Rattle.base_syntax.specs.Word.{monoidOf}
+use Rattle.base_syntax.specs.MonoidWord.{monoidOf}
 use borrow.Author.Needs.{needs}
 use Rattle.front_measure.proofs.gives_way.Statement.{statement}
 use Rattle.front_measure.proofs.gives_way.Tie as tie

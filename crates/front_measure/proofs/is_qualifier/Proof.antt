@@ -1,5 +1,5 @@
--- `measure::is_qualifier` meets its contract.
-use Rattle.front_measure.proofs.Parts.{is-gen, is-bind, is-cond, is-term}
+-- `front_measure::is_qualifier` meets its contract, by PartExits.
+use Rattle.front_measure.proofs.PartExits.{is-gen, is-bind, is-cond, is-term}
 use borrow.Author.Needs.{needs}
 use Rattle.front_measure.proofs.is_qualifier.Statement.{statement}
 use Rattle.front_measure.proofs.is_qualifier.Tie as tie

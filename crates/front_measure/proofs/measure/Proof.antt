@@ -1,6 +1,6 @@
--- `measure::measure` meets its contract.
+-- `front_measure::measure` meets its contract, by LoopInvariant.
 use Prim.Native.Nat.{_-_}
-use Rattle.front_measure.proofs.Going.{Going, going-first, going-on, going-last}
+use Rattle.front_measure.proofs.LoopInvariant.{Going, going-first, going-on, going-last}
 use borrow.Author.Needs.{needs}
 use Rattle.front_measure.proofs.measure.Statement.{statement}
 use Rattle.front_measure.proofs.measure.Tie as tie

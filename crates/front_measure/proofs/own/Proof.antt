@@ -1,6 +1,6 @@
--- `measure::own` meets its contract.
-use Rattle.base_syntax.specs.Word.{monoidOf}
-use Rattle.front_measure.proofs.Parts.{own-yields, own-stays}
+-- `front_measure::own` meets its contract, by PartExits.
+use Rattle.base_syntax.specs.MonoidWord.{monoidOf}
+use Rattle.front_measure.proofs.PartExits.{own-yields, own-stays}
 use borrow.Author.Needs.{needs}
 use Rattle.front_measure.proofs.own.Statement.{statement}
 use Rattle.front_measure.proofs.own.Tie as tie

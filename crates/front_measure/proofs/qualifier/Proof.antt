@@ -1,5 +1,5 @@
--- `measure::qualifier` meets its contract.
-use Rattle.front_measure.proofs.Parts.{qualifier-is}
+-- `front_measure::qualifier` meets its contract, by PartExits.
+use Rattle.front_measure.proofs.PartExits.{qualifier-is}
 use borrow.Author.Needs.{needs}
 use Rattle.front_measure.proofs.qualifier.Statement.{statement}
 use Rattle.front_measure.proofs.qualifier.Tie as tie

@@ -1,5 +1,5 @@
--- `measure::raise` meets its contract.
-use Rattle.front_measure.proofs.Parts.{raise-is}
+-- `front_measure::raise` meets its contract, by PartExits.
+use Rattle.front_measure.proofs.PartExits.{raise-is}
 use borrow.Author.Needs.{needs}
 use Rattle.front_measure.proofs.raise.Statement.{statement}
 use Rattle.front_measure.proofs.raise.Tie as tie

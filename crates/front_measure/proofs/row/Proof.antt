@@ -1,5 +1,5 @@
--- `measure::row` meets its contract.
-use Rattle.front_measure.proofs.Parts.{row-first, row-other, row-qualifier, row-term}
+-- `front_measure::row` meets its contract, by PartExits.
+use Rattle.front_measure.proofs.PartExits.{row-first, row-other, row-qualifier, row-term}
 use borrow.Author.Needs.{needs}
 use Rattle.front_measure.proofs.row.Statement.{statement}
 use Rattle.front_measure.proofs.row.Tie as tie

@@ -1,5 +1,5 @@
--- `measure::scalar` meets its contract.
-use Rattle.front_measure.proofs.Parts.{scalar-is}
+-- `front_measure::scalar` meets its contract, by PartExits.
+use Rattle.front_measure.proofs.PartExits.{scalar-is}
 use borrow.Author.Needs.{needs}
 use Rattle.front_measure.proofs.scalar.Statement.{statement}
 use Rattle.front_measure.proofs.scalar.Tie as tie

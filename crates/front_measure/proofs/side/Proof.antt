@@ -1,5 +1,5 @@
--- `measure::side` meets its contract.
-use Rattle.front_measure.proofs.Parts.{side-is}
+-- `front_measure::side` meets its contract, by PartExits.
+use Rattle.front_measure.proofs.PartExits.{side-is}
 use borrow.Author.Needs.{needs}
 use Rattle.front_measure.proofs.side.Statement.{statement}
 use Rattle.front_measure.proofs.side.Tie as tie

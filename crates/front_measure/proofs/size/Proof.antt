@@ -1,8 +1,8 @@
--- `measure::size` meets its contract.
+-- `front_measure::size` meets its contract.
 use mathlib.Core.Path.{ap, _∙_}
 use Prim.Native.Nat.{ℕ}
-use Rattle.front_sizes.specs.declared.Count.{Count}
-use Rattle.front_sizes.specs.Packing.{termCount}
+use Rattle.front_sizes.specs.declared.FormSize.{FormSize}
+use Rattle.front_sizes.specs.SizeWords.{termCount}
 use borrow.Author.Needs.{needs}
 use Rattle.front_measure.proofs.size.Statement.{statement}
 use Rattle.front_measure.proofs.size.Tie as tie
@@ -15,7 +15,7 @@ term-count-requires c κs = search needs
 
 returns : tie.Need-returns
 returns c =
-    ap (λ (x : Count). x .size) (c .term-count .ensures) ∙ ap (λ (j : ℕ). termCount (c .before .before .before .args .s .now) j .size)
+    ap (λ (x : FormSize). x .size) (c .term-count .ensures) ∙ ap (λ (j : ℕ). termCount (c .before .before .before .args .s .now) j .size)
     (c .before .prior .ensures)
 
 pub size-spec : {M : Type 1} → statement M

@@ -1,5 +1,5 @@
--- `measure::store` meets its contract.
-use Rattle.front_measure.proofs.Parts.{stored-is}
+-- `front_measure::store` meets its contract, by PartExits.
+use Rattle.front_measure.proofs.PartExits.{stored-is}
 use borrow.Author.Needs.{needs}
 use Rattle.front_measure.proofs.store.Statement.{statement}
 use Rattle.front_measure.proofs.store.Tie as tie

@@ -1,6 +1,6 @@
--- `measure::table` meets its contract.
+-- `front_measure::table` meets its contract, by PartExits.
 use mathlib.Core.Path.{refl}
-use Rattle.front_measure.proofs.Parts.{whole-is}
+use Rattle.front_measure.proofs.PartExits.{whole-is}
 use borrow.Author.Needs.{needs}
 use Rattle.front_measure.proofs.table.Statement.{statement}
 use Rattle.front_measure.proofs.table.Tie as tie

@@ -1,10 +1,10 @@
--- `measure::terms` meets its contract.
+-- `front_measure::terms` meets its contract, by PartExits, front_resolve/Exits.
 use Prim.Native.Nat.{_-_}
 use lib.ListN.{length}
 use native.Mathlib.Omega.{arith}
-use Rattle.front_nodes.specs.Decode.{childrenOf}
-use Rattle.front_measure.proofs.Parts.{Summed, few-terms, terms-none, terms-next, terms-within, terms-end}
-use Rattle.front_resolve.proofs.Laws.{picks-cast}
+use Rattle.front_nodes.specs.NodeTable.{childrenOf}
+use Rattle.front_measure.proofs.PartExits.{Summed, few-terms, terms-none, terms-next, terms-within, terms-end}
+use Rattle.front_resolve.proofs.Exits.{picks-cast}
 use borrow.Author.Needs.{needs}
 use Rattle.front_measure.proofs.terms.Statement.{statement}
 use Rattle.front_measure.proofs.terms.Tie as tie

@@ -1,7 +1,7 @@
--- `measure::test` meets its contract.
+-- `front_measure::test` meets its contract, by PartExits.
 use mathlib.Core.Path.{ap, _∙_}
 use Rattle.front_measure.specs.Measure.{beside}
-use Rattle.front_measure.proofs.Parts.{test-gives, test-keeps}
+use Rattle.front_measure.proofs.PartExits.{test-gives, test-keeps}
 use borrow.Author.Needs.{needs}
 use Rattle.front_measure.proofs.test.Statement.{statement}
 use Rattle.front_measure.proofs.test.Tie as tie

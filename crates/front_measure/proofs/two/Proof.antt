@@ -1,5 +1,5 @@
--- `measure::two` meets its contract.
-use Rattle.front_measure.proofs.Parts.{two-and, two-other}
+-- `front_measure::two` meets its contract, by PartExits.
+use Rattle.front_measure.proofs.PartExits.{two-and, two-other}
 use borrow.Author.Needs.{needs}
 use Rattle.front_measure.proofs.two.Statement.{statement}
 use Rattle.front_measure.proofs.two.Tie as tie

@@ -1,5 +1,5 @@
--- `measure::weigh` meets its contract.
-use Rattle.front_measure.proofs.Outs.{weigh-number, weigh-truth, weigh-name, weigh-field, weigh-record, weigh-two, weigh-not, weigh-comp, weigh-table, weigh-gen, weigh-bind, weigh-cond, weigh-bad}
+-- `front_measure::weigh` meets its contract, by WeighExits.
+use Rattle.front_measure.proofs.WeighExits.{weigh-number, weigh-truth, weigh-name, weigh-field, weigh-record, weigh-two, weigh-not, weigh-comp, weigh-table, weigh-gen, weigh-bind, weigh-cond, weigh-bad}
 use borrow.Author.Needs.{needs}
 use Rattle.front_measure.proofs.weigh.Statement.{statement}
 use Rattle.front_measure.proofs.weigh.Tie as tie

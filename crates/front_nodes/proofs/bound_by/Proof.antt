@@ -1,5 +1,5 @@
--- `decode::bound_by` meets its contract.
-use Rattle.front_nodes.proofs.Laws.{recast, bound-gen, bound-bind, bound-other}
+-- `front_nodes::bound_by` meets its contract, by ReaderExits.
+use Rattle.front_nodes.proofs.ReaderExits.{recast, bound-gen, bound-bind, bound-other}
 use borrow.Author.Needs.{needs}
 use Rattle.front_nodes.proofs.bound_by.Statement.{statement}
 use Rattle.front_nodes.proofs.bound_by.Tie as tie

@@ -1,7 +1,7 @@
--- `decode::child` meets its contract.
+-- `front_nodes::child` meets its contract, by ReaderExits.
 use mathlib.Core.Path.{refl}
 use Prim.Native.Nat.{_-_}
-use Rattle.front_nodes.proofs.Laws.{arg-is, Walks, child-first, child-past, walk-on, child-at}
+use Rattle.front_nodes.proofs.ReaderExits.{arg-is, Walks, child-first, child-past, walk-on, child-at}
 use borrow.Author.Needs.{needs}
 use Rattle.front_nodes.proofs.child.Statement.{statement}
 use Rattle.front_nodes.proofs.child.Tie as tie

@@ -1,5 +1,5 @@
--- `decode::kind_of` meets its contract.
-use Rattle.front_nodes.proofs.Laws.{kind-at, no-kind}
+-- `front_nodes::kind_of` meets its contract, by ReaderExits.
+use Rattle.front_nodes.proofs.ReaderExits.{kind-at, no-kind}
 use borrow.Author.Needs.{needs}
 use Rattle.front_nodes.proofs.kind_of.Statement.{statement}
 use Rattle.front_nodes.proofs.kind_of.Tie as tie

@@ -1,9 +1,9 @@
--- `decode::look` meets its contract.
+-- `front_nodes::look` meets its contract, by ReaderExits, base_signed/SignedWords.
 use mathlib.Core.Path.{ap, _∙_}
 use mir.Facts.{toZ-ofZ}
-use Rattle.base_syntax.specs.Word.{monoidOf}
-use Rattle.base_signed.proofs.Word.{fits}
-use Rattle.front_nodes.proofs.Laws.{kind-is, arg-is, look-number, look-truth, look-name, look-table, look-field, look-comp, look-record, look-two, look-not, look-gen, look-bind, look-cond, look-bad, look-far}
+use Rattle.base_syntax.specs.MonoidWord.{monoidOf}
+use Rattle.base_signed.proofs.SignedWords.{fits}
+use Rattle.front_nodes.proofs.ReaderExits.{kind-is, arg-is, look-number, look-truth, look-name, look-table, look-field, look-comp, look-record, look-two, look-not, look-gen, look-bind, look-cond, look-bad, look-far}
 use borrow.Author.Needs.{needs}
 use Rattle.front_nodes.proofs.look.Statement.{statement}
 use Rattle.front_nodes.proofs.look.Tie as tie

@@ -1,6 +1,6 @@
--- `decode::named` meets its contract.
+-- `front_nodes::named` meets its contract, by ReaderExits.
 use mathlib.Core.Path.{refl}
-use Rattle.front_nodes.proofs.Laws.{name-unbound, name-behind, name-outside, name-bound}
+use Rattle.front_nodes.proofs.ReaderExits.{name-unbound, name-behind, name-outside, name-bound}
 use borrow.Author.Needs.{needs}
 use Rattle.front_nodes.proofs.named.Statement.{statement}
 use Rattle.front_nodes.proofs.named.Tie as tie

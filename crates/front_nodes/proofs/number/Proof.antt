@@ -1,5 +1,5 @@
--- `decode::number` meets its contract.
-use Rattle.front_nodes.proofs.Laws.{number-ok, number-is}
+-- `front_nodes::number` meets its contract, by ReaderExits.
+use Rattle.front_nodes.proofs.ReaderExits.{number-ok, number-is}
 use borrow.Author.Needs.{needs}
 use Rattle.front_nodes.proofs.number.Statement.{statement}
 use Rattle.front_nodes.proofs.number.Tie as tie

@@ -1,5 +1,5 @@
--- `decode::raised` meets its contract.
-use Rattle.front_nodes.proofs.Laws.{raised-bad, raised-same}
+-- `front_nodes::raised` meets its contract, by ReaderExits.
+use Rattle.front_nodes.proofs.ReaderExits.{raised-bad, raised-same}
 use Rattle.front_nodes.proofs.raised.Statement.{statement}
 use Rattle.front_nodes.proofs.raised.Tie as tie
 

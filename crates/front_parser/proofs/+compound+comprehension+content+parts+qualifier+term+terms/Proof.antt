@@ -4,7 +4,7 @@ use mathlib.Core.Path.{refl, _∙_}
 use Prim.Native.Nat.{_+_, _*_}
 use lib.ListN.{length}
 use Rattle.front_parser.proofs.Records.{length-after, length-inner, began, term-none, term-refused, term-read, shaped-leaf, shaped-terms, content-terms, content-comprehension, content-other, item-none, item-head, looks-qualifier, item-refused, item-read}
-use Rattle.front_parser.proofs.Sequences.{terms-none, terms-over, terms-refused, first-found, terms-rest-refused, terms-read, fixed-is, terms-found, compound-broken, compound-refused, compound-few, compound-done}
+use Rattle.front_parser.proofs.TermSequences.{terms-none, terms-over, terms-refused, first-found, terms-rest-refused, terms-read, fixed-is, terms-found, compound-broken, compound-refused, compound-few, compound-done}
 use Rattle.front_parser.proofs.Questions.{parts-refused, qualifier-found, parts-next, parts-over, parts-head, comprehension-none, comprehension-zero, comprehension-over, comprehension-refused, comprehension-read, room-inside, room-terms, room-parts, room-behind, finishing-terms, few-terms, finishing-parts}
 use borrow.Author.Needs.{needs}
 use Prim.Native.Nat.{ℕ, _<_}

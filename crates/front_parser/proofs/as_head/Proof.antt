@@ -1,6 +1,6 @@
--- `reader::as_head` meets its contract.
+-- `front_parser::as_head` meets its contract.
 use mathlib.Core.Path.{sym, ap}
-use Rattle.front_parser.specs.Reads.{headOf}
+use Rattle.front_parser.specs.ReaderContracts.{headOf}
 use borrow.Author.Needs.{needs}
 use Rattle.front_parser.proofs.as_head.Statement.{statement}
 use Rattle.front_parser.proofs.as_head.Tie as tie

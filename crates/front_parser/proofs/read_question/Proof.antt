@@ -1,6 +1,6 @@
--- `reader::read_question` meets its contract.
+-- `front_parser::read_question` meets its contract, by LeafRecords, Questions.
 use native.Mathlib.Omega.{arith}
-use Rattle.front_parser.proofs.Leaves.{headed, not-headed}
+use Rattle.front_parser.proofs.LeafRecords.{headed, not-headed}
 use Rattle.front_parser.proofs.Questions.{question-long, question-cut, question-kind, question-refused, question-over, question-read}
 use borrow.Author.Needs.{needs}
 use Rattle.front_parser.proofs.read_question.Statement.{statement}

@@ -1,8 +1,8 @@
--- `resolve::resolve`, `step` and `follow` meet their contracts: they go down by the number of the node.
+-- `front_resolve::resolve`, `step` and `follow` meet their contracts: they go down by the number of the node.
 use native.Mathlib.Omega.{arith}
 use Prim.Native.Nat.{ℕ, _+_, _*_, _<_}
-use Rattle.front_nodes.proofs.Laws.{recast, looked-inside}
-use Rattle.front_resolve.proofs.Laws.{h-settled, h-out, h-name, h-field, f-other, f-bind, f-gen, stepped-by, step-cast, Leads, leads-on, leads-to, bound-cast}
+use Rattle.front_nodes.proofs.ReaderExits.{recast, looked-inside}
+use Rattle.front_resolve.proofs.Exits.{h-settled, h-out, h-name, h-field, f-other, f-bind, f-gen, stepped-by, step-cast, Leads, leads-on, leads-to, bound-cast}
 use borrow.Author.Needs.{needs}
 use Prim.Native.Nat.{ℕ, _<_}
 use borrow.Fn.Kinds.{In}

@@ -1,5 +1,5 @@
--- `resolve::enter` meets its contract.
-use Rattle.front_resolve.proofs.Laws.{enter-gives, enter-stays}
+-- `front_resolve::enter` meets its contract, by Exits.
+use Rattle.front_resolve.proofs.Exits.{enter-gives, enter-stays}
 use borrow.Author.Needs.{needs}
 use Rattle.front_resolve.proofs.enter.Statement.{statement}
 use Rattle.front_resolve.proofs.enter.Tie as tie

@@ -1,5 +1,5 @@
--- `resolve::entry` meets its contract.
-use Rattle.front_resolve.proofs.Laws.{no-entry}
+-- `front_resolve::entry` meets its contract, by Exits.
+use Rattle.front_resolve.proofs.Exits.{no-entry}
 use borrow.Author.Needs.{needs}
 use Rattle.front_resolve.proofs.entry.Statement.{statement}
 use Rattle.front_resolve.proofs.entry.Tie as tie

@@ -1,10 +1,10 @@
--- `resolve::form_of` meets its contract.
+-- `front_resolve::form_of` meets its contract, by Exits, base_signed/SignedWords.
 use mathlib.Core.Path.{ap, sym, _∙_}
 use mir.Facts.{toZ-ofZ}
-use Rattle.base_signed.proofs.Word.{fits}
+use Rattle.base_signed.proofs.SignedWords.{fits}
 use Rattle.front_resolve.specs.declared.Form.the-variants.{Number}
 use Rattle.front_resolve.specs.Place.{formFor}
-use Rattle.front_resolve.proofs.Laws.{form-deep, form-comp}
+use Rattle.front_resolve.proofs.Exits.{form-deep, form-comp}
 use borrow.Author.Needs.{needs}
 use Rattle.front_resolve.proofs.form_of.Statement.{statement}
 use Rattle.front_resolve.proofs.form_of.Tie as tie

@@ -1,8 +1,8 @@
--- `resolve::joined` meets its contract.
+-- `front_resolve::joined` meets its contract, by Exits.
 use mathlib.Core.Path.{refl}
 use Rattle.spec_normal_form.specs.Normal.{idempotent}
 use Rattle.base_syntax.specs.declared.Monoid.the-variants as Mo
-use Rattle.front_resolve.proofs.Laws.{joined-by}
+use Rattle.front_resolve.proofs.Exits.{joined-by}
 use borrow.Author.Needs.{needs}
 use Rattle.front_resolve.proofs.joined.Statement.{statement}
 use Rattle.front_resolve.proofs.joined.Tie as tie

@@ -1,5 +1,5 @@
--- `resolve::project` meets its contract.
-use Rattle.front_resolve.proofs.Laws.{p-junk, p-row, p-none, p-part, picks-cast}
+-- `front_resolve::project` meets its contract, by Exits.
+use Rattle.front_resolve.proofs.Exits.{p-junk, p-row, p-none, p-part, picks-cast}
 use borrow.Author.Needs.{needs}
 use Rattle.front_resolve.proofs.project.Statement.{statement}
 use Rattle.front_resolve.proofs.project.Tie as tie

@@ -1,6 +1,6 @@
--- `resolve::splice` meets its contract.
+-- `front_resolve::splice` meets its contract, by Exits.
 use native.Mathlib.Omega.{arith}
-use Rattle.front_resolve.proofs.Laws.{comp-inside, s-comp, s-table, s-junk, entered}
+use Rattle.front_resolve.proofs.Exits.{comp-inside, s-comp, s-table, s-junk, entered}
 use borrow.Author.Needs.{needs}
 use Rattle.front_resolve.proofs.splice.Statement.{statement}
 use Rattle.front_resolve.proofs.splice.Tie as tie

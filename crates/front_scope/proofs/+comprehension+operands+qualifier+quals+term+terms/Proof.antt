@@ -2,8 +2,8 @@
 use native.Mathlib.Omega.{arith}
 use Prim.Native.Nat.{_+_, _-_, _*_, ℕ, _<_}
 use mathlib.Core.Path.{refl}
-use Rattle.front_scope.proofs.Codes.{kind-is, kind-not, kind-outside, two-kind-at, kind-above}
-use Rattle.front_scope.proofs.Laws.{term-leaf, term-name, term-field, term-not, term-record, term-two, term-comp, term-bare, operands-both, comp-both, terms-none, terms-more, quals-none, quals-more, qual-gen, qual-bind, qual-cond, qual-none, behind-term, behind-terms, behind-quals}
+use Rattle.front_scope.proofs.KindNumbers.{kind-is, kind-not, kind-outside, two-kind-at, kind-above}
+use Rattle.front_scope.proofs.Exits.{term-leaf, term-name, term-field, term-not, term-record, term-two, term-comp, term-bare, operands-both, comp-both, terms-none, terms-more, quals-none, quals-more, qual-gen, qual-bind, qual-cond, qual-none, behind-term, behind-terms, behind-quals}
 use borrow.Author.Needs.{needs}
 use Prim.Native.Nat.{ℕ, _<_}
 use borrow.Fn.Kinds.{In}

@@ -1,11 +1,11 @@
--- `scope::binders` meets its contract.
+-- `front_scope::binders` meets its contract, by BinderWords.
 use Prim.Native.Nat.{ℕ, _-_, _≤_}
 use mathlib.Core.List.{List}
 use mathlib.Core.Path.{_≡_, refl, ap, ap₂, _∙_}
 use lib.ListN.{length}
 use native.Mathlib.Omega.{arith}
 use Rattle.front_scope.specs.Binders.{notedUpTo}
-use Rattle.front_scope.proofs.Noted.{noted-next, noted-up-length}
+use Rattle.front_scope.proofs.BinderWords.{noted-next, noted-up-length}
 use borrow.Author.Needs.{needs}
 use Rattle.front_scope.proofs.binders.Statement.{statement}
 use Rattle.front_scope.proofs.binders.Tie as tie

@@ -1,9 +1,9 @@
--- `scope::bound` meets its contract.
+-- `front_scope::bound` meets its contract, by Exits.
 use mathlib.Core.Path.{_≡_}
 use Prim.Native.Nat.{_<_}
 use lib.ListN.{length}
-use Rattle.front_scope.specs.Pass.{names}
-use Rattle.front_scope.proofs.Laws.{bound-beyond, bound-twice, bound-once}
+use Rattle.front_scope.specs.ScopePass.{names}
+use Rattle.front_scope.proofs.Exits.{bound-beyond, bound-twice, bound-once}
 use borrow.Author.Needs.{needs}
 use Rattle.front_scope.proofs.bound.Statement.{statement}
 use Rattle.front_scope.proofs.bound.Tie as tie

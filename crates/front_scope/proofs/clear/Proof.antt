@@ -1,11 +1,11 @@
--- `scope::clear` meets its contract.
+-- `front_scope::clear` meets its contract, by BinderWords.
 use mathlib.Core.Path.{_≡_, refl, ap, _∙_}
 use Prim.Native.Nat.{ℕ, _-_, _≤_}
 use mathlib.Core.List.{List}
 use lib.ListN.{length}
 use native.Mathlib.Omega.{arith}
 use Rattle.front_scope.specs.Binders.{cleared}
-use Rattle.front_scope.proofs.Noted.{cleared-next, cleared-length}
+use Rattle.front_scope.proofs.BinderWords.{cleared-next, cleared-length}
 use borrow.Author.Needs.{needs}
 use Rattle.front_scope.proofs.clear.Statement.{statement}
 use Rattle.front_scope.proofs.clear.Tie as tie

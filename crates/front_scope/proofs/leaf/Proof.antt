@@ -1,7 +1,7 @@
--- `scope::leaf` meets its contract.
+-- `front_scope::leaf` meets its contract, by KindNumbers, Exits.
 use native.Mathlib.Omega.{arith}
-use Rattle.front_scope.proofs.Codes.{kind-is, kind-not}
-use Rattle.front_scope.proofs.Laws.{leaf-name, leaf-other}
+use Rattle.front_scope.proofs.KindNumbers.{kind-is, kind-not}
+use Rattle.front_scope.proofs.Exits.{leaf-name, leaf-other}
 use borrow.Author.Needs.{needs}
 use Rattle.front_scope.proofs.leaf.Statement.{statement}
 use Rattle.front_scope.proofs.leaf.Tie as tie

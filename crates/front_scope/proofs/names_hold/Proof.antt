@@ -1,5 +1,5 @@
--- `scope::names_hold` meets its contract.
-use Rattle.front_scope.proofs.Laws.{judged}
+-- `front_scope::names_hold` meets its contract, by Exits.
+use Rattle.front_scope.proofs.Exits.{judged}
 use borrow.Author.Needs.{needs}
 use Rattle.front_scope.proofs.names_hold.Statement.{statement}
 use Rattle.front_scope.proofs.names_hold.Tie as tie

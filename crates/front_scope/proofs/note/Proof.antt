@@ -1,5 +1,5 @@
--- `scope::note` meets its contract.
-use Rattle.front_scope.proofs.Noted.{noted-not, noted-beyond, noted-here}
+-- `front_scope::note` meets its contract, by BinderWords.
+use Rattle.front_scope.proofs.BinderWords.{noted-not, noted-beyond, noted-here}
 use native.Mathlib.Omega.{arith}
 use borrow.Author.Needs.{needs}
 use Rattle.front_scope.proofs.note.Statement.{statement}

@@ -1,5 +1,5 @@
--- `scope::used` meets its contract.
-use Rattle.front_scope.proofs.Laws.{used-holds, used-not, used-beyond}
+-- `front_scope::used` meets its contract, by Exits.
+use Rattle.front_scope.proofs.Exits.{used-holds, used-not, used-beyond}
 use borrow.Author.Needs.{needs}
 use Rattle.front_scope.proofs.used.Statement.{statement}
 use Rattle.front_scope.proofs.used.Tie as tie

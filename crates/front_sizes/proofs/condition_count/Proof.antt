@@ -1,5 +1,5 @@
--- `sizes::condition_count` meets its contract.
-use Rattle.front_sizes.proofs.Laws.{condition-gives, condition-stays}
+-- `front_sizes::condition_count` meets its contract, by SizeWords.
+use Rattle.front_sizes.proofs.SizeWords.{condition-gives, condition-stays}
 use borrow.Author.Needs.{needs}
 use Rattle.front_sizes.proofs.condition_count.Statement.{statement}
 use Rattle.front_sizes.proofs.condition_count.Tie as tie

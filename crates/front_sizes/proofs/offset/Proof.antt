@@ -1,5 +1,5 @@
--- `sizes::offset` meets its contract.
-use Rattle.front_sizes.proofs.Laws.{offset-gives, offset-stays}
+-- `front_sizes::offset` meets its contract, by SizeWords.
+use Rattle.front_sizes.proofs.SizeWords.{offset-gives, offset-stays}
 use borrow.Author.Needs.{needs}
 use Rattle.front_sizes.proofs.offset.Statement.{statement}
 use Rattle.front_sizes.proofs.offset.Tie as tie

@@ -1,6 +1,6 @@
--- `front_sizes::put` meets its contract.
+-- `front_sizes::put` meets its contract, by SizeWords.
 use native.Mathlib.Omega.{arith}
-use Rattle.front_sizes.proofs.Laws.{no-room}
+use Rattle.front_sizes.proofs.SizeWords.{no-room}
 use borrow.Author.Needs.{needs}
 use Rattle.front_sizes.proofs.put.Statement.{statement}
 use Rattle.front_sizes.proofs.put.Tie as tie

@@ -1,7 +1,7 @@
--- `sizes::put_second` meets its contract.
+-- `front_sizes::put_second` meets its contract.
 use mathlib.Core.Path.{ap, _∙_}
 use lib.ListN.{set}
-use Rattle.front_sizes.specs.Packing.{place}
+use Rattle.front_sizes.specs.SizeWords.{place}
 use borrow.Author.Needs.{needs}
 use Rattle.front_sizes.proofs.put_second.Statement.{statement}
 use Rattle.front_sizes.proofs.put_second.Tie as tie

@@ -1,5 +1,5 @@
--- `sizes::spliced_count` meets its contract.
-use Rattle.front_sizes.proofs.Laws.{spliced-gives, spliced-stays}
+-- `front_sizes::spliced_count` meets its contract, by SizeWords.
+use Rattle.front_sizes.proofs.SizeWords.{spliced-gives, spliced-stays}
 use borrow.Author.Needs.{needs}
 use Rattle.front_sizes.proofs.spliced_count.Statement.{statement}
 use Rattle.front_sizes.proofs.spliced_count.Tie as tie

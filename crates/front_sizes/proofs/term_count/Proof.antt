@@ -1,6 +1,6 @@
--- `sizes::term_count` meets its contract.
+-- `front_sizes::term_count` meets its contract.
 use mathlib.Core.Path.{ap, _∙_}
-use Rattle.front_sizes.specs.Packing.{pairOf}
+use Rattle.front_sizes.specs.SizeWords.{pairOf}
 use borrow.Author.Needs.{needs}
 use Rattle.front_sizes.proofs.term_count.Statement.{statement}
 use Rattle.front_sizes.proofs.term_count.Tie as tie

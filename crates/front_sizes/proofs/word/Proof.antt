@@ -1,6 +1,6 @@
--- `front_sizes::word` meets its contract.
+-- `front_sizes::word` meets its contract, by SizeWords.
 use native.Mathlib.Omega.{arith}
-use Rattle.front_sizes.proofs.Laws.{no-word}
+use Rattle.front_sizes.proofs.SizeWords.{no-word}
 use borrow.Author.Needs.{needs}
 use Rattle.front_sizes.proofs.word.Statement.{statement}
 use Rattle.front_sizes.proofs.word.Tie as tie

@@ -1,5 +1,5 @@
--- `typing::all_typed` meets its contract.
-use Rattle.front_typing.proofs.Laws.{no-parts, Parts, parts-begin, parts-on, parts-off, parts-end}
+-- `front_typing::all_typed` meets its contract, by Exits.
+use Rattle.front_typing.proofs.Exits.{no-parts, Parts, parts-begin, parts-on, parts-off, parts-end}
 use borrow.Author.Tests.{not-true, not-false}
 use borrow.Author.Needs.{needs}
 use Rattle.front_typing.proofs.all_typed.Statement.{statement}

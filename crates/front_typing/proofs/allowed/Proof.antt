@@ -1,8 +1,8 @@
--- `typing::allowed` meets its contract.
+-- `front_typing::allowed` meets its contract.
 use mathlib.Core.Path.{sym, ap, _∙_}
 use mathlib.Core.Bool.{Bool}
-use Rattle.front_typing.specs.Words.{rules, collectionBy}
-use Rattle.base_syntax.specs.Word.{monoidOf}
+use Rattle.front_typing.specs.ShapeWords.{rules, collectionBy}
+use Rattle.base_syntax.specs.MonoidWord.{monoidOf}
 use borrow.Author.Needs.{needs}
 use Rattle.front_typing.proofs.allowed.Statement.{statement}
 use Rattle.front_typing.proofs.allowed.Tie as tie

@@ -1,4 +1,4 @@
--- `typing::binary` meets its contract.
+-- `front_typing::binary` meets its contract.
 use mathlib.Core.Path.{sym, ap, _∙_}
 use Rattle.base_syntax.specs.declared.Op.{Op}
 use Rattle.base_syntax.specs.Numbers.{binOf}

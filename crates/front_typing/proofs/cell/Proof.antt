@@ -1,5 +1,5 @@
--- `typing::cell` meets its contract.
-use Rattle.front_typing.proofs.Laws.{pick-yes, pick-no}
+-- `front_typing::cell` meets its contract, by Exits.
+use Rattle.front_typing.proofs.Exits.{pick-yes, pick-no}
 use borrow.Author.Tests.{lt-ltb, le-ltb}
 use Rattle.front_typing.proofs.cell.Statement.{statement}
 use Rattle.front_typing.proofs.cell.Tie as tie

@@ -1,7 +1,7 @@
--- `typing::collection_of` meets its contract.
+-- `front_typing::collection_of` meets its contract, by Exits.
 use mathlib.Core.Path.{_∙_}
 use native.Mathlib.Omega.{arith}
-use Rattle.front_typing.proofs.Laws.{number-low, number-high}
+use Rattle.front_typing.proofs.Exits.{number-low, number-high}
 use borrow.Author.Needs.{needs}
 use Rattle.front_typing.proofs.collection_of.Statement.{statement}
 use Rattle.front_typing.proofs.collection_of.Tie as tie

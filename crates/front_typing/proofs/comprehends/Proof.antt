@@ -1,7 +1,7 @@
--- `typing::comprehends` meets its contract.
+-- `front_typing::comprehends` meets its contract.
 use mathlib.Core.Path.{sym, ap, _∙_}
 use Rattle.base_syntax.specs.declared.Monoid.{Monoid}
-use Rattle.base_syntax.specs.Word.{monoidOf}
+use Rattle.base_syntax.specs.MonoidWord.{monoidOf}
 use Rattle.front_typing.specs.Shapes.{compShape}
 use borrow.Author.Needs.{needs}
 use Rattle.front_typing.proofs.comprehends.Statement.{statement}

@@ -1,8 +1,8 @@
--- `typing::comprehension` meets its contract.
+-- `front_typing::comprehension` meets its contract, by Exits.
 use mathlib.Core.Path.{sym, ap, _∙_}
-use Rattle.front_typing.proofs.Laws.{pick-yes, pick-no}
+use Rattle.front_typing.proofs.Exits.{pick-yes, pick-no}
 use Rattle.front_typing.specs.Shapes.{compShape}
-use Rattle.base_syntax.specs.Word.{monoidOf}
+use Rattle.base_syntax.specs.MonoidWord.{monoidOf}
 use borrow.Author.Needs.{needs}
 use Rattle.front_typing.proofs.comprehension.Statement.{statement}
 use Rattle.front_typing.proofs.comprehension.Tie as tie

@@ -1,4 +1,4 @@
--- `typing::description` meets its contract.
+-- `front_typing::description` meets its contract.
 use mathlib.Core.Path.{sym}
 use lib.ListN.{length, List·getD-eq-default}
 use Prim.Native.Nat.{_+_, _≤_}

@@ -1,8 +1,8 @@
--- `typing::element` meets its contract.
+-- `front_typing::element` meets its contract, by Exits.
 use mathlib.Core.Path.{sym, ap, _∙_}
 use Rattle.front_typing.specs.Shapes.{elementShape}
-use Rattle.front_typing.specs.Words.{shapesIn, elementAt}
-use Rattle.front_typing.proofs.Laws.{no-element}
+use Rattle.front_typing.specs.ShapeWords.{shapesIn, elementAt}
+use Rattle.front_typing.proofs.Exits.{no-element}
 use borrow.Author.Needs.{needs}
 use Rattle.front_typing.proofs.element.Statement.{statement}
 use Rattle.front_typing.proofs.element.Tie as tie

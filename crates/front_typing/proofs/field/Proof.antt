@@ -1,9 +1,9 @@
--- `typing::field` meets its contract.
+-- `front_typing::field` meets its contract, by Exits.
 use mathlib.Core.Path.{sym, ap, _∙_}
 use Rattle.front_typing.specs.Shapes.{fieldShape, cellShape}
-use Rattle.front_typing.specs.Words.{fieldAt}
+use Rattle.front_typing.specs.ShapeWords.{fieldAt}
 use Rattle.base_tables.specs.Description.{columnsIn}
-use Rattle.front_typing.proofs.Laws.{no-field}
+use Rattle.front_typing.proofs.Exits.{no-field}
 use borrow.Author.Needs.{needs}
 use Rattle.front_typing.proofs.field.Statement.{statement}
 use Rattle.front_typing.proofs.field.Tie as tie

@@ -1,5 +1,5 @@
--- `typing::gathered` meets its contract.
-use Rattle.front_typing.proofs.Laws.{gathered-comp, gathered-record, gathered-other}
+-- `front_typing::gathered` meets its contract, by Exits.
+use Rattle.front_typing.proofs.Exits.{gathered-comp, gathered-record, gathered-other}
 use borrow.Author.Needs.{needs}
 use Rattle.front_typing.proofs.gathered.Statement.{statement}
 use Rattle.front_typing.proofs.gathered.Tie as tie

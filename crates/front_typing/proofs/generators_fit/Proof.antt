@@ -1,5 +1,5 @@
--- `typing::generators_fit` meets its contract.
-use Rattle.front_typing.proofs.Laws.{judges}
+-- `front_typing::generators_fit` meets its contract, by Exits.
+use Rattle.front_typing.proofs.Exits.{judges}
 use borrow.Author.Needs.{needs}
 use Rattle.front_typing.proofs.generators_fit.Statement.{statement}
 use Rattle.front_typing.proofs.generators_fit.Tie as tie

@@ -1,5 +1,5 @@
--- `typing::head` meets its contract.
-use Rattle.front_typing.proofs.Laws.{head-comp, head-record, head-other}
+-- `front_typing::head` meets its contract, by Exits.
+use Rattle.front_typing.proofs.Exits.{head-comp, head-record, head-other}
 use borrow.Author.Needs.{needs}
 use Rattle.front_typing.proofs.head.Statement.{statement}
 use Rattle.front_typing.proofs.head.Tie as tie

@@ -1,4 +1,4 @@
--- `typing::is_number` meets its contract.
+-- `front_typing::is_number` meets its contract.
 use mathlib.Core.Path.{ap}
 use Prim.Native.Nat.{ℕ}
 use lib.Dec.{eqb}

@@ -1,5 +1,5 @@
--- `typing::maker` meets its contract.
-use Rattle.front_typing.proofs.Laws.{makes-record, makes-comp, makes-other}
+-- `front_typing::maker` meets its contract, by Exits.
+use Rattle.front_typing.proofs.Exits.{makes-record, makes-comp, makes-other}
 use borrow.Author.Needs.{needs}
 use Rattle.front_typing.proofs.maker.Statement.{statement}
 use Rattle.front_typing.proofs.maker.Tie as tie

@@ -1,12 +1,12 @@
--- `typing::may_range` meets its contract.
+-- `front_typing::may_range` meets its contract, by Exits.
 use mathlib.Core.Path.{sym, ap, _∙_}
 use Rattle.spec_calculus.specs.Syntax.{Collection}
 use Rattle.front_typing.specs.Shapes.{collectionOf, stands}
-use Rattle.front_typing.specs.Words.{rules, collectionBy, mayRange}
-use Rattle.front_nodes.specs.Decode.{nodesOf}
-use Rattle.base_syntax.specs.Word.{monoidOf}
+use Rattle.front_typing.specs.ShapeWords.{rules, collectionBy, mayRange}
+use Rattle.front_nodes.specs.NodeTable.{nodesOf}
+use Rattle.base_syntax.specs.MonoidWord.{monoidOf}
 use Rattle.base_tables.specs.Description.{collectionIn}
-use Rattle.front_typing.proofs.Laws.{by-number, no-range}
+use Rattle.front_typing.proofs.Exits.{by-number, no-range}
 use borrow.Author.Needs.{needs}
 use Rattle.front_typing.proofs.may_range.Statement.{statement}
 use Rattle.front_typing.proofs.may_range.Tie as tie

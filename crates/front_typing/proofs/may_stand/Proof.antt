@@ -1,5 +1,5 @@
--- `typing::may_stand` meets its contract.
-use Rattle.front_typing.proofs.Laws.{stand-bag, stand-set, stand-set-set, stand-list}
+-- `front_typing::may_stand` meets its contract, by Exits.
+use Rattle.front_typing.proofs.Exits.{stand-bag, stand-set, stand-set-set, stand-list}
 use borrow.Author.Needs.{needs}
 use Rattle.front_typing.proofs.may_stand.Statement.{statement}
 use Rattle.front_typing.proofs.may_stand.Tie as tie

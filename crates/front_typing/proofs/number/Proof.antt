@@ -1,6 +1,6 @@
--- `typing::number` meets its contract.
+-- `front_typing::number` meets its contract, by Exits.
 use mathlib.Core.Path.{sym, _∙_}
-use Rattle.front_typing.proofs.Laws.{pick-yes, pick-no}
+use Rattle.front_typing.proofs.Exits.{pick-yes, pick-no}
 use borrow.Author.Needs.{needs}
 use Rattle.front_typing.proofs.number.Statement.{statement}
 use Rattle.front_typing.proofs.number.Tie as tie

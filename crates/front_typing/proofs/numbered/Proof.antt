@@ -1,5 +1,5 @@
--- `typing::numbered` meets its contract.
-use Rattle.front_typing.proofs.Laws.{pick-yes, pick-no}
+-- `front_typing::numbered` meets its contract, by Exits.
+use Rattle.front_typing.proofs.Exits.{pick-yes, pick-no}
 use borrow.Author.Tests.{lt-ltb, le-ltb}
 use borrow.Author.Needs.{needs}
 use Rattle.front_typing.proofs.numbered.Statement.{statement}

@@ -1,6 +1,6 @@
--- `typing::packed` meets its contract.
+-- `front_typing::packed` meets its contract.
 use mathlib.Core.Path.{sym, ap, _∙_}
-use Rattle.front_typing.specs.Words.{shapeWord}
+use Rattle.front_typing.specs.ShapeWords.{shapeWord}
 use borrow.Author.Needs.{needs}
 use Rattle.front_typing.proofs.packed.Statement.{statement}
 use Rattle.front_typing.proofs.packed.Tie as tie

@@ -1,5 +1,5 @@
--- `typing::part` meets its contract.
-use Rattle.front_typing.proofs.Laws.{part-at, part-nothing, part-none, part-other}
+-- `front_typing::part` meets its contract, by Exits.
+use Rattle.front_typing.proofs.Exits.{part-at, part-nothing, part-none, part-other}
 use borrow.Author.Needs.{needs}
 use Rattle.front_typing.proofs.part.Statement.{statement}
 use Rattle.front_typing.proofs.part.Tie as tie

@@ -1,9 +1,9 @@
--- `typing::qual_fits` meets its contract.
+-- `front_typing::qual_fits` meets its contract, by Exits.
 use mathlib.Core.Path.{ap, _∙_}
 use Rattle.front_typing.specs.Shapes.{fits, isTruth}
-use Rattle.front_typing.specs.Words.{mayRange}
-use Rattle.base_syntax.specs.Word.{monoidOf}
-use Rattle.front_typing.proofs.Laws.{qual-by, qual-other}
+use Rattle.front_typing.specs.ShapeWords.{mayRange}
+use Rattle.base_syntax.specs.MonoidWord.{monoidOf}
+use Rattle.front_typing.proofs.Exits.{qual-by, qual-other}
 use borrow.Author.Needs.{needs}
 use Rattle.front_typing.proofs.qual_fits.Statement.{statement}
 use Rattle.front_typing.proofs.qual_fits.Tie as tie

@@ -1,7 +1,7 @@
--- `typing::quals_fit` meets its contract.
-use Rattle.front_typing.proofs.Laws.{Quals, quals-begin, quals-on, quals-off, quals-end}
-use Rattle.front_typing.specs.Words.{rules}
-use Rattle.base_syntax.specs.Word.{monoidOf}
+-- `front_typing::quals_fit` meets its contract, by Exits.
+use Rattle.front_typing.proofs.Exits.{Quals, quals-begin, quals-on, quals-off, quals-end}
+use Rattle.front_typing.specs.ShapeWords.{rules}
+use Rattle.base_syntax.specs.MonoidWord.{monoidOf}
 use borrow.Author.Tests.{not-true, not-false}
 use borrow.Author.Needs.{needs}
 use Rattle.front_typing.proofs.quals_fit.Statement.{statement}

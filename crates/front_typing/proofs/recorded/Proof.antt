@@ -1,6 +1,6 @@
--- `typing::recorded` meets its contract.
+-- `front_typing::recorded` meets its contract, by Exits.
 use mathlib.Core.Path.{sym, _∙_}
-use Rattle.front_typing.proofs.Laws.{pick-yes, pick-no}
+use Rattle.front_typing.proofs.Exits.{pick-yes, pick-no}
 use borrow.Author.Needs.{needs}
 use Rattle.front_typing.proofs.recorded.Statement.{statement}
 use Rattle.front_typing.proofs.recorded.Tie as tie

@@ -1,6 +1,6 @@
--- `typing::shape_at` meets its contract.
+-- `front_typing::shape_at` meets its contract.
 use mathlib.Core.Path.{ap, _∙_}
-use Rattle.front_typing.specs.Words.{shapeIn}
+use Rattle.front_typing.specs.ShapeWords.{shapeIn}
 use borrow.Author.Needs.{needs}
 use Rattle.front_typing.proofs.shape_at.Statement.{statement}
 use Rattle.front_typing.proofs.shape_at.Tie as tie

@@ -1,5 +1,5 @@
--- `typing::shape_in` meets its contract.
-use Rattle.front_typing.proofs.Laws.{in-tag, in-none}
+-- `front_typing::shape_in` meets its contract, by Exits.
+use Rattle.front_typing.proofs.Exits.{in-tag, in-none}
 use Rattle.front_typing.proofs.shape_in.Statement.{statement}
 use Rattle.front_typing.proofs.shape_in.Tie as tie
 

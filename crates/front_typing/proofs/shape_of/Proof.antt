@@ -1,8 +1,8 @@
--- `typing::shape_of` meets its contract.
+-- `front_typing::shape_of` meets its contract, by Exits.
 use mathlib.Core.Path.{refl, ap, ap₂, _∙_}
-use Rattle.front_typing.proofs.Laws.{shape-by}
+use Rattle.front_typing.proofs.Exits.{shape-by}
 use Rattle.front_typing.specs.Shapes.{binShape, truthShape}
-use Rattle.front_typing.specs.Words.{fieldAt, elementAt}
+use Rattle.front_typing.specs.ShapeWords.{fieldAt, elementAt}
 use Rattle.base_syntax.specs.Numbers.{binOf}
 use borrow.Author.Needs.{needs}
 use Rattle.front_typing.proofs.shape_of.Statement.{statement}

@@ -1,11 +1,11 @@
--- `typing::shapes` meets its contract.
+-- `front_typing::shapes` meets its contract, by Exits.
 use mathlib.Core.Path.{_≡_, refl, ap, _∙_}
 use Prim.Native.Nat.{ℕ, _-_, _≤_}
 use mathlib.Core.List.{List}
 use lib.ListN.{length}
 use native.Mathlib.Omega.{arith}
-use Rattle.front_typing.specs.Words.{shapedUpTo}
-use Rattle.front_typing.proofs.Laws.{shaped-next, shaped-length}
+use Rattle.front_typing.specs.ShapeWords.{shapedUpTo}
+use Rattle.front_typing.proofs.Exits.{shaped-next, shaped-length}
 use borrow.Author.Needs.{needs}
 use Rattle.front_typing.proofs.shapes.Statement.{statement}
 use Rattle.front_typing.proofs.shapes.Tie as tie

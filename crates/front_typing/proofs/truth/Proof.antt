@@ -1,6 +1,6 @@
--- `typing::truth` meets its contract.
+-- `front_typing::truth` meets its contract, by Exits.
 use mathlib.Core.Path.{sym, _∙_}
-use Rattle.front_typing.proofs.Laws.{pick-yes, pick-no}
+use Rattle.front_typing.proofs.Exits.{pick-yes, pick-no}
 use Rattle.front_typing.specs.Shapes.{truthShape}
 use borrow.Author.Needs.{needs}
 use Rattle.front_typing.proofs.truth.Statement.{statement}

@@ -1,6 +1,6 @@
--- `typing::two_numbers` meets its contract.
+-- `front_typing::two_numbers` meets its contract, by Exits.
 use mathlib.Core.Path.{sym, _∙_}
-use Rattle.front_typing.proofs.Laws.{both-yes, second-no, first-no}
+use Rattle.front_typing.proofs.Exits.{both-yes, second-no, first-no}
 use Rattle.front_typing.specs.Shapes.{twoNumbers, isNumber}
 use borrow.Author.Needs.{needs}
 use Rattle.front_typing.proofs.two_numbers.Statement.{statement}

@@ -1,6 +1,6 @@
--- `typing::two_truths` meets its contract.
+-- `front_typing::two_truths` meets its contract, by Exits.
 use mathlib.Core.Path.{sym, _∙_}
-use Rattle.front_typing.proofs.Laws.{both-yes, second-no, first-no}
+use Rattle.front_typing.proofs.Exits.{both-yes, second-no, first-no}
 use Rattle.front_typing.specs.Shapes.{twoTruths, isTruth}
 use borrow.Author.Needs.{needs}
 use Rattle.front_typing.proofs.two_truths.Statement.{statement}

@@ -1,7 +1,7 @@
--- `front_words::binder_word` meets its contract.
+-- `front_words::binder_word` meets its contract, by NodeWords.
 use mathlib.Core.Path.{_∙_}
 use borrow.Author.Needs.{needs}
-use Rattle.front_words.proofs.Laws.{far-binder, binder-at}
+use Rattle.front_words.proofs.NodeWords.{far-binder, binder-at}
 use Rattle.front_words.proofs.binder_word.Statement.{statement}
 use Rattle.front_words.proofs.binder_word.Tie as tie
 

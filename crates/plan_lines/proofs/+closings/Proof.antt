@@ -1,9 +1,10 @@
+-- `plan_lines::closings` meets its contract, by Exits, form_words/NodeWords.
 use native.Mathlib.Omega.{arith}
-use Rattle.form_words.specs.Tree.{left}
-use Rattle.form_words.proofs.Laws.{recastC}
+use Rattle.form_words.specs.FormTree.{left}
+use Rattle.form_words.proofs.NodeWords.{recastC}
 use Rattle.spec_plan.specs.Lines.{ascii}
-use Rattle.plan_lines.specs.Text.{closes}
-use Rattle.plan_lines.proofs.Laws.{conds-generator, conds-skip, closings-condition, closings-later, closings-none}
+use Rattle.plan_lines.specs.PartTexts.{closes}
+use Rattle.plan_lines.proofs.Exits.{conds-generator, conds-skip, closings-condition, closings-later, closings-none}
 use borrow.Author.Needs.{needs}
 use Prim.Native.Nat.{ℕ, _<_}
 use borrow.Fn.Kinds.{In}

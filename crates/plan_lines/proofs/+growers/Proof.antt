@@ -1,7 +1,8 @@
+-- `plan_lines::growers` meets its contract, by Exits, form_words/NodeWords.
 use native.Mathlib.Omega.{arith}
-use Rattle.form_words.specs.Tree.{left}
-use Rattle.form_words.proofs.Laws.{recastC}
-use Rattle.plan_lines.proofs.Laws.{growers-generator, growers-condition, growers-head}
+use Rattle.form_words.specs.FormTree.{left}
+use Rattle.form_words.proofs.NodeWords.{recastC}
+use Rattle.plan_lines.proofs.Exits.{growers-generator, growers-condition, growers-head}
 use borrow.Author.Needs.{needs}
 use Prim.Native.Nat.{ℕ, _<_}
 use borrow.Fn.Kinds.{In}

@@ -1,9 +1,10 @@
+-- `plan_lines`: `inside`, `ops` and `ops_upto` meet their contracts together, by Exits, form_words/NodeWords.
 use native.Mathlib.Omega.{arith}
 use mathlib.Core.Path.{refl}
 use Prim.Native.Nat.{_+_}
-use Rattle.form_words.specs.Tree.{left}
-use Rattle.form_words.proofs.Laws.{recast, recastC, next-past}
-use Rattle.plan_lines.proofs.Laws.{ops-none, ops-record, ops-binary, ops-negation, ops-comprehension, upto-end, upto-more, inside-generator, inside-condition, inside-head}
+use Rattle.form_words.specs.FormTree.{left}
+use Rattle.form_words.proofs.NodeWords.{recast, recastC, next-past}
+use Rattle.plan_lines.proofs.Exits.{ops-none, ops-record, ops-binary, ops-negation, ops-comprehension, upto-end, upto-more, inside-generator, inside-condition, inside-head}
 use borrow.Author.Needs.{needs}
 use Prim.Native.Nat.{ℕ, _<_}
 use borrow.Fn.Kinds.{In}

@@ -1,9 +1,10 @@
+-- `plan_lines::openings` meets its contract, by Exits, form_words/NodeWords.
 use native.Mathlib.Omega.{arith}
-use Rattle.form_words.specs.Tree.{left}
-use Rattle.form_words.proofs.Laws.{recastC}
+use Rattle.form_words.specs.FormTree.{left}
+use Rattle.form_words.proofs.NodeWords.{recastC}
 use Rattle.spec_plan.specs.Lines.{ascii}
-use Rattle.plan_lines.specs.Text.{opens}
-use Rattle.plan_lines.proofs.Laws.{conds-generator, conds-skip, openings-later, openings-first, openings-head}
+use Rattle.plan_lines.specs.PartTexts.{opens}
+use Rattle.plan_lines.proofs.Exits.{conds-generator, conds-skip, openings-later, openings-first, openings-head}
 use borrow.Author.Needs.{needs}
 use Prim.Native.Nat.{ℕ, _<_}
 use borrow.Fn.Kinds.{In}

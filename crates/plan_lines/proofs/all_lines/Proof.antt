@@ -1,6 +1,7 @@
+-- `plan_lines::all_lines` meets its contract, by Exits.
 use native.Mathlib.Omega.{arith}
 use Rattle.spec_plan.specs.Lines.{ascii}
-use Rattle.plan_lines.proofs.Laws.{all-is}
+use Rattle.plan_lines.proofs.Exits.{all-is}
 use borrow.Author.Needs.{needs}
 use Rattle.plan_lines.proofs.all_lines.Statement.{statement}
 use Rattle.plan_lines.proofs.all_lines.Tie as tie

@@ -1,5 +1,6 @@
+-- `plan_lines::cell` meets its contract, by Exits.
 use Rattle.spec_plan.specs.Lines.{ascii}
-use Rattle.plan_lines.proofs.Laws.{cell-is}
+use Rattle.plan_lines.proofs.Exits.{cell-is}
 use borrow.Author.Needs.{needs}
 use Rattle.plan_lines.proofs.cell.Statement.{statement}
 use Rattle.plan_lines.proofs.cell.Tie as tie

@@ -1,5 +1,6 @@
+-- `plan_lines::condition` meets its contract, by Exits.
 use Rattle.spec_plan.specs.Lines.{ascii}
-use Rattle.plan_lines.proofs.Laws.{condition-later, condition-first}
+use Rattle.plan_lines.proofs.Exits.{condition-later, condition-first}
 use borrow.Author.Needs.{needs}
 use Rattle.plan_lines.proofs.condition.Statement.{statement}
 use Rattle.plan_lines.proofs.condition.Tie as tie

@@ -1,4 +1,5 @@
-use Rattle.plan_lines.proofs.Laws.{grow-is}
+-- `plan_lines::grow` meets its contract, by Exits.
+use Rattle.plan_lines.proofs.Exits.{grow-is}
 use borrow.Author.Needs.{needs}
 use Rattle.plan_lines.proofs.grow.Statement.{statement}
 use Rattle.plan_lines.proofs.grow.Tie as tie

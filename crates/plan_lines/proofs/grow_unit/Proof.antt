@@ -1,5 +1,6 @@
+-- `plan_lines::grow_unit` meets its contract, by Exits.
 use Rattle.spec_plan.specs.Lines.{ascii}
-use Rattle.plan_lines.proofs.Laws.{unit-is}
+use Rattle.plan_lines.proofs.Exits.{unit-is}
 use borrow.Author.Needs.{needs}
 use Rattle.plan_lines.proofs.grow_unit.Statement.{statement}
 use Rattle.plan_lines.proofs.grow_unit.Tie as tie

@@ -1,7 +1,8 @@
+-- `plan_lines::grower_name` meets its contract, by base_text/LaidText.
 use mathlib.Core.Path.{sym, ap}
 use Rattle.spec_plan.specs.Lines.{ascii}
-use Rattle.plan_lines.specs.Text.{growerText}
-use Rattle.base_text.proofs.Laying.{lays-as}
+use Rattle.plan_lines.specs.PartTexts.{growerText}
+use Rattle.base_text.proofs.LaidText.{lays-as}
 use borrow.Author.Needs.{needs}
 use Rattle.plan_lines.proofs.grower_name.Statement.{statement}
 use Rattle.plan_lines.proofs.grower_name.Tie as tie

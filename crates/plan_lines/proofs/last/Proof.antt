@@ -1,4 +1,5 @@
-use Rattle.plan_lines.proofs.Laws.{last-is}
+-- `plan_lines::last` meets its contract, by Exits.
+use Rattle.plan_lines.proofs.Exits.{last-is}
 use borrow.Author.Needs.{needs}
 use Rattle.plan_lines.proofs.last.Statement.{statement}
 use Rattle.plan_lines.proofs.last.Tie as tie

@@ -1,7 +1,8 @@
+-- `plan_lines::monoid_name` meets its contract, by base_text/LaidText.
 use mathlib.Core.Path.{sym, ap}
 use Rattle.spec_plan.specs.Lines.{ascii, monoidName}
-use Rattle.plan_lines.specs.Text.{monoidText}
-use Rattle.base_text.proofs.Laying.{lays-as}
+use Rattle.plan_lines.specs.PartTexts.{monoidText}
+use Rattle.base_text.proofs.LaidText.{lays-as}
 use borrow.Author.Needs.{needs}
 use Rattle.plan_lines.proofs.monoid_name.Statement.{statement}
 use Rattle.plan_lines.proofs.monoid_name.Tie as tie

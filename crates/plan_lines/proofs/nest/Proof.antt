@@ -1,6 +1,7 @@
+-- `plan_lines::nest` meets its contract, by Exits.
 use native.Mathlib.Omega.{arith}
 use Rattle.spec_plan.specs.Lines.{ascii}
-use Rattle.plan_lines.proofs.Laws.{nest-is}
+use Rattle.plan_lines.proofs.Exits.{nest-is}
 use borrow.Author.Needs.{needs}
 use Rattle.plan_lines.proofs.nest.Statement.{statement}
 use Rattle.plan_lines.proofs.nest.Tie as tie

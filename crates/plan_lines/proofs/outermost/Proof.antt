@@ -1,3 +1,4 @@
+-- `plan_lines::outermost` meets its contract.
 use mathlib.Core.Path.{sym, ap, _∙_}
 use Rattle.plan_marks.specs.PlanIn.{monoidBy}
 use borrow.Author.Needs.{needs}

@@ -1,5 +1,6 @@
+-- `plan_lines::own` meets its contract, by Exits.
 use native.Mathlib.Omega.{arith}
-use Rattle.plan_lines.proofs.Laws.{own-some, own-unit}
+use Rattle.plan_lines.proofs.Exits.{own-some, own-unit}
 use borrow.Author.Needs.{needs}
 use Rattle.plan_lines.proofs.own.Statement.{statement}
 use Rattle.plan_lines.proofs.own.Tie as tie

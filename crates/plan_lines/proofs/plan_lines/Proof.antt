@@ -1,8 +1,9 @@
+-- `plan_lines::plan_lines` meets its contract, by PlanCall.
 use native.Mathlib.Omega.{arith}
 use lib.ListN.{length}
 use Prim.Native.Nat.{_<_}
-use Rattle.base_text.specs.Laying.{big}
-use Rattle.plan_lines.proofs.Print.{print-short, print-full}
+use Rattle.base_text.specs.LaidText.{big}
+use Rattle.plan_lines.proofs.PlanCall.{print-short, print-full}
 use borrow.Author.Needs.{needs}
 use Rattle.plan_lines.proofs.plan_lines.Statement.{statement}
 use Rattle.plan_lines.proofs.plan_lines.Tie as tie

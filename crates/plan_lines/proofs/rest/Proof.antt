@@ -1,5 +1,6 @@
+-- `plan_lines::rest` meets its contract, by Exits.
 use Rattle.spec_plan.specs.Lines.{ascii}
-use Rattle.plan_lines.proofs.Laws.{rest-is}
+use Rattle.plan_lines.proofs.Exits.{rest-is}
 use borrow.Author.Needs.{needs}
 use Rattle.plan_lines.proofs.rest.Statement.{statement}
 use Rattle.plan_lines.proofs.rest.Tie as tie

@@ -1,5 +1,6 @@
+-- `plan_lines::truth` meets its contract, by Exits.
 use Rattle.spec_plan.specs.Lines.{ascii, truthName, showTerm}
-use Rattle.plan_lines.proofs.Laws.{truth-is}
+use Rattle.plan_lines.proofs.Exits.{truth-is}
 use borrow.Author.Needs.{needs}
 use Rattle.plan_lines.proofs.truth.Statement.{statement}
 use Rattle.plan_lines.proofs.truth.Tie as tie

@@ -1,8 +1,9 @@
+-- `test_offers::count` meets its contract, by CountExits.
 use borrow.Author.Needs.{needs}
 use native.Mathlib.Omega.{arith}
 use Prim.Native.Nat.{_-_}
-use Rattle.test_offers.specs.Offered.{longest}
-use Rattle.test_offers.proofs.Counting.{Counting, count-begins, count-over, count-spent, count-again}
+use Rattle.test_offers.specs.OfferedRows.{longest}
+use Rattle.test_offers.proofs.CountExits.{Counting, count-begins, count-over, count-spent, count-again}
 use Rattle.test_offers.proofs.count.Statement.{statement}
 use Rattle.test_offers.proofs.count.Tie as tie
 

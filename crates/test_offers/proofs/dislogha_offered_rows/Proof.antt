@@ -1,3 +1,4 @@
+-- `test_offers::dislogha_offered_rows` meets its contract, by Call, engine/Calls.
 use borrow.Author.Needs.{needs}
 use Rattle.engine.proofs.Calls.{room-refused, asked}
 use Rattle.test_offers.proofs.Call.{offered-scant, offered-refused, room-told, offered-given}

@@ -1,6 +1,7 @@
+-- `test_offers::rows_of` meets its contract, by OfferedRows.
 use native.Mathlib.Omega.{arith}
 use borrow.Author.Needs.{needs}
-use Rattle.test_offers.proofs.Told.{waiting-now, tells}
+use Rattle.test_offers.proofs.OfferedRows.{waiting-now, tells}
 use Rattle.test_offers.proofs.rows_of.Statement.{statement}
 use Rattle.test_offers.proofs.rows_of.Tie as tie
 

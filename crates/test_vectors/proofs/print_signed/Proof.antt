@@ -10,9 +10,9 @@ use mir.Syntax.{w64}
 use mir.Val.{SFits, toZ, ofZ}
 use mir.Facts.{toZ-ofZ}
 use Rattle.spec_plan.specs.Lines.{signedDecimal}
-use Rattle.base_text.specs.Laying.{Lays}
-use Rattle.base_text.proofs.Laying.{lays-reach}
-use Rattle.base_text.proofs.Numbers.{word-most}
+use Rattle.base_text.specs.LaidText.{Lays}
+use Rattle.base_text.proofs.LaidText.{lays-reach}
+use Rattle.base_text.proofs.Decimals.{word-most}
 use borrow.Author.Needs.{needs}
 use Rattle.test_vectors.proofs.print_signed.Statement.{statement}
 use Rattle.test_vectors.proofs.print_signed.Tie as tie

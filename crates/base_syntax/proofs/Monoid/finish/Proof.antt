@@ -1,3 +1,4 @@
+-- `base_syntax::Monoid::finish` meets its contract, by base_signed/SignedWords.
 use borrow.Author.Needs.{needs}
 use mathlib.Core.Path.{_≡_, refl, sym, ap, _∙_}
 use mathlib.Core.Bool.{Bool}
@@ -7,9 +8,9 @@ use mir.Val.{SFits, toZ, ofZ}
 use mir.Facts.{toZ-ofZ, sfits-lit}
 use Rattle.spec_calculus.specs.Lists.{pick}
 use Rattle.spec_calculus.specs.Value.{eqZ}
-use Rattle.base_signed.proofs.Word.{eq-yes, eq-no}
+use Rattle.base_signed.proofs.SignedWords.{eq-yes, eq-no}
 use Rattle.base_syntax.specs.declared.Monoid.{Monoid}
-use Rattle.base_syntax.specs.Word.{noneWord, monoidOf, finishWord}
+use Rattle.base_syntax.specs.MonoidWord.{noneWord, monoidOf, finishWord}
 use Rattle.base_syntax.proofs.Monoid.finish.Statement.{statement}
 use Rattle.base_syntax.proofs.Monoid.finish.Tie as tie
 

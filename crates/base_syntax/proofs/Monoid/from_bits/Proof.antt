@@ -1,3 +1,4 @@
+-- `base_syntax::Monoid::from_bits` meets its contract, by Numbers.
 use borrow.Author.Needs.{needs}
 use mathlib.Core.Path.{_∙_}
 use Prim.Native.Nat.{_%_}

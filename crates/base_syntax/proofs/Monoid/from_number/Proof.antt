@@ -1,3 +1,4 @@
+-- `base_syntax::Monoid::from_number` meets its contract, by Numbers.
 use borrow.Author.Needs.{needs}
 use Rattle.base_syntax.proofs.Numbers.{monoid-rest}
 use Rattle.base_syntax.proofs.Monoid.from_number.Statement.{statement}

@@ -1,3 +1,4 @@
+-- `base_syntax::Monoid::merge` meets its contract, by base_signed/SignedWords.
 use borrow.Author.Needs.{needs}
 use mathlib.Core.Path.{_≡_, refl, sym, ap, ap₂, subst, _∙_}
 use mathlib.Core.Bool.{Bool, true, false}
@@ -9,9 +10,9 @@ use mir.Val.{SFits, toZ, ofZ}
 use mir.Facts.{toZ-ofZ, sfits-lit}
 use Rattle.spec_calculus.specs.Lists.{pick}
 use Rattle.spec_calculus.specs.Value.{eqZ}
-use Rattle.base_signed.proofs.Word.{fits, sum-ok, sum-is, eq-yes, eq-no}
+use Rattle.base_signed.proofs.SignedWords.{fits, sum-ok, sum-is, eq-yes, eq-no}
 use Rattle.base_syntax.specs.declared.Monoid.{Monoid}
-use Rattle.base_syntax.specs.Word.{monoidOf, chosen, mergeWord}
+use Rattle.base_syntax.specs.MonoidWord.{monoidOf, chosen, mergeWord}
 use Rattle.base_syntax.proofs.Monoid.merge.Statement.{statement}
 use Rattle.base_syntax.proofs.Monoid.merge.Tie as tie
 

@@ -1,4 +1,5 @@
-use Rattle.base_syntax.proofs.Laws.{more-below, more-full}
+-- `base_syntax::Monoid::one_more` meets its contract, by MergedWords.
+use Rattle.base_syntax.proofs.MergedWords.{more-below, more-full}
 use borrow.Author.Needs.{needs}
 use Rattle.base_syntax.proofs.Monoid.one_more.Statement.{statement}
 use Rattle.base_syntax.proofs.Monoid.one_more.Tie as tie

@@ -1,7 +1,8 @@
+-- `base_syntax::Monoid::zero` meets its contract.
 use borrow.Author.Needs.{needs}
 use mathlib.Core.Path.{_≡_, sym, ap}
 use Rattle.base_syntax.specs.declared.Monoid.{Monoid}
-use Rattle.base_syntax.specs.Word.{monoidOf, zeroWord}
+use Rattle.base_syntax.specs.MonoidWord.{monoidOf, zeroWord}
 use Rattle.base_syntax.proofs.Monoid.zero.Statement.{statement}
 use Rattle.base_syntax.proofs.Monoid.zero.Tie as tie
 

@@ -1,3 +1,4 @@
+-- `base_syntax::Op::from_number` meets its contract, by Numbers.
 use borrow.Author.Needs.{needs}
 use Rattle.base_syntax.proofs.Numbers.{op-rest}
 use Rattle.base_syntax.proofs.Op.from_number.Statement.{statement}

@@ -1,7 +1,7 @@
--- `reader::bytes::begin` meets its contract.
+-- `front_parser::bytes::begin` meets its contract, by LeafRecords.
 use mathlib.Core.Path.{refl}
-use Rattle.front_parser.specs.Front.{none, deep, many, cut}
-use Rattle.front_parser.proofs.Leaves.{headed, not-headed, begin-record}
+use Rattle.front_parser.specs.RecordFront.{none, deep, many, cut}
+use Rattle.front_parser.proofs.LeafRecords.{headed, not-headed, begin-record}
 use borrow.Author.Needs.{needs}
 use Rattle.front_parser.proofs.bytes.begin.Statement.{statement}
 use Rattle.front_parser.proofs.bytes.begin.Tie as tie

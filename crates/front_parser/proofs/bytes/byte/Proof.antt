@@ -1,7 +1,7 @@
--- `reader::bytes::byte` meets its contract.
+-- `front_parser::bytes::byte` meets its contract, by LeafRecords.
 use mathlib.Core.Path.{refl}
 use native.Mathlib.Omega.{arith}
-use Rattle.front_parser.proofs.Leaves.{no-byte}
+use Rattle.front_parser.proofs.LeafRecords.{no-byte}
 use borrow.Author.Needs.{needs}
 use Rattle.front_parser.proofs.bytes.byte.Statement.{statement}
 use Rattle.front_parser.proofs.bytes.byte.Tie as tie

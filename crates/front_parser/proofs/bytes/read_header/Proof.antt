@@ -1,5 +1,5 @@
--- `reader::bytes::read_header` meets its contract.
-use Rattle.front_parser.proofs.Leaves.{headed-short, headed-cut, headed-whole}
+-- `front_parser::bytes::read_header` meets its contract, by LeafRecords.
+use Rattle.front_parser.proofs.LeafRecords.{headed-short, headed-cut, headed-whole}
 use borrow.Author.Needs.{needs}
 use Rattle.front_parser.proofs.bytes.read_header.Statement.{statement}
 use Rattle.front_parser.proofs.bytes.read_header.Tie as tie

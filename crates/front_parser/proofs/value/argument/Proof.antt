@@ -1,5 +1,5 @@
--- `reader::value::argument` meets its contract.
-use Rattle.front_parser.proofs.Leaves.{valued-at, table-left}
+-- `front_parser::value::argument` meets its contract, by LeafRecords.
+use Rattle.front_parser.proofs.LeafRecords.{valued-at, table-left}
 use borrow.Author.Needs.{needs}
 use Rattle.front_parser.proofs.value.argument.Statement.{statement}
 use Rattle.front_parser.proofs.value.argument.Tie as tie

@@ -1,6 +1,6 @@
--- `reader::value::finish` meets its contract.
+-- `front_parser::value::finish` meets its contract, by LeafRecords.
 use native.Mathlib.Omega.{arith}
-use Rattle.front_parser.proofs.Leaves.{finished}
+use Rattle.front_parser.proofs.LeafRecords.{finished}
 use borrow.Author.Needs.{needs}
 use Rattle.front_parser.proofs.value.finish.Statement.{statement}
 use Rattle.front_parser.proofs.value.finish.Tie as tie

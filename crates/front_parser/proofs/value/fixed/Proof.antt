@@ -1,5 +1,5 @@
--- `reader::value::fixed` meets its contract.
-use Rattle.front_parser.proofs.Leaves.{fixed-none, fixed-other, fixed-at}
+-- `front_parser::value::fixed` meets its contract, by LeafRecords.
+use Rattle.front_parser.proofs.LeafRecords.{fixed-none, fixed-other, fixed-at}
 use borrow.Author.Needs.{needs}
 use Rattle.front_parser.proofs.value.fixed.Statement.{statement}
 use Rattle.front_parser.proofs.value.fixed.Tie as tie

@@ -1,5 +1,5 @@
--- `reader::value::index` meets its contract.
-use Rattle.front_parser.proofs.Leaves.{index-broken, index-is}
+-- `front_parser::value::index` meets its contract, by LeafRecords.
+use Rattle.front_parser.proofs.LeafRecords.{index-broken, index-is}
 use borrow.Author.Needs.{needs}
 use Rattle.front_parser.proofs.value.index.Statement.{statement}
 use Rattle.front_parser.proofs.value.index.Tie as tie

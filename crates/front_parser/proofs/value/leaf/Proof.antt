@@ -1,6 +1,6 @@
--- `reader::value::leaf` meets its contract.
+-- `front_parser::value::leaf` meets its contract, by LeafRecords.
 use native.Mathlib.Omega.{arith}
-use Rattle.front_parser.proofs.Leaves.{leaf-small, value-is, leaf-broken, leaf-read}
+use Rattle.front_parser.proofs.LeafRecords.{leaf-small, value-is, leaf-broken, leaf-read}
 use borrow.Author.Needs.{needs}
 use Rattle.front_parser.proofs.value.leaf.Statement.{statement}
 use Rattle.front_parser.proofs.value.leaf.Tie as tie

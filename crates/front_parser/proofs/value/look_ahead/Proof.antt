@@ -1,7 +1,7 @@
--- `reader::value::look_ahead` meets its contract.
+-- `front_parser::value::look_ahead` meets its contract, by LeafRecords.
 use native.Mathlib.Omega.{arith}
-use Rattle.front_parser.specs.Kinds.{of-generator, of-binding, of-condition}
-use Rattle.front_parser.proofs.Leaves.{looks-at, looks-term}
+use Rattle.front_parser.specs.RecordKinds.{of-generator, of-binding, of-condition}
+use Rattle.front_parser.proofs.LeafRecords.{looks-at, looks-term}
 use Rattle.front_parser.proofs.value.look_ahead.Statement.{statement}
 use Rattle.front_parser.proofs.value.look_ahead.Tie as tie
 

@@ -1,5 +1,5 @@
--- `reader::value::name` meets its contract.
-use Rattle.front_parser.proofs.Leaves.{name-broken, name-is}
+-- `front_parser::value::name` meets its contract, by LeafRecords.
+use Rattle.front_parser.proofs.LeafRecords.{name-broken, name-is}
 use borrow.Author.Needs.{needs}
 use Rattle.front_parser.proofs.value.name.Statement.{statement}
 use Rattle.front_parser.proofs.value.name.Tie as tie

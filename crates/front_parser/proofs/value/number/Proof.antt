@@ -1,5 +1,5 @@
--- `reader::value::number` meets its contract.
-use Rattle.front_parser.proofs.Leaves.{number-broken, number-small, number-large}
+-- `front_parser::value::number` meets its contract, by LeafRecords.
+use Rattle.front_parser.proofs.LeafRecords.{number-broken, number-small, number-large}
 use borrow.Author.Needs.{needs}
 use Rattle.front_parser.proofs.value.number.Statement.{statement}
 use Rattle.front_parser.proofs.value.number.Tie as tie

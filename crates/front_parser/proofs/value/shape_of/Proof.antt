@@ -1,8 +1,8 @@
--- `reader::value::shape_of` meets its contract.
+-- `front_parser::value::shape_of` meets its contract, by LeafRecords.
 use mathlib.Core.Path.{refl}
 use native.Mathlib.Omega.{arith}
-use Rattle.front_parser.specs.Kinds.{is-table, of-field, of-record, of-not}
-use Rattle.front_parser.proofs.Leaves.{shaped-at, shaped-none, shaped-value, shaped-over, shaped-two}
+use Rattle.front_parser.specs.RecordKinds.{is-table, of-field, of-record, of-not}
+use Rattle.front_parser.proofs.LeafRecords.{shaped-at, shaped-none, shaped-value, shaped-over, shaped-two}
 use Rattle.front_parser.proofs.value.shape_of.Statement.{statement}
 use Rattle.front_parser.proofs.value.shape_of.Tie as tie
 

@@ -1,5 +1,5 @@
--- `reader::value::short` meets its contract.
-use Rattle.front_parser.proofs.Leaves.{short-cut, short-over, short-is}
+-- `front_parser::value::short` meets its contract, by LeafRecords.
+use Rattle.front_parser.proofs.LeafRecords.{short-cut, short-over, short-is}
 use borrow.Author.Needs.{needs}
 use Rattle.front_parser.proofs.value.short.Statement.{statement}
 use Rattle.front_parser.proofs.value.short.Tie as tie

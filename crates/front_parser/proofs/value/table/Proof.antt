@@ -1,5 +1,5 @@
--- `reader::value::table` meets its contract.
-use Rattle.front_parser.proofs.Leaves.{table-broken, table-is}
+-- `front_parser::value::table` meets its contract, by LeafRecords.
+use Rattle.front_parser.proofs.LeafRecords.{table-broken, table-is}
 use borrow.Author.Needs.{needs}
 use Rattle.front_parser.proofs.value.table.Statement.{statement}
 use Rattle.front_parser.proofs.value.table.Tie as tie

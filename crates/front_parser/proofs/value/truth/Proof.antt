@@ -1,5 +1,5 @@
--- `reader::value::truth` meets its contract.
-use Rattle.front_parser.proofs.Leaves.{truth-broken, truth-over, truth-is}
+-- `front_parser::value::truth` meets its contract, by LeafRecords.
+use Rattle.front_parser.proofs.LeafRecords.{truth-broken, truth-over, truth-is}
 use borrow.Author.Needs.{needs}
 use Rattle.front_parser.proofs.value.truth.Statement.{statement}
 use Rattle.front_parser.proofs.value.truth.Tie as tie

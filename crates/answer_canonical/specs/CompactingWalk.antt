@@ -1,0 +1,52 @@
+-- The compacting walk. Raw words are read at `src` and written words go to `dst`, which is never behind `src`. Each promise is
+-- for whatever value of the type stands in the words lent, however these are cut.
+use mathlib.Core.Path.{_≡_}
+use mathlib.Core.List.{List, _++_, map}
+use Prim.Native.Nat.{ℕ, _+_, _-_, _<_}
+use lib.ListN.{length, replicate}
+use lib.IntN.{ℤ, pos}
+use Rattle.spec_calculus.specs.Value.{Value, Values}
+use Rattle.spec_calculus.specs.Monoid.{ordered}
+use Rattle.spec_calculus.proofs.Lists.{All}
+use Rattle.spec_checks.proofs.Refold.{refolds, arrangeAs}
+use Rattle.spec_outcome.specs.WrittenForm.{words, wordsL}
+use Rattle.form_words.specs.FormTree.{left}
+use Rattle.answer_types.specs.Shape.{typeAt, typesAt}
+use Rattle.answer_types.specs.TypedValues.{Of, OfEach}
+use Rattle.answer_types.specs.Elements.{wordsOf}
+use Rattle.answer_canonical.specs.declared.Ends.{Ends}
+
+-- behind D stand the words M, then a gap, then R; the ends are behind M and behind the gap
+pub record Moved (D M R o : List ℤ) (e : Ends) : Type 0 where
+  pub gap : List ℤ
+  pub cut : o ≡ D ++ (M ++ (gap ++ R))
+  pub at-dst : e .dst ≡ length D + length M
+  pub at-src : e .dst + length gap ≡ e .src
+
+-- n words move down as they are
+pub record CarryPost (n : ℕ) (e : Ends) (o o′ : List ℤ) (r : Ends) : Type 0 where
+  pub is : (D G M R : List ℤ) → length M ≡ n → o ≡ D ++ (G ++ (M ++ R)) → length D ≡ e .dst → length D + length G ≡ e .src → Moved D M R o′ r
+
+-- a value, the fields of the types from place i to e, n elements: each is brought to written form
+pub record WalkPost (s : List ℕ) (i : ℕ) (e : Ends) (o o′ : List ℤ) (r : Ends) : Type 0 where
+  pub is :
+      (f : ℕ) → left i < f → (D G R : List ℤ) (v : Value) → Of (typeAt f s i) v →
+      o ≡ D ++ (G ++ (words v ++ R)) → length D ≡ e .dst → length D + length G ≡ e .src → Moved D (words (arrangeAs (typeAt f s i) v)) R o′ r
+
+pub record WalkFieldsPost (s : List ℕ) (i end : ℕ) (e : Ends) (o o′ : List ℤ) (r : Ends) : Type 0 where
+  pub is :
+      (f : ℕ) → left i + 1 < f → (D G R : List ℤ) (vs : Values) → OfEach (typesAt f s i end) vs →
+      o ≡ D ++ (G ++ (wordsL vs ++ R)) → length D ≡ e .dst → length D + length G ≡ e .src → Moved D (wordsL (refolds ordered (typesAt f s i end) vs)) R o′ r
+
+pub record WalkElementsPost (s : List ℕ) (i n : ℕ) (e : Ends) (o o′ : List ℤ) (r : Ends) : Type 0 where
+  pub is :
+      (f : ℕ) → left i < f → (D G R : List ℤ) (l : List Value) → All (Of (typeAt f s i)) l → length l ≡ n →
+      o ≡ D ++ (G ++ (wordsOf l ++ R)) → length D ≡ e .dst → length D + length G ≡ e .src → Moved D (wordsOf (map (arrangeAs (typeAt f s i)) l)) R o′ r
+
+-- The raw words of a value, at the buffer's front, become its written words. "After an answer the words from its length up to G
+-- are 0 and later ones unchanged", G being the length of the raw words.
+pub record FinishPost (s : List ℕ) (i : ℕ) (o o′ : List ℤ) (r : ℕ) : Type 0 where
+  pub is :
+      (f : ℕ) → left i < f → (R : List ℤ) (v : Value) → Of (typeAt f s i) v → o ≡ words v ++ R →
+      let ws = words (arrangeAs (typeAt f s i) v) in
+      (o′ ≡ ws ++ (replicate (length (words v) - length ws) (pos 0) ++ R)) × (r ≡ length ws)

@@ -1,0 +1,148 @@
+-- One law for each way out of the functions that read bytes. Assumes nothing.
+use mathlib.Core.Path.{_≡_, refl, sym, ap, _∙_}
+use mathlib.Core.Bool.{Bool, true, false}
+use Prim.Native.Nat.{ℕ, _+_, _-_, _*_, _^_, _≤_, _<_}
+use native.Mathlib.Nat.{le-trans, mul-le-mul-left, mul-le-mul-right}
+use native.Mathlib.Omega.{arith}
+use lib.Dec.{eqb}
+use lib.ListN.{length, take, drop, length-drop}
+use lib.Seq.{take-all, drop-drop}
+use lib.IntN.{ℤ, pos, negsuc, natAbs, _-ℤ_}
+use mir.Syntax.{w64}
+use mir.Val.{SFits, toZ, ofZ}
+use mir.Facts.{toZ-ofZ}
+use borrow.Author.Tests.{lt-ltb, le-ltb, eqb-true, eqb-false}
+use Rattle.spec_calculus.specs.Lists.{pick}
+use Rattle.base_signed.proofs.SignedWords.{up, mag-sub, no}
+use Rattle.base_signed.proofs.SignedWords as Wo
+use Rattle.spec_encoding.specs.Record.{Bytes, refused, got, require, byte, two, four, signed, lengthOf, contentOf}
+use Rattle.spec_encoding.specs.Data.{isTable, fits}
+use Rattle.spec_encoding.proofs.Data.{Fit, fit}
+use Rattle.base_tables.specs.Description.{descriptionOf, columnsIn, rowsIn, positionIn, cellIn, CellPost}
+use Rattle.base_tables.specs.DataReader.{headerGives, headerAt, tableAt}
+use Rattle.base_tables.proofs.DataRecords.{passes, Whole, whole, whole-is, fit-is}
+use Rattle.base_tables.specs.declared.TableHeader.{TableHeader}
+use Rattle.base_tables.specs.declared.TableHeader.the-variants.{Record, Bad}
+use Rattle.base_tables.specs.declared.TableRead.the-variants.{Is, Refused}
+
+pub few : (a b : ℕ) → a < 16 → b < 2048 → a * b < 32768
+few a b p q =
+    omega
+    (arith, le-trans (mul-le-mul-left {m = b} {n = 2047} a (omega arith)) (mul-le-mul-right {m = a} {n = 15} 2047 (omega arith)))
+
+-- signed_of
+module _ {n : ℕ} (p : n < 2 ^ 32) where
+  pub low : n < 2147483648 → (toZ w64 n ≡ signed n) × (natAbs (toZ w64 n) ≤ 2 ^ 31)
+  unfolding signed
+  low q = rw (up {x = n} (omega arith)) (rw (lt-ltb n 2147483648 q, signed), omega arith)
+
+  pub high-ok : SFits w64 (toZ w64 n -ℤ pos 4294967296)
+  high-ok = rw (up {x = n} (omega arith)) (Wo.fits (omega (arith, mag-sub (pos n) (pos 4294967296))))
+
+  module _ (q : 2147483648 ≤ n) where
+    high-is : toZ w64 n -ℤ pos 4294967296 ≡ negsuc (0xffffffff - n)
+    high-is = rw (up {x = n} (omega arith)) (simp (lt-ltb n 4294967296 p) (ap negsuc (omega arith)))
+
+    pub high : (toZ w64 (ofZ w64 (toZ w64 n -ℤ pos 4294967296)) ≡ signed n) × (natAbs (toZ w64 (ofZ w64 (toZ w64 n -ℤ pos 4294967296))) ≤ 2 ^ 31)
+    unfolding signed
+    high = rw (toZ-ofZ high-ok, high-is) (rw (le-ltb n 2147483648 q, signed), omega arith)
+
+-- read_header
+pub header-bad : (s : Bytes) → (Whole s → ⊥) → headerGives Bad ≡ headerAt s
+unfolding headerGives headerAt require
+header-bad s h = rw (passes (isTable s) (whole s) h)
+
+pub header-good : (s : Bytes) {n : ℕ} → n ≡ lengthOf s → Whole s → headerGives (Record n) ≡ headerAt s
+unfolding headerGives headerAt require
+header-good s e w = rw (whole-is s w, e)
+
+-- well_formed
+pub unfit : (c : Bytes) → (Fit c → ⊥) → false ≡ fits c
+unfit c h = sym (passes (fits c) (fit c) h)
+
+pub fits-length : (c : Bytes) {a b n k : ℕ} → a ≡ byte c 0 → b ≡ byte c 1 → n ≡ two c 2 → k ≡ b * n →
+    (1 ≤ a) × (a ≤ 3) × (1 ≤ b) × (b ≤ 8) × (n ≤ 1024) → eqb (length c) (4 + 4 * k) ≡ fits c
+fits-length c {a} {b} {n} {k} ea eb en ek ranges = go (eqb (length c) (4 + 4 * k)) refl
+  where
+    product : k ≡ byte c 1 * two c 2
+    product = rw (ek, eb, en)
+
+    go : (t : Bool) → eqb (length c) (4 + 4 * k) ≡ t → t ≡ fits c
+    go true e = sym (fit-is c (omega (arith, product, eqb-true (length c) (4 + 4 * k) e)))
+    go false e = unfit c (λ f. eqb-false (length c) (4 + 4 * k) e (omega (arith, product, f .long)))
+
+-- describe
+pub describes : (c : Bytes) (p : ℕ) {a b n : ℕ} → a ≡ byte c 0 → b ≡ byte c 1 → n ≡ two c 2 → a + 4 * (b + 16 * (n + 2048 * p)) ≡ descriptionOf c p
+unfolding descriptionOf
+describes c p ea eb en = rw (ea, eb, en)
+
+-- cell
+module _ {d : Bytes} {w r c : ℕ} where
+  pub cell-below : {n : ℕ} → n ≡ rowsIn w → n ≤ r → CellPost d w r c (pos 0)
+  unfolding cellIn pick
+  cell-below e p = record { is = rw (le-ltb r (rowsIn w) (rw e at p)); small = omega arith }
+
+  module _ {n m : ℕ} (en : n ≡ rowsIn w) (p : r < n) (em : m ≡ columnsIn w) where
+    pub cell-beside : m ≤ c → CellPost d w r c (pos 0)
+    unfolding cellIn pick
+    cell-beside q = record { is = rw (lt-ltb r (rowsIn w) (rw en at p), le-ltb c (columnsIn w) (rw em at q)); small = omega arith }
+
+    pub cell-inside : c < m → {k x : ℕ} {z : ℤ} → k ≡ m * r → x ≡ four d (positionIn w + 4 * (k + c)) → (z ≡ signed x) × (natAbs z ≤ 2 ^ 31) → CellPost d w r c z
+    unfolding cellIn pick
+    cell-inside q ek ex h =
+        record {
+          is = rw (lt-ltb r (rowsIn w) (rw en at p), lt-ltb c (columnsIn w) (rw em at q)) (h .0 ∙ ap signed (rw (ex, ek, em)));
+          small = h .1;
+        }
+
+-- what a header's answer says of the bytes
+pub found : (l : Bytes) {h : TableHeader} {n : ℕ} → headerGives h ≡ headerAt l → h ≡ Record n → (isTable l ≡ true) × (lengthOf l ≡ n)
+unfolding headerGives headerAt require
+found l {n = n} e q = go (isTable l) (sym e ∙ ap headerGives q)
+  where
+    go : (t : Bool) → require 11 t (got (lengthOf l)) ≡ got n → (t ≡ true) × (lengthOf l ≡ n)
+    go true h = (refl, cc)
+    go false h = no (cc)
+
+pub not-found : (l : Bytes) {h : TableHeader} → headerGives h ≡ headerAt l → h ≡ Bad → isTable l ≡ false
+unfolding headerGives headerAt require
+not-found l e q = go (isTable l) (sym e ∙ ap headerGives q)
+  where
+    go : (t : Bool) → require 11 t (got (lengthOf l)) ≡ refused 11 → t ≡ false
+    go true h = no (cc)
+    go false h = refl
+
+-- table_at
+-- `&data[p..]`
+part-from : (d : Bytes) (p : ℕ) → take (length d - p) (drop p d) ≡ drop p d
+part-from d p = take-all (length d - p) (drop p d) (rw length-drop (omega arith))
+
+module _ (d : Bytes) (p : ℕ) {h : TableHeader} (e : headerGives h ≡ headerAt (take (length d - p) (drop p d))) where
+  pub table-bad : h ≡ Bad → Refused 11 ≡ tableAt d p
+  unfolding tableAt pick
+  table-bad q = rw (not-found (drop p d) (e ∙ ap headerAt (part-from d p)) q)
+
+  module _ {n : ℕ} (q : h ≡ Record n) where
+    good : isTable (drop p d) ≡ true
+    good = found (drop p d) (e ∙ ap headerAt (part-from d p)) q .0
+
+    long : lengthOf (drop p d) ≡ n
+    long = found (drop p d) (e ∙ ap headerAt (part-from d p)) q .1
+
+    pub table-within : p ≤ length d → p + 4 + n ≤ length d
+    table-within l = omega (arith, whole (drop p d) good .within, long, length-drop p d)
+
+    -- `&data[from..next]`
+    content : take (p + 4 + n - (p + 4)) (drop (p + 4) d) ≡ contentOf (drop p d)
+    content =
+        let k : p + 4 + n - (p + 4) ≡ n = omega arith in
+        rw (k, long) (ap (take n) (sym (drop-drop 4 p d)))
+
+    module _ {f : Bool} (g : f ≡ fits (take (p + 4 + n - (p + 4)) (drop (p + 4) d))) where
+      pub table-unfit : f ≡ false → Refused 12 ≡ tableAt d p
+      unfolding tableAt pick
+      table-unfit z = rw (good, ← content, ← g, z)
+
+      pub table-is : f ≡ true → {w : ℕ} → w ≡ descriptionOf (take (p + 4 + n - (p + 4)) (drop (p + 4) d)) (p + 8) → Is w (p + 4 + n) ≡ tableAt d p
+      unfolding tableAt pick
+      table-is z v = rw (good, ← content, ← g, z, v, long)

@@ -1,6 +1,0 @@
--- Answering by plan, one offered row at a time.
-pub mod Program
-pub mod Machine
-pub mod Offers
-pub mod Flat
-pub mod Text

@@ -1,0 +1,38 @@
+-- What a part finds and leaves that answers an accepted question. Scratch is cleared by the caller.
+use mathlib.Core.Path.{_≡_}
+use mathlib.Core.List.{List}
+use Prim.Native.Nat.{ℕ, _≤_}
+use lib.ListN.{length, getD}
+use lib.IntN.{ℤ}
+use Rattle.spec_calculus.specs.Value.{Value}
+use Rattle.spec_encoding.specs.Record.{Bytes, got}
+use Rattle.spec_encoding.specs.Reader.{readQuestion}
+use Rattle.spec_outcome.specs.Acceptance.{Accepted}
+use Rattle.spec_outcome.specs.Outcome.{written}
+use Rattle.base_scratch.specs.Map.{unusedAt}
+use Rattle.form_prepared.specs.PreparedQuestion.{Prepared}
+use Rattle.spec_outcome.specs.Gives.{Settles}
+use Rattle.form_prepared.specs.declared.Answer.{Answer}
+use Rattle.form_prepared.specs.declared.Answer.the-variants.{Short, Length}
+
+-- some question that was read and accepted stands in scratch
+pub record Asked (d : Bytes) (s : List ℕ) : Type 0 where
+  pub question : Bytes
+  pub accepted : Accepted
+  pub read : readQuestion question ≡ got (accepted .question)
+  pub prepared : Prepared d accepted s
+
+-- "An answer is 0 and its length ..; a refusal its number and length 0": "32: the answer buffer has fewer than G words"
+abbrev pub numberOf : Answer → ℕ
+numberOf Short = 32
+numberOf (Length n) = 0
+
+abbrev pub lengthOf : Answer → ℕ
+lengthOf Short = 0
+lengthOf (Length n) = n
+
+-- With whatever question stands in scratch: number, length and buffer are those that its value has. Words from 2,048 on stay.
+pub record Answers (value : Accepted → Value) (d : Bytes) (s : List ℕ) (o : List ℤ) (s′ : List ℕ) (o′ : List ℤ) (r : Answer) : Type 0 where
+  pub is : (l : Bytes) (a : Accepted) → readQuestion l ≡ got (a .question) → Prepared d a s → Settles (written value o a) o (numberOf r) (lengthOf r) o′
+  pub long : length s′ ≡ length s
+  pub above : (j : ℕ) → unusedAt ≤ j → getD s′ j 0 ≡ getD s j 0

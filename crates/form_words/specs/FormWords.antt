@@ -1,0 +1,83 @@
+-- The words of a form, one for each form, generator and condition in it, in pre-order; what fits into them; and that
+-- scratch holds words from a place on.
+use mathlib.Core.Path.{_≡_}
+use mathlib.Core.List.{List, [], _∷_, _++_}
+use Prim.Native.Nat.{ℕ, suc, _+_, _-_, _*_, _^_, _<_}
+use lib.IntN.{ℤ, pos, negsuc}
+use lib.Signed.{mag}
+use Rattle.spec_calculus.specs.Lists.{pick}
+use Rattle.spec_normal_form.specs.Form.{Form, Forms, Clauses, num, truth, row, cell, rec, bin, negate, comp, fnil, fcons, done, gen, cond}
+use Rattle.base_syntax.specs.Numbers.{opArg, monoidArg}
+use Rattle.form_words.specs.NodeWord.{wordAt, pack}
+
+-- how many words it has
+unfoldable mutual
+  pub size : Form → ℕ
+  size (num z) = 1
+  size (truth b) = 1
+  size (row g) = 1
+  size (cell c g) = 1
+  size (rec ts) = suc (sizeF ts)
+  size (bin o s t) = suc (size s + size t)
+  size (negate t) = suc (size t)
+  size (comp m q h) = suc (sizeC q + size h)
+
+  pub sizeF : Forms → ℕ
+  sizeF fnil = 0
+  sizeF (fcons t ts) = size t + sizeF ts
+
+  pub sizeC : Clauses → ℕ
+  sizeC done = 0
+  sizeC (gen g k q) = suc (sizeC q)
+  sizeC (cond t q) = suc (size t + sizeC q)
+
+-- a number's argument is its distance from -2^31
+abbrev pub numberArg : ℤ → ℕ
+numberArg (pos n) = 0x80000000 + n
+numberArg (negsuc n) = 0x7fffffff - n
+
+unfoldable mutual
+  pub flat : Form → List ℕ
+  flat (num z) = pack 1 0 (numberArg z) ∷ []
+  flat (truth b) = pack 2 0 (pick b 1 0) ∷ []
+  flat (row g) = pack 3 0 g ∷ []
+  flat (cell c g) = pack 4 0 (1024 * c + g) ∷ []
+  flat (rec ts) = pack 5 (sizeF ts) 0 ∷ flatF ts
+  flat (bin o s t) = pack 6 (size s + size t) (opArg o) ∷ (flat s ++ flat t)
+  flat (negate t) = pack 7 (size t) 0 ∷ flat t
+  flat (comp m q h) = pack 8 (sizeC q + size h) (monoidArg m) ∷ (flatC q ++ flat h)
+
+  pub flatF : Forms → List ℕ
+  flatF fnil = []
+  flatF (fcons t ts) = flat t ++ flatF ts
+
+  -- below a generator is nothing, below a condition its form
+  pub flatC : Clauses → List ℕ
+  flatC done = []
+  flatC (gen g k q) = pack 9 0 (1024 * g + k) ∷ flatC q
+  flatC (cond t q) = pack 10 (size t) 0 ∷ (flat t ++ flatC q)
+
+-- constants within 32 bits signed; generators, columns and tables below 1,024
+abbrev mutual
+  pub Fits : Form → Type 0
+  Fits (num z) = mag z < 2 ^ 31
+  Fits (truth b) = Unit {0}
+  Fits (row g) = g < 1024
+  Fits (cell c g) = (c < 1024) × (g < 1024)
+  Fits (rec ts) = FitsF ts
+  Fits (bin o s t) = Fits s × Fits t
+  Fits (negate t) = Fits t
+  Fits (comp m q h) = FitsC q × Fits h
+
+  pub FitsF : Forms → Type 0
+  FitsF fnil = Unit {0}
+  FitsF (fcons t ts) = Fits t × FitsF ts
+
+  pub FitsC : Clauses → Type 0
+  FitsC done = Unit {0}
+  FitsC (gen g k q) = (g < 1024) × (k < 1024) × FitsC q
+  FitsC (cond t q) = Fits t × FitsC q
+
+abbrev pub Holds : List ℕ → ℕ → List ℕ → Type 0
+Holds s i [] = Unit {0}
+Holds s i (w ∷ l) = (wordAt s i ≡ w) × Holds s (i + 1) l

@@ -1,0 +1,52 @@
+-- A node's word: its kind (4 bits), how many words are below it (10 bits), its argument (the rest). Words stand in
+-- pre-order: a node's first child is the word behind it. Every word is read as some node, and places are cut at 512, the
+-- end of the words, so reading is total.
+use mathlib.Core.List.{List, [], _∷_}
+use mathlib.Core.Bool.{true, false}
+use Prim.Native.Nat.{ℕ, _+_, _-_, _*_, _/_, _%_, min}
+use lib.Dec.{ltb, leb, eqb}
+use lib.ListN.{getD}
+use lib.IntN.{ℤ, pos, negsuc}
+use Rattle.spec_calculus.specs.Lists.{pick}
+use Rattle.base_syntax.specs.Numbers.{opAt, monoidAt}
+use Rattle.base_scratch.specs.Map.{formAt, places}
+use Rattle.form_words.specs.declared.FormNode.{FormNode}
+use Rattle.form_words.specs.declared.FormNode.the-variants.{Number, Truth, Row, Cell, Record, Binary, Negation, Comprehension, Generator, Condition, Nothing}
+
+abbrev pub wordAt : List ℕ → ℕ → ℕ
+wordAt s i = getD s (formAt + i) 0
+
+abbrev pub kindOf : ℕ → ℕ
+kindOf w = w % 16
+
+abbrev pub belowOf : ℕ → ℕ
+belowOf w = w / 16 % 1024
+
+abbrev pub argOf : ℕ → ℕ
+argOf w = w / 16384
+
+abbrev pub pack : ℕ → ℕ → ℕ → ℕ
+pack k b a = k + 16 * (b + 1024 * a)
+
+-- the place behind the subtree at i
+unfoldable pub next : List ℕ → ℕ → ℕ
+next s i = min (i + 1 + belowOf (wordAt s i)) places
+
+-- a number is kept as its distance from -2^31
+abbrev pub numberOf : ℕ → ℤ
+numberOf a = elim (ltb a 0x80000000) [ true ↦ negsuc (0x7fffffff - a) | false ↦ pos (a - 0x80000000) ]
+
+-- The node with argument a at place i, for each kind from 0 on. The places in it are behind the record, of the second
+-- operand, behind the condition. A cell is column and generator, a generator its number and its table, all below 1,024. The
+-- bits of rows, cells, comprehensions, generators and conditions that are not read here are free: a plan is kept there.
+abbrev pub kinds : List ℕ → ℕ → ℕ → List FormNode
+kinds s i a =
+    Nothing ∷ Number (numberOf a) ∷ Truth (eqb a 1) ∷ Row (a % 1024) ∷ Cell (a / 1024 % 1024) (a % 1024) ∷ Record (next s i)
+    ∷ Binary (opAt a) (next s (i + 1)) ∷ Negation ∷ Comprehension (monoidAt (a % 8)) ∷ Generator (a / 1024 % 1024) (a % 1024)
+    ∷ Condition (next s i) ∷ []
+
+unfoldable pub nodeOf : List ℕ → ℕ → ℕ → ℕ → FormNode
+nodeOf s i k a = getD (kinds s i a) k Nothing
+
+unfoldable pub nodeAt : List ℕ → ℕ → FormNode
+nodeAt s i = pick (leb places i) Nothing (nodeOf s i (kindOf (wordAt s i)) (argOf (wordAt s i)))

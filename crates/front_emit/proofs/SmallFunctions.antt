@@ -1,0 +1,152 @@
+-- Laws of the small functions.
+use mathlib.Core.Path.{_≡_, refl, sym, ap, ap₂, subst, _∙_}
+use mathlib.Core.Bool.{Bool, true, false}
+use mathlib.Core.List.{List, [], _∷_}
+use Prim.Native.Nat.{ℕ, zero, suc, _+_, _*_, _<_, _≤_}
+use native.Mathlib.Omega.{arith}
+use types.Run.{OneOf, miss}
+use denote.Enum.Declared.{tagOf}
+use borrow.Author.Tests.{ltb-true, lt-ltb}
+use lib.Dec.{ltb}
+use lib.ListN.{length, getD, set, length-set, List·getD-eq-default}
+use Rattle.spec_calculus.specs.Lists.{pick}
+use Rattle.spec_calculus.specs.Syntax.{of}
+use Rattle.spec_calculus.specs.Syntax as Sy
+use Rattle.base_tables.specs.Description.{collectionIn}
+use Rattle.spec_normal_form.specs.Normal.{givesWay}
+use Rattle.front_theory.specs.NodeForms.{enter, levels}
+use Rattle.base_syntax.specs.declared.Monoid.{Monoid}
+use Rattle.base_syntax.specs.declared.Monoid.the-variants as Mo
+use Rattle.base_syntax.specs.MonoidWord.{monoidOf}
+use Rattle.base_syntax.proofs.Monoid as monoid
+use Rattle.base_syntax.specs.declared.Op.{Op}
+use Rattle.base_syntax.specs.declared.Op.the-variants as Op
+use Rattle.base_syntax.proofs.Op as op
+use Rattle.front_resolve.specs.Place.{Place, bit, envOf}
+use Rattle.front_resolve.specs.declared.Form.{Form}
+use Rattle.front_resolve.specs.declared.Form.the-variants.{Number, Truth, Row, Cell, Record, Two, Not, Comp, Table, Bad}
+use Rattle.front_resolve.proofs.Form as form
+use Rattle.front_resolve.proofs.Exits.{env-set}
+use Rattle.front_emit.specs.declared.Split.the-variants.{And, Some, One}
+use Rattle.front_emit.specs.ConditionShape.{Single, SplitOfPost}
+use Rattle.front_emit.specs.WriterStart.{mostTables, collections, flagIn, Copies}
+use Rattle.base_syntax.specs.Numbers.{monoidArg}
+
+abbrev bitOf : Bool → ℕ
+bitOf b = pick b 1 0
+
+pub truth-is : {b : Bool} (t : Bool) → b ≡ t → bitOf t ≡ bitOf b
+truth-is t e = ap bitOf (sym e)
+
+-- ---- how a condition is written
+abbrev pub notAnd : List ℕ
+notAnd = 0 ∷ 1 ∷ 2 ∷ 3 ∷ 4 ∷ 6 ∷ []
+
+abbrev pub notSome : List ℕ
+notSome = 0 ∷ 1 ∷ 2 ∷ 3 ∷ 4 ∷ 6 ∷ 7 ∷ []
+
+abbrev pub undivided : List ℕ
+undivided = 0 ∷ 1 ∷ 2 ∷ 3 ∷ 4 ∷ 6 ∷ 8 ∷ 9 ∷ []
+
+other-op : (o : Op) → OneOf notAnd (tagOf op.the-type o) → o ≡ Op.And → ⊥
+other-op Op.Plus w e = let z : _≡_ {A = ℕ} 0 1 = cc in omega arith
+other-op Op.Minus w e = let z : _≡_ {A = ℕ} 0 1 = cc in omega arith
+other-op Op.Times w e = let z : _≡_ {A = ℕ} 0 1 = cc in omega arith
+other-op Op.Equal w e = let z : _≡_ {A = ℕ} 0 1 = cc in omega arith
+other-op Op.Less w e = let z : _≡_ {A = ℕ} 0 1 = cc in omega arith
+other-op Op.And w e = miss notAnd 5 tt w
+other-op Op.Or w e = let z : _≡_ {A = ℕ} 0 1 = cc in omega arith
+
+other-monoid : (m : Monoid) (v : Bool) → OneOf notSome (tagOf monoid.the-type m) → givesWay (monoidOf m) v ≡ false
+unfolding givesWay
+other-monoid Mo.List v w = refl
+other-monoid Mo.Bag v w = refl
+other-monoid Mo.Set v w = refl
+other-monoid Mo.Sum v w = refl
+other-monoid Mo.Max v w = refl
+other-monoid Mo.Min v w = refl
+other-monoid Mo.Some v w = absurd (miss notSome 5 tt w)
+other-monoid Mo.All v w = refl
+
+other-form : (f : Form) (v : Bool) → OneOf undivided (tagOf form.the-type f) → Single f v
+other-form (Number z) v w = tt
+other-form (Truth b) v w = tt
+other-form (Row g) v w = tt
+other-form (Cell k g) v w = tt
+other-form Record v w = tt
+other-form (Two o a b) v w = absurd (miss undivided 5 tt w)
+other-form (Not c) v w = tt
+other-form (Comp m k) v w = absurd (miss undivided 7 tt w)
+other-form (Table k) v w = tt
+other-form Bad v w = tt
+
+module _ {f : Form} {v : Bool} where
+  pub split-rest : OneOf undivided (tagOf form.the-type f) → SplitOfPost f v One
+  split-rest w = record { is = other-form f v w }
+
+  module _ {o : Op} {a b : ℕ} (e : f ≡ Two o a b) where
+    pub split-and : o ≡ Op.And → SplitOfPost f v (And a b)
+    split-and p = record { is = e ∙ ap (λ (x : Op). Two x a b) p }
+
+    pub split-binary : OneOf notAnd (tagOf op.the-type o) → SplitOfPost f v One
+    split-binary w = record { is = subst (λ (g : Form). Single g v) (sym e) (other-op o w) }
+
+  module _ {m : Monoid} {k : ℕ} (e : f ≡ Comp m k) where
+    pub split-some : m ≡ Mo.Some → v ≡ true → SplitOfPost f v (Some k)
+    split-some p t = record { is = (e ∙ ap (λ (x : Monoid). Comp x k) p, t) }
+
+    pub split-stays : m ≡ Mo.Some → v ≡ false → SplitOfPost f v One
+    unfolding givesWay
+    split-stays p t = record { is = subst (λ (g : Form). Single g v) (sym e) (ap (λ (x : Monoid). givesWay (monoidOf x) v) p ∙ t) }
+
+    pub split-comp : OneOf notSome (tagOf monoid.the-type m) → SplitOfPost f v One
+    split-comp w = record { is = subst (λ (g : Form). Single g v) (sym e) (other-monoid m v w) }
+
+-- ---- the environment in a copy
+pub copy-is : {h : Place} {m : Monoid} {v : Bool} {n : ℕ} {w : Bool} {l : List ℕ} → length (h .env) ≡ levels → h .depth < levels → w ≡ flagIn v m → l ≡ set (h .env) (h .depth) (2 * n + bit w) → Copies h m v n l
+copy-is {h} {n = n} {w} z d e p =
+    record {
+      is = ap envOf p ∙ env-set (h .env) (h .depth) n w (omega (arith, z, d)) ∙ ap (λ (b : Bool). enter (h .depth) n b (envOf (h .env))) e;
+      long = ap (λ (l : List ℕ). length l) p ∙ length-set (h .env) (h .depth) (2 * n + bit w) ∙ z;
+    }
+
+-- ---- the collection of a table
+abbrev pub numberBy : ℕ → ℕ
+numberBy c = monoidArg (of (getD (Sy.list ∷ Sy.list ∷ Sy.bag ∷ Sy.set ∷ []) c Sy.list))
+
+-- by the tests
+abbrev byTests : Bool → Bool → ℕ → ℕ
+byTests a b w = monoidArg (of (pick a (pick b (getD (Sy.list ∷ Sy.list ∷ Sy.bag ∷ Sy.set ∷ []) (collectionIn w) Sy.list) Sy.list) Sy.list))
+
+a-list : (a b : Bool) (w : ℕ) → ((a ≡ true → b ≡ true → w ≡ 0)) → 1 ≡ byTests a b w
+unfolding pick
+a-list true true w h = ap (λ x. numberBy (collectionIn x)) (sym (h refl refl))
+a-list true false w h = refl
+a-list false b w h = refl
+
+module _ (s : List ℕ) (k : ℕ) where
+  by-tests : monoidArg (of (collections s k)) ≡ byTests (ltb k mostTables) (ltb k (getD s 0 0)) (getD s (1 + k) 0)
+  unfolding collections
+  by-tests = refl
+
+  pub no-such-table : mostTables ≤ k → 1 ≡ monoidArg (of (collections s k))
+  no-such-table h = a-list _ _ (getD s (1 + k) 0) (λ p q. absurd (omega (arith, h, ltb-true k mostTables p))) ∙ sym by-tests
+
+  pub not-described : length s ≤ k + 1 → 1 ≡ monoidArg (of (collections s k))
+  not-described h = a-list _ _ (getD s (1 + k) 0) (λ p q. List·getD-eq-default s 0 {n = 1 + k} (omega (arith, h))) ∙ sym by-tests
+
+  pub not-read : getD s 0 0 ≤ k → 1 ≡ monoidArg (of (collections s k))
+  not-read h = a-list _ _ (getD s (1 + k) 0) (λ p q. absurd (omega (arith, h, ltb-true k (getD s 0 0) q))) ∙ sym by-tests
+
+  pub described : {c : ℕ} → k < mostTables → k < getD s 0 0 → c ≡ collectionIn (getD s (k + 1) 0) → numberBy c ≡ monoidArg (of (collections s k))
+  unfolding pick
+  described p q e =
+      let z : k + 1 ≡ 1 + k = omega arith in
+      ap numberBy (e ∙ ap (λ j. collectionIn (getD s j 0)) z) ∙ sym (by-tests ∙ ap₂ (λ (a b : Bool). byTests a b (getD s (1 + k) 0)) (lt-ltb k mostTables p) (lt-ltb k (getD s 0 0) q))
+
+pub number-list : (c : ℕ) → c < 4 → (c ≡ 2 → ⊥) → (c ≡ 3 → ⊥) → 1 ≡ numberBy c
+number-list zero l p q = refl
+number-list (suc zero) l p q = refl
+number-list (suc (suc zero)) l p q = absurd (p refl)
+number-list (suc (suc (suc zero))) l p q = absurd (q refl)
+number-list (suc (suc (suc (suc c)))) l p q = absurd (omega (arith, l))

@@ -1,0 +1,31 @@
+-- The whole form in scratch.
+use mathlib.Core.Path.{_≡_}
+use mathlib.Core.List.{List}
+use mathlib.Core.Logic.{_⊎_}
+use Prim.Native.Nat.{ℕ, _+_, _<_, _≤_}
+use lib.ListN.{length, getD}
+use Rattle.spec_normal_form.specs.Form.{Form}
+use Rattle.spec_normal_form.specs.Normal.{quote}
+use Rattle.front_theory.specs.NodeForms.{outside}
+use Rattle.front_theory.specs.FormWords.{words}
+use Rattle.base_scratch.specs.Map.{formAt, places}
+use Rattle.form_words.specs.FormWords.{size, flat, Holds}
+use Rattle.front_nodes.specs.NodeTable.{depthAt}
+use Rattle.front_emit.specs.WriterStart.{semS, Ready}
+
+-- what a question's node writes
+abbrev pub formOf : List ℕ → ℕ → Form
+formOf s i = quote (semS s i 0 outside) 0
+
+-- there is room for it
+pub record Writable (s : List ℕ) (i : ℕ) : Type 0 where
+  pub ready : Ready s (i + 1)
+  pub depth : depthAt s i ≡ 0
+  pub short : words (formOf s i) ≤ places
+  pub long : formAt + places ≤ length s
+
+-- its words stand from the first place on, and no other word changed; r is their number
+pub record WriteFormPost (s : List ℕ) (i : ℕ) (s′ : List ℕ) (r : ℕ) : Type 0 where
+  pub held : Holds s′ 0 (flat (formOf s i))
+  pub number : r ≡ size (formOf s i)
+  pub kept : (j : ℕ) → (j < formAt) ⊎ (formAt + r ≤ j) → getD s′ j 0 ≡ getD s j 0

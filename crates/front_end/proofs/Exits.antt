@@ -1,0 +1,144 @@
+-- One law for each way out of the front end.
+use mathlib.Core.Path.{_≡_, refl, sym, subst, _∙_}
+use mathlib.Core.List.{List}
+use mathlib.Core.Bool.{Bool, true, false, not}
+use Prim.Native.Nat.{ℕ, _+_, _-_, _≤_, _<_}
+use native.Mathlib.Omega.{arith}
+use lib.ListN.{length}
+use borrow.Author.Tests.{le-leb, lt-leb}
+use Rattle.spec_calculus.specs.Syntax.{Question}
+use Rattle.spec_encoding.specs.Record.{Bytes, refused}
+use Rattle.spec_encoding.specs.Data.{readData}
+use Rattle.spec_encoding.specs.Reader.{readQuestion}
+use Rattle.spec_encoding.proofs.Refusals.{Only, data-only, question-only}
+use Rattle.spec_outcome.proofs.CheckOrder.{data-refused, question-refused, judged-as, names-decide, types-decide, generators-decide, size-decides}
+use Rattle.base_scratch.specs.Map.{scratchSize}
+use Rattle.base_tables.specs.DataReader.{ReadDataPost}
+use Rattle.base_tables.proofs.ReadData.{tables-most, WellFormed, well-formed, not-well-formed, kept-word}
+use Rattle.front_parser.specs.ReaderContracts.{Held, QuestionBy, ReadQuestionPost}
+use Rattle.front_parser.specs.declared.Read.{Read}
+use Rattle.front_parser.specs.declared.Read.the-variants as Answer
+use Rattle.front_scope.specs.PassContract.{NamesHoldPost}
+use Rattle.front_scope.specs.Binders.{bindersOf}
+use Rattle.front_sizes.specs.SizeWords.{termCount}
+use Rattle.front_typing.specs.ShapeWords.{Judges}
+use Rattle.front_typing.proofs.QuestionTypes.{types-fit, generators-fit}
+use Rattle.front_measure.specs.KeptSizes.{MeasurePost}
+use Rattle.front_end.specs.LoadedQuestion.{Loaded, Ready, Apart}
+use Rattle.front_end.specs.PartContracts.{JudgedBy, SizedPost, TypedPost, JudgedPost, FrontBy, FrontEndPost}
+use Rattle.front_end.specs.declared.FrontResult.{FrontResult}
+use Rattle.front_end.specs.declared.FrontResult.the-variants as FrontResult
+use Rattle.front_end.proofs.QuestionLimits.{question-given}
+use Rattle.front_end.proofs.PassChain.{apart-then, binders-away, names-said, made-ready, ready-checked, judges-away, judges-ready}
+use Rattle.front_end.proofs.MeasuredRoot.{after, size-said, root-form, root-writable}
+
+pub off : (a : Bool) → not a ≡ true → a ≡ false
+off true h = sym h
+off false h = refl
+
+pub on : (a : Bool) → not a ≡ false → a ≡ true
+on true h = refl
+on false h = sym h
+
+-- ---- 27
+module _ {s r : List ℕ} {n : ℕ} (M : MeasurePost s n r) (few : n ≤ 256) where
+  measures-away : Apart s r
+  measures-away = record { long = M .long; above = λ j l. M .back j (omega arith) }
+
+  module _ {z : ℕ} (e : z ≡ termCount r (n - 1) .size) where
+    pub too-large : 512 < z → SizedPost s r n (FrontResult.Refused 27)
+    too-large h = record {
+      is = λ d T q R b c. (size-decides T q (R .names) b c (sym (size-said M few R) ∙ lt-leb (termCount r (n - 1) .size) 512 (omega (arith, e, h))), omega arith);
+      away = measures-away;
+    }
+
+    pub small-enough : z ≤ 512 → SizedPost s r n (FrontResult.Nodes n)
+    small-enough h = record {
+      is = λ d T q R b c.
+          let w = sym (size-said M few R) ∙ le-leb (termCount r (n - 1) .size) 512 (omega (arith, e, h)) in
+          record { ready = after M few R; types = b; generators = c; size = w; writable = root-writable M few R w; form = root-form M few R w };
+      away = measures-away;
+    }
+
+-- ---- 25 and 26
+module _ {s t : List ℕ} {n : ℕ} {a : Bool} (A : Judges false s n t a) (few : n ≤ 256) where
+  pub types-wrong : a ≡ false → TypedPost s t n (FrontResult.Refused 25)
+  types-wrong e = record { is = λ d T q R. (types-decide T q (R .names) (sym (types-fit (ready-checked R) A) ∙ e), omega arith); away = judges-away A few }
+
+  module _ {u : List ℕ} {b : Bool} (p : a ≡ true) (B : Judges true t n u b) where
+    pub generators-wrong : b ≡ false → TypedPost s u n (FrontResult.Refused 26)
+    generators-wrong e = record {
+      is = λ d T q R. (generators-decide T q (R .names) (sym (types-fit (ready-checked R) A) ∙ p) (sym (generators-fit (ready-checked (judges-ready A R)) B) ∙ e), omega arith);
+      away = apart-then (judges-away A few) (judges-away B few);
+    }
+
+    pub both-fit : b ≡ true → {v : List ℕ} {r : FrontResult} → SizedPost u v n r → TypedPost s v n r
+    both-fit e F = record {
+      is = λ d T q R. F .is d T q (judges-ready B (judges-ready A R)) (sym (types-fit (ready-checked R) A) ∙ p) (sym (generators-fit (ready-checked (judges-ready A R)) B) ∙ e);
+      away = apart-then (apart-then (judges-away A few) (judges-away B few)) (F .away);
+    }
+
+-- ---- 24
+module _ {s : List ℕ} {n : ℕ} {a : Bool} (A : NamesHoldPost s n a) where
+  pub names-wrong : a ≡ false → JudgedPost s s n (FrontResult.Refused 24)
+  names-wrong e = record { is = λ d T q L. (names-decide T q (sym (names-said L A) ∙ e), omega arith); away = record { long = refl; above = λ j l. refl } }
+
+  pub names-right : a ≡ true → {t u : List ℕ} {r : FrontResult} → t ≡ bindersOf s n → TypedPost t u n r → JudgedPost s u n r
+  names-right e {t} {u} {r} w F = record {
+    is = λ d T q L. F .is d T q (subst (λ x. Ready d T q x n) (sym w) (made-ready L (sym (names-said L A) ∙ e)));
+    away = apart-then (subst (Apart s) (sym w) (binders-away s n)) (F .away);
+  }
+
+-- ---- the data, and the question
+data-low : (d : Bytes) {k : ℕ} → readData d ≡ refused k → k ≤ 27
+data-low d e = subst (Only (λ n. n ≤ 27)) e (data-only (λ n. n ≤ 27) (omega arith) (omega arith) (omega arith) d)
+
+question-low : (l : Bytes) {k : ℕ} → readQuestion l ≡ refused k → k ≤ 27
+question-low l e = subst (Only (λ n. n ≤ 27)) e (question-only (λ n. n ≤ 27) (omega arith) (omega arith) (omega arith) l)
+
+module _ {d : Bytes} {s t : List ℕ} {z : ℕ} (D : ReadDataPost d s t z) where
+  data-away : Apart s t
+  data-away = record { long = D .long; above = λ j h. kept-word D j (omega arith) }
+
+  pub data-wrong : {l : Bytes} → (z ≡ 0 → ⊥) → FrontEndPost d l s t (FrontResult.Refused z)
+  data-wrong {l} h = record { is = (data-refused d l (not-well-formed D h), data-low d (not-well-formed D h)); away = data-away }
+
+  module _ (y : z ≡ 0) {l : Bytes} {u : List ℕ} {x : Read} (Q : ReadQuestionPost l t u x) where
+    both-away : Apart s u
+    both-away = apart-then data-away (record { long = Q .kept .long; above = λ j h. Q .kept .above j (omega arith) })
+
+    pub question-wrong : {k : ℕ} → x ≡ Answer.Refused k → FrontEndPost d l s u (FrontResult.Refused k)
+    question-wrong e =
+        let k = subst (QuestionBy (readQuestion l) u) e (Q .is) in
+        record { is = (question-refused d l (well-formed D y .is) k, question-low l k); away = both-away }
+
+    module _ (W : WellFormed d) {n : ℕ} (H : Held (readQuestion l) u n) where
+      loaded : scratchSize ≤ length s → Loaded d (W .tables) (H .question) u n
+      loaded room =
+          let m = tables-most d (W .is) in
+          let S = D .stored (W .tables) (W .is) (omega (arith, room)) in
+          let G = question-given l (H .is) in
+          record {
+            tables = W .is;
+            stored = record { count = Q .kept .below 0 (omega arith) ∙ S .count; each = λ k h. Q .kept .below (1 + k) (omega arith) ∙ S .each k h };
+            laid = H .laid;
+            count = H .count;
+            some = H .some;
+            few = H .few;
+            small = G .1;
+            deep = G .0;
+            long = omega (arith, room, both-away .long);
+          }
+
+      carried : (v : List ℕ) (r : FrontResult) → JudgedBy d (W .tables) (H .question) v r → FrontBy d l v r
+      carried v (FrontResult.Refused k) p = (judged-as d l (W .is) (H .is) ∙ p .0, p .1)
+      carried v (FrontResult.Nodes m) p = record { tables = W .tables; question = H .question; asked = H .is; passed = p }
+
+    pub question-right : scratchSize ≤ length s → {n : ℕ} → x ≡ Answer.Question n → {v : List ℕ} {r : FrontResult} → JudgedPost u v n r → FrontEndPost d l s v r
+    question-right room {n} e {v} {r} F =
+        let W = well-formed D y in
+        let H : Held (readQuestion l) u n = subst (QuestionBy (readQuestion l) u) e (Q .is) in
+        record { is = carried W H v r (F .is d (W .tables) (H .question) (loaded W H room)); away = apart-then both-away (F .away) }
+
+pub question-few : {l : Bytes} {t u : List ℕ} {x : Read} → ReadQuestionPost l t u x → {n : ℕ} → x ≡ Answer.Question n → n ≤ 256
+question-few {l} {t} {u} Q e = subst (QuestionBy (readQuestion l) u) e (Q .is) .few

@@ -1,0 +1,63 @@
+-- What the parts of the front end ensure: the refusal that the definition gives, or a question that 24 to 27 let pass, in
+-- scratch as the writer of its normal form needs it.
+use mathlib.Core.Path.{_≡_}
+use mathlib.Core.List.{List}
+use mathlib.Core.Bool.{true}
+use Prim.Native.Nat.{ℕ, _-_, _≤_}
+use Rattle.spec_calculus.specs.Syntax.{Question}
+use Rattle.spec_calculus.specs.Value.{Tables, kindOf}
+use Rattle.spec_encoding.specs.Record.{Bytes, refused, got}
+use Rattle.spec_encoding.specs.Reader.{readQuestion}
+use Rattle.spec_checks.specs.Types.{typesFit, generatorsFit}
+use Rattle.spec_normal_form.specs.Form.{asForm}
+use Rattle.spec_normal_form.specs.Normal.{normal}
+use Rattle.spec_normal_form.specs.Size.{sizeFits}
+use Rattle.spec_outcome.specs.Acceptance.{judge, examine}
+use Rattle.front_emit.specs.WholeForm.{formOf, Writable}
+use Rattle.front_end.specs.LoadedQuestion.{Loaded, Ready, Apart}
+use Rattle.front_end.specs.declared.FrontResult.{FrontResult}
+use Rattle.front_end.specs.declared.FrontResult.the-variants as FrontResult
+
+-- 24 to 27 let the question pass; its last node may be written, and comes to the normal form
+pub record Passed (d : Bytes) (T : Tables) (q : Question) (s : List ℕ) (n : ℕ) : Type 0 where
+  pub ready : Ready d T q s n
+  pub types : typesFit T q ≡ true
+  pub generators : generatorsFit T q ≡ true
+  pub size : sizeFits (normal (kindOf T) q) ≡ true
+  pub writable : Writable s (n - 1)
+  pub form : formOf s (n - 1) ≡ asForm (normal (kindOf T) q)
+
+-- a refusal is one of these checks, never 28
+abbrev pub JudgedBy : Bytes → Tables → Question → List ℕ → FrontResult → Type 0
+JudgedBy d T q s (FrontResult.Refused k) = (judge T q ≡ refused k) × (k ≤ 27)
+JudgedBy d T q s (FrontResult.Nodes n) = Passed d T q s n
+
+-- 27, where 24 to 26 hold
+pub record SizedPost (s s′ : List ℕ) (n : ℕ) (r : FrontResult) : Type 0 where
+  pub is : (d : Bytes) (T : Tables) (q : Question) → Ready d T q s n → typesFit T q ≡ true → generatorsFit T q ≡ true → JudgedBy d T q s′ r
+  pub away : Apart s s′
+
+-- 25 to 27, where 24 holds
+pub record TypedPost (s s′ : List ℕ) (n : ℕ) (r : FrontResult) : Type 0 where
+  pub is : (d : Bytes) (T : Tables) (q : Question) → Ready d T q s n → JudgedBy d T q s′ r
+  pub away : Apart s s′
+
+-- 24 to 27
+pub record JudgedPost (s s′ : List ℕ) (n : ℕ) (r : FrontResult) : Type 0 where
+  pub is : (d : Bytes) (T : Tables) (q : Question) → Loaded d T q s n → JudgedBy d T q s′ r
+  pub away : Apart s s′
+
+-- data and a question that pass
+pub record Fine (d l : Bytes) (s : List ℕ) (n : ℕ) : Type 0 where
+  pub tables : Tables
+  pub question : Question
+  pub asked : readQuestion l ≡ got question
+  pub passed : Passed d tables question s n
+
+abbrev pub FrontBy : Bytes → Bytes → List ℕ → FrontResult → Type 0
+FrontBy d l s (FrontResult.Refused k) = (examine d l ≡ refused k) × (k ≤ 27)
+FrontBy d l s (FrontResult.Nodes n) = Fine d l s n
+
+pub record FrontEndPost (d l : Bytes) (s s′ : List ℕ) (r : FrontResult) : Type 0 where
+  pub is : FrontBy d l s′ r
+  pub away : Apart s s′

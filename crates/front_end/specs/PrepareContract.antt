@@ -1,0 +1,31 @@
+-- What preparing a question ensures: the refusal that the definition gives, or the accepted question in scratch.
+use mathlib.Core.Path.{_≡_}
+use mathlib.Core.List.{List}
+use Prim.Native.Nat.{ℕ}
+use Rattle.spec_encoding.specs.Record.{Bytes, refused, got}
+use Rattle.spec_encoding.specs.Reader.{readQuestion}
+use Rattle.spec_outcome.specs.Acceptance.{Accepted, examine}
+use Rattle.form_prepared.specs.PreparedQuestion.{Prepared}
+use Rattle.front_end.specs.LoadedQuestion.{Apart}
+use Rattle.front_end.specs.PartContracts.{Fine}
+use Rattle.front_end.specs.declared.Checked.{Checked}
+use Rattle.front_end.specs.declared.Checked.the-variants as Checked
+
+-- the question is accepted, and stands prepared in scratch
+pub record Accepts (d l : Bytes) (s : List ℕ) : Type 0 where
+  pub accepted : Accepted
+  pub read : readQuestion l ≡ got (accepted .question)
+  pub is : examine d l ≡ got accepted
+  pub prepared : Prepared d accepted s
+
+abbrev pub PreparedBy : Bytes → Bytes → List ℕ → Checked → Type 0
+PreparedBy d l s (Checked.Refused k) = examine d l ≡ refused k
+PreparedBy d l s Checked.Accepted = Accepts d l s
+
+pub record PreparePost (d l : Bytes) (s s′ : List ℕ) (r : Checked) : Type 0 where
+  pub is : PreparedBy d l s′ r
+  pub away : Apart s s′
+
+-- 28, where all before it pass
+pub record FormedPost (s s′ : List ℕ) (n : ℕ) (r : Checked) : Type 0 where
+  pub is : (d l : Bytes) → Fine d l s n → PreparePost d l s s′ r

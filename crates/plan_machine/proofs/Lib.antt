@@ -1,0 +1,20 @@
+-- Theorems about the machine.
+pub mod Cases
+pub mod ProgramIsPlan
+pub mod OffersDue
+pub mod MergedHeads
+pub mod Arrivals
+pub mod WholePass
+pub mod OfferBound
+pub mod Moves
+pub mod OperatorCount
+pub mod TextEdits
+pub mod HeadOrder
+pub mod TextOverMoves
+pub mod FinalText
+pub mod StartedLoops
+pub mod StateInvariant
+pub mod CollectionSpans
+pub mod CollectionsInHeads
+pub mod InnersWritten
+pub mod AcceptedPlans
