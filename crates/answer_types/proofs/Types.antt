@@ -20,7 +20,7 @@ use Rattle.form_words.specs.NodeWord.{next}
 use Rattle.form_words.specs.FormTree.{formTree, headTree, left}
 use Rattle.base_scratch.specs.Map.{places}
 use Rattle.form_words.specs.declared.Clause.the-variants as Cl
-use Rattle.form_words.specs.Look.{Looks, LookClausePost}
+use Rattle.form_words.specs.Look.{Looks, LooksC}
 use Rattle.form_words.specs.HeadPlace.{headNode}
 use Rattle.form_words.proofs.NodeWords.{look-out, next-past, formNode, form-is, head-is, head-node-is, forms-end, forms-more}
 use Rattle.base_buffer.proofs.TotalReads.{clash}
@@ -41,13 +41,13 @@ columns-is s g p q h = h ∙ ap columnsIn (q ∙ ap (λ (x : ℕ). descriptionIn
 
 -- ---- clauses and heads
 module _ {s : List ℕ} {j : ℕ} where
-  pub clause-generator : {g k : ℕ} → LookClausePost s j (Cl.Generator g k) → ClauseEndPost s j (j + 1)
+  pub clause-generator : {g k : ℕ} → LooksC s j (Cl.Generator g k) → ClauseEndPost s j (j + 1)
   clause-generator H = record { is = ap (endBy j) (H .is); past = omega arith; upto = λ l. omega (arith, H .inside .0); over = λ l f. (head-is H f, head-node-is H f); none = λ l. absurd (omega arith) }
 
-  pub clause-condition : {e : ℕ} → LookClausePost s j (Cl.Condition e) → ClauseEndPost s j e
+  pub clause-condition : {e : ℕ} → LooksC s j (Cl.Condition e) → ClauseEndPost s j e
   clause-condition H = record { is = ap (endBy j) (H .is); past = omega (arith, H .inside .0); upto = λ l. H .inside .1; over = λ l f. (head-is H f, head-node-is H f); none = λ l. absurd (omega (arith, H .inside .0)) }
 
-  pub clause-none : LookClausePost s j Cl.Head → ClauseEndPost s j j
+  pub clause-none : LooksC s j Cl.Head → ClauseEndPost s j j
   clause-none H = record { is = ap (endBy j) (H .is); past = omega arith; upto = λ l. absurd (omega arith); over = λ l. absurd (omega arith); none = λ l f. (head-is H f, head-node-is H f) }
 
 -- on the way from i to the head, at j, where a clause ends at e

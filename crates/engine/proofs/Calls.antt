@@ -22,7 +22,7 @@ use Rattle.plan_lines.specs.declared.Printed.{Printed}
 use Rattle.front_end.specs.LoadedQuestion.{Apart}
 use Rattle.front_end.specs.PrepareContract.{Accepts, PreparePost}
 use Rattle.front_end.specs.declared.Checked.the-variants as Checked
-use Rattle.engine.specs.Replies.{AdmittedBy, AdmitPost, FinishPost}
+use Rattle.engine.specs.Replies.{AdmittedBy, AdmitPost, Replies}
 use Rattle.engine.specs.declared.Admitted.{Admitted}
 use Rattle.engine.specs.declared.Admitted.the-variants as Admitted
 use Rattle.engine.specs.declared.Reply.{Reply}
@@ -52,7 +52,7 @@ module _ {A : Type 0} (s : List ℕ) (b : List A) (x : Result (Answer A)) where
   too-short h = subst (λ (o : Outcome A). Gives o 31 0 b s) (sym (scratch-short s b x h)) (record { number = refl; size = refl; buffer = refl; scratch = refl })
 
 -- ---- behind 31
-module _ {A : Type 0} {s t u : List ℕ} {b b′ : List A} {x : Result (Answer A)} {k n : ℕ} {r : Reply} (room : scratchWords ≤ length s) (S : Spares s t) (R : FinishPost t u k n r) where
+module _ {A : Type 0} {s t u : List ℕ} {b b′ : List A} {x : Result (Answer A)} {k n : ℕ} {r : Reply} (room : scratchWords ≤ length s) (S : Spares s t) (R : Replies t u k n r) where
   pub replied : Settles x b k n b′ → Gives (withScratch s b x) (r .number) (r .length) b′ u
   replied P =
       let g = P .gives s in
@@ -89,14 +89,14 @@ module _ {d l : Bytes} {s t : List ℕ} {x : Admitted} (B : AdmitPost d l s t x)
     pub scant-by : x ≡ Admitted.Scant → Gives (withScratch s b (andThen (examine d l) part)) 31 0 b t
     scant-by e = let p = scant e in subst (Gives (withScratch s b (andThen (examine d l) part)) 31 0 b) (sym (p .1)) (too-short s b (andThen (examine d l) part) (p .0))
 
-    pub refused-by : {k : ℕ} → x ≡ Admitted.Refused k → {u : List ℕ} {r : Reply} → FinishPost t u k 0 r → Gives (withScratch s b (andThen (examine d l) part)) (r .number) (r .length) b u
+    pub refused-by : {k : ℕ} → x ≡ Admitted.Refused k → {u : List ℕ} {r : Reply} → Replies t u k 0 r → Gives (withScratch s b (andThen (examine d l) part)) (r .number) (r .length) b u
     unfolding andThen
     refused-by {k} e R =
         let p = refuses e in
         replied (p .0) (apart-spares (p .1 .away)) R
         (subst (λ y. Settles (andThen y part) b k 0 b) (sym (p .1 .is)) (settles-refused k refl))
 
-    pub settled-by : x ≡ Admitted.Accepted → {b′ : List A} {u v : List ℕ} {k n : ℕ} {r : Reply} → Spares t u → ((y : Accepts d l t) → Settles (part (y .accepted)) b k n b′) → FinishPost u v k n r
+    pub settled-by : x ≡ Admitted.Accepted → {b′ : List A} {u v : List ℕ} {k n : ℕ} {r : Reply} → Spares t u → ((y : Accepts d l t) → Settles (part (y .accepted)) b k n b′) → Replies u v k n r
         → Gives (withScratch s b (andThen (examine d l) part)) (r .number) (r .length) b′ v
     unfolding andThen
     settled-by e {b′} {k = k} {n} S f R =
@@ -110,11 +110,11 @@ module _ {d l : Bytes} {s t : List ℕ} {x : Admitted} (B : AdmitPost d l s t x)
   unfolding checked
   check-scant e = scant-by nothing [] e
 
-  pub check-refused : {k : ℕ} → x ≡ Admitted.Refused k → {u : List ℕ} {r : Reply} → FinishPost t u k 0 r → Gives (checked d l s) (r .number) (r .length) [] u
+  pub check-refused : {k : ℕ} → x ≡ Admitted.Refused k → {u : List ℕ} {r : Reply} → Replies t u k 0 r → Gives (checked d l s) (r .number) (r .length) [] u
   unfolding checked
   check-refused e R = refused-by nothing [] e R
 
-  pub check-accepted : x ≡ Admitted.Accepted → {u : List ℕ} {r : Reply} → FinishPost t u 0 0 r → Gives (checked d l s) (r .number) (r .length) [] u
+  pub check-accepted : x ≡ Admitted.Accepted → {u : List ℕ} {r : Reply} → Replies t u 0 0 r → Gives (checked d l s) (r .number) (r .length) [] u
   unfolding checked
   check-accepted e R = settled-by nothing [] e (spares-all t) (λ y. settles-got (record { size = 0; front = [] }) refl refl) R
 
@@ -124,14 +124,14 @@ module _ {d l : Bytes} {s t : List ℕ} {x : Admitted} (B : AdmitPost d l s t x)
     unfolding answered
     answer-scant e = scant-by (written value b) b e
 
-    pub answer-refused : {k : ℕ} → x ≡ Admitted.Refused k → {u : List ℕ} {r : Reply} → FinishPost t u k 0 r → Gives (answered value d l s b) (r .number) (r .length) b u
+    pub answer-refused : {k : ℕ} → x ≡ Admitted.Refused k → {u : List ℕ} {r : Reply} → Replies t u k 0 r → Gives (answered value d l s b) (r .number) (r .length) b u
     unfolding answered
     answer-refused e R = refused-by (written value b) b e R
 
     pub room-answered : x ≡ Admitted.Accepted → {b′ : List ℤ} {u : List ℕ} {y : Ended} → An.Answers value d t b u b′ y → scratchWords ≤ length u
     room-answered e A = omega (arith, room-accepted e, A .long)
 
-    pub answer-given : x ≡ Admitted.Accepted → {b′ : List ℤ} {u v : List ℕ} {y z : Ended} {r : Reply} → An.Answers value d t b u b′ y → y ≡ z → FinishPost u v (numberOf z) (lengthOf z) r → Gives (answered value d l s b) (r .number) (r .length) b′ v
+    pub answer-given : x ≡ Admitted.Accepted → {b′ : List ℤ} {u v : List ℕ} {y z : Ended} {r : Reply} → An.Answers value d t b u b′ y → y ≡ z → Replies u v (numberOf z) (lengthOf z) r → Gives (answered value d l s b) (r .number) (r .length) b′ v
     unfolding answered
     answer-given e {b′} {u} A₀ q R =
         let A = subst (An.Answers value d t b u b′) q A₀ in
@@ -144,11 +144,11 @@ module _ {d l : Bytes} {s t : List ℕ} {x : Admitted} (B : AdmitPost d l s t x)
     unfolding planLines
     lines-scant e = scant-by (printed b) b e
 
-    pub lines-refused : {k : ℕ} → x ≡ Admitted.Refused k → {u : List ℕ} {r : Reply} → FinishPost t u k 0 r → Gives (planLines d l s b) (r .number) (r .length) b u
+    pub lines-refused : {k : ℕ} → x ≡ Admitted.Refused k → {u : List ℕ} {r : Reply} → Replies t u k 0 r → Gives (planLines d l s b) (r .number) (r .length) b u
     unfolding planLines
     lines-refused e R = refused-by (printed b) b e R
 
-    pub lines-given : x ≡ Admitted.Accepted → {b′ : List ℕ} {u v : List ℕ} {y z : Printed} {r : Reply} → length u ≡ length t → PlanLinesPost t b u b′ y → y ≡ z → FinishPost u v (Pr.numberOf z) (Pr.lengthOf z) r → Gives (planLines d l s b) (r .number) (r .length) b′ v
+    pub lines-given : x ≡ Admitted.Accepted → {b′ : List ℕ} {u v : List ℕ} {y z : Printed} {r : Reply} → length u ≡ length t → PlanLinesPost t b u b′ y → y ≡ z → Replies u v (Pr.numberOf z) (Pr.lengthOf z) r → Gives (planLines d l s b) (r .number) (r .length) b′ v
     unfolding planLines
     lines-given e {b′} {u} m A₀ q R =
         let A = subst (PlanLinesPost t b u b′) q A₀ in

@@ -27,8 +27,8 @@ use Rattle.exec_portions.specs.UnfinishedQuestion.{idle, Unfinished, Continues,
 use Rattle.exec_portions.specs.UnfinishedQuestion as Un
 use Rattle.exec_portions.specs.declared.Progress.{Progress}
 use Rattle.exec_portions.specs.declared.Progress.the-variants as Progress
-use Rattle.engine.specs.Replies.{AdmitPost, FinishPost}
-use Rattle.engine.specs.Portions.{BeginPost, outside, refusal, DeclinedPost, PortionPost, EndedPost}
+use Rattle.engine.specs.Replies.{AdmitPost, Replies}
+use Rattle.engine.specs.Portions.{BeginPost, outside, refusal, Says, PortionPost, EndedPost}
 use Rattle.engine.specs.declared.Admitted.{Admitted}
 use Rattle.engine.specs.declared.Admitted.the-variants as Admitted
 use Rattle.engine.specs.declared.Reply.{Reply}
@@ -50,7 +50,7 @@ module _ {d l : Bytes} {s t : List ℕ} {x : Admitted} (B : AdmitPost d l s t x)
   refuses-above : {k : ℕ} → x ≡ Admitted.Refused k → k ≡ 0 → ⊥
   refuses-above e = subst (Only (λ n. n ≡ 0 → ⊥)) (refuses B e .1 .is) (checks-only d l)
 
-  pub begin-refused : {k : ℕ} → x ≡ Admitted.Refused k → {u : List ℕ} {r : Reply} → FinishPost t u k 0 r → BeginPost d l s u r
+  pub begin-refused : {k : ℕ} → x ≡ Admitted.Refused k → {u : List ℕ} {r : Reply} → Replies t u k 0 r → BeginPost d l s u r
   begin-refused e {r = r} R = begin-refusal r (check-refused B e R) (λ z. refuses-above e (sym (R .number) ∙ z))
 
   pub begin-accepted : x ≡ Admitted.Accepted → {u : List ℕ} → Un.BeginPost t u → (r : Reply) → r .number ≡ 0 → r .length ≡ 0 → BeginPost d l s u r
@@ -123,10 +123,10 @@ module _ (n : ℕ) (s : List ℕ) where
       scant-scratch h = refusal-by (inside n some few) (lt-ltb (length s) scratchWords h) refl
 
 -- ---- a portion that is refused
-pub portion-refused : {d : Bytes} {n k : ℕ} {s : List ℕ} {o : List ℤ} {r : Portioned} → refusal n s ≡ k → (k ≡ 0 → ⊥) → DeclinedPost r 0 0 k 0 → PortionPost d n s o s o r
+pub portion-refused : {d : Bytes} {n k : ℕ} {s : List ℕ} {o : List ℤ} {r : Portioned} → refusal n s ≡ k → (k ≡ 0 → ⊥) → Says r 0 0 k 0 → PortionPost d n s o s o r
 portion-refused {r = r} e h S = record {
   within = (omega (arith, S .offered), omega (arith, S .size));
-  refused = λ g. (subst (λ (k : ℕ). DeclinedPost r 0 0 k 0) (sym e) S, (refl, refl));
+  refused = λ g. (subst (λ (k : ℕ). Says r 0 0 k 0) (sym e) S, (refl, refl));
   unended = λ z. absurd (h (sym e ∙ z));
   ended = λ z. absurd (h (sym e ∙ z));
 }
@@ -148,13 +148,13 @@ module _ {d : Bytes} (n : ℕ) (s : List ℕ) {s′ : List ℕ} {o o′ : List �
   unfolding pick
   sized k = ap (λ (b : Bool). pick b 47 k) (inside n some few)
 
-  pub portion-nothing : x ≡ Progress.Nothing → {r : Portioned} → DeclinedPost r 0 0 48 0 → PortionPost d n s o s′ o′ r
+  pub portion-nothing : x ≡ Progress.Nothing → {r : Portioned} → Says r 0 0 48 0 → PortionPost d n s o s′ o′ r
   portion-nothing e {r} S =
       let p = by e in
       let P : PortionPost d n s o s o r = portion-refused (no-question n s room (p .0) ∙ sized 48) (λ z. omega (arith, z)) S in
       subst (λ (y : List ℤ). PortionPost d n s o s′ y r) (sym (p .1 .1)) (subst (λ (y : List ℕ). PortionPost d n s o y o r) (sym (p .1 .0)) P)
 
-  pub portion-on : x ≡ Progress.Unfinished → {r : Portioned} → DeclinedPost r 0 n 0 0 → PortionPost d n s o s′ o′ r
+  pub portion-on : x ≡ Progress.Unfinished → {r : Portioned} → Says r 0 n 0 0 → PortionPost d n s o s′ o′ r
   portion-on e {r} S =
       let p = by e in
       let C : Continues d n s o s′ o′ = p .1 in

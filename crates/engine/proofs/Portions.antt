@@ -34,7 +34,7 @@ use Rattle.exec_portions.proofs.AnyPortions.{portion-due, portion-portion, rows
 use Rattle.exec_portions.proofs.PortionStep.{long-unfinished, unfinished-stage, unfinished-live, unwritten}
 use Rattle.form_env.specs.Environment.{tablesIn}
 use Rattle.form_env.proofs.BoundRows.{tables-in}
-use Rattle.engine.specs.Portions.{rowsInAll, BeginPost, outside, refusal, DeclinedPost, Unended, Ended, PortionPost}
+use Rattle.engine.specs.Portions.{rowsInAll, BeginPost, outside, refusal, Says, Unended, Ended, PortionPost}
 use Rattle.engine.specs.declared.Reply.{Reply}
 use Rattle.engine.specs.declared.Portioned.{Portioned}
 use Rattle.engine.proofs.Calls.{cleared-same}
@@ -70,9 +70,9 @@ pub record Whole (due : ℕ) (cs : List Call) (x : Outcome ℤ) (s′ : List ℕ
   pub fewer : 0 < given before → given before < due
   pub sized : outside (last .rows) ≡ false
   pub enough : due ≤ given before + last .rows
-  pub unfinished : All (λ c. DeclinedPost (c .said) 0 (counted (c .rows)) (pick (outside (c .rows)) 47 0) 0) before
-  pub finished : DeclinedPost (last .said) 1 (due - given before) (x .number) (x .size)
-  pub later : All (λ c. DeclinedPost (c .said) 0 0 (pick (outside (c .rows)) 47 48) 0) after
+  pub unfinished : All (λ c. Says (c .said) 0 (counted (c .rows)) (pick (outside (c .rows)) 47 0) 0) before
+  pub finished : Says (last .said) 1 (due - given before) (x .number) (x .size)
+  pub later : All (λ c. Says (c .said) 0 0 (pick (outside (c .rows)) 47 48) 0) after
   pub buffer : o′ ≡ x .buffer
   pub scratch : s′ ≡ x .scratch
 
@@ -92,13 +92,13 @@ never true e z = omega (arith, e, z)
 never false e z = omega (arith, e, z)
 
 none-left : (d : Bytes) (cs : List Call) (s : List ℕ) (o : List ℤ) (s′ : List ℕ) (o′ : List ℤ) → scratchWords ≤ length s → idle (getD s stageAt 0) ≡ true → Portions d cs s o s′ o′
-    → All (λ c. DeclinedPost (c .said) 0 0 (pick (outside (c .rows)) 47 48) 0) cs × ((s′ ≡ s) × (o′ ≡ o))
+    → All (λ c. Says (c .said) 0 0 (pick (outside (c .rows)) 47 48) 0) cs × ((s′ ≡ s) × (o′ ≡ o))
 none-left d [] s o s′ o′ b z P = (tt, P)
 none-left d (c ∷ cs) s o s′ o′ b z (t, (p, (F, P))) =
     let e = no-question (c .rows) s b z in
     let N = F .refused (λ y. never (outside (c .rows)) e y) in
     let rest = none-left d cs s o s′ o′ b z (subst (λ (y : List ℤ). Portions d cs s y s′ o′) (N .1 .1) (subst (λ (y : List ℕ). Portions d cs y p s′ o′) (N .1 .0) P)) in
-    ((subst (λ (k : ℕ). DeclinedPost (c .said) 0 0 k 0) e (N .0), rest .0), rest .1)
+    ((subst (λ (k : ℕ). Says (c .said) 0 0 k 0) e (N .0), rest .0), rest .1)
 
 -- ---- the outcome does not turn on what scratch held below 8,192
 settled-same : (s t : List ℕ) (b : List ℤ) (x : Result (Answer ℤ)) → cleared t ≡ cleared s → settled t b x ≡ settled s b x
@@ -142,19 +142,19 @@ module _ (c : Call) (cs : List Call) where
 
 -- what each says before the last
 module _ (c : Call) where
-  says-some : outside (c .rows) ≡ false → DeclinedPost (c .said) 0 (c .rows) 0 0 → DeclinedPost (c .said) 0 (counted (c .rows)) (pick (outside (c .rows)) 47 0) 0
+  says-some : outside (c .rows) ≡ false → Says (c .said) 0 (c .rows) 0 0 → Says (c .said) 0 (counted (c .rows)) (pick (outside (c .rows)) 47 0) 0
   unfolding pick
-  says-some h Y = subst (λ (b : Bool). DeclinedPost (c .said) 0 (pick b 0 (c .rows)) (pick b 47 0) 0) (sym h) Y
+  says-some h Y = subst (λ (b : Bool). Says (c .said) 0 (pick b 0 (c .rows)) (pick b 47 0) 0) (sym h) Y
 
-  says-refused : outside (c .rows) ≡ true → DeclinedPost (c .said) 0 0 47 0 → DeclinedPost (c .said) 0 (counted (c .rows)) (pick (outside (c .rows)) 47 0) 0
+  says-refused : outside (c .rows) ≡ true → Says (c .said) 0 0 47 0 → Says (c .said) 0 (counted (c .rows)) (pick (outside (c .rows)) 47 0) 0
   unfolding pick
-  says-refused h Y = subst (λ (b : Bool). DeclinedPost (c .said) 0 (pick b 0 (c .rows)) (pick b 47 0) 0) (sym h) Y
+  says-refused h Y = subst (λ (b : Bool). Says (c .said) 0 (pick b 0 (c .rows)) (pick b 47 0) 0) (sym h) Y
 
 fewer-given : (due n m : ℕ) → n < due → (0 < m → m < due - n) → n + m < due
 fewer-given due n m l h = by-test (ltb 0 m) (λ e. omega (arith, l, h (ltb-true 0 m e))) (λ e. omega (arith, l, ltb-false 0 m e))
 
 -- one that is refused
-ends-past : (c : Call) (cs : List Call) {due : ℕ} {x : Outcome ℤ} {s′ : List ℕ} {o′ : List ℤ} → outside (c .rows) ≡ true → DeclinedPost (c .said) 0 0 47 0 → Whole due cs x s′ o′ → Whole due (c ∷ cs) x s′ o′
+ends-past : (c : Call) (cs : List Call) {due : ℕ} {x : Outcome ℤ} {s′ : List ℕ} {o′ : List ℤ} → outside (c .rows) ≡ true → Says (c .said) 0 0 47 0 → Whole due cs x s′ o′ → Whole due (c ∷ cs) x s′ o′
 unfolding pick
 ends-past c cs h Y W =
     let g : given (c ∷ W .before) ≡ given (W .before) = given-none c (W .before) h in
@@ -249,26 +249,26 @@ module _ (d : Bytes) (q : Pending) where
           let r : refusal (c .rows) s ≡ 47 = outside-refused (c .rows) s h in
           let N = F .refused (λ y. omega (arith, r, y)) in
           let g : given (c ∷ cs) ≡ given cs = given-none c cs h in
-          ends-past c cs h (subst (λ (k : ℕ). DeclinedPost (c .said) 0 0 k 0) r (N .0))
+          ends-past c cs h (subst (λ (k : ℕ). Says (c .said) 0 0 k 0) r (N .0))
           (f (omega (arith, e, g)) (omega (arith, l, g)) (subst (λ (y : List ℤ). Portions d cs s y s′ o′) (N .1 .1) (subst (λ (y : List ℕ). Portions d cs y p s′ o′) (N .1 .0) P)))
       sorted false h f k = go h (leb (Due R) (c .rows)) refl k
 
   -- As long as fewer rows are offered than are due, each says so, and the question stands where they have brought it.
   pub so-far : (cs : List Call) {s s′ : List ℕ} {o o′ : List ℤ} {R : Run} → Unfinished d q s o R → (0 < given cs → given cs < Due R) → Portions d cs s o s′ o′
-      → All (λ c. DeclinedPost (c .said) 0 (counted (c .rows)) (pick (outside (c .rows)) 47 0) 0) cs × Unfinished d q s′ o′ (Next (given cs) R)
+      → All (λ c. Says (c .said) 0 (counted (c .rows)) (pick (outside (c .rows)) 47 0) 0) cs × Unfinished d q s′ o′ (Next (given cs) R)
   so-far [] {s} {s′} {o} {o′} {R} U l P = unfold given portion in (tt, subst (λ (y : List ℤ). Unfinished d q s′ y R) (sym (P .1)) (subst (λ (y : List ℕ). Unfinished d q y o R) (sym (P .0)) U))
   so-far (c ∷ cs) {s} {s′} {o} {o′} {R} U l (t, (p, (F, P))) = sorted (outside (c .rows)) refl (λ m N. so-far cs U m N) (λ Y m. so-far cs Y m P)
     where
       sorted : (b : Bool) → outside (c .rows) ≡ b
-          → ((0 < given cs → given cs < Due R) → Portions d cs s o s′ o′ → All (λ c. DeclinedPost (c .said) 0 (counted (c .rows)) (pick (outside (c .rows)) 47 0) 0) cs × Unfinished d q s′ o′ (Next (given cs) R))
-          → (Unfinished d q t p (Next (c .rows) R) → (0 < given cs → given cs < Due (Next (c .rows) R)) → All (λ c. DeclinedPost (c .said) 0 (counted (c .rows)) (pick (outside (c .rows)) 47 0) 0) cs × Unfinished d q s′ o′ (Next (given cs) (Next (c .rows) R)))
-          → All (λ c. DeclinedPost (c .said) 0 (counted (c .rows)) (pick (outside (c .rows)) 47 0) 0) (c ∷ cs) × Unfinished d q s′ o′ (Next (given (c ∷ cs)) R)
+          → ((0 < given cs → given cs < Due R) → Portions d cs s o s′ o′ → All (λ c. Says (c .said) 0 (counted (c .rows)) (pick (outside (c .rows)) 47 0) 0) cs × Unfinished d q s′ o′ (Next (given cs) R))
+          → (Unfinished d q t p (Next (c .rows) R) → (0 < given cs → given cs < Due (Next (c .rows) R)) → All (λ c. Says (c .said) 0 (counted (c .rows)) (pick (outside (c .rows)) 47 0) 0) cs × Unfinished d q s′ o′ (Next (given cs) (Next (c .rows) R)))
+          → All (λ c. Says (c .said) 0 (counted (c .rows)) (pick (outside (c .rows)) 47 0) 0) (c ∷ cs) × Unfinished d q s′ o′ (Next (given (c ∷ cs)) R)
       sorted true h f k =
           let r : refusal (c .rows) s ≡ 47 = outside-refused (c .rows) s h in
           let N = F .refused (λ y. omega (arith, r, y)) in
           let g : given (c ∷ cs) ≡ given cs = given-none c cs h in
           let rest = f (λ y. omega (arith, g, l (omega (arith, g, y)))) (subst (λ (y : List ℤ). Portions d cs s y s′ o′) (N .1 .1) (subst (λ (y : List ℕ). Portions d cs y p s′ o′) (N .1 .0) P)) in
-          ((says-refused c h (subst (λ (k : ℕ). DeclinedPost (c .said) 0 0 k 0) r (N .0)), rest .0), subst (λ (n : ℕ). Unfinished d q s′ o′ (Next n R)) (sym g) (rest .1))
+          ((says-refused c h (subst (λ (k : ℕ). Says (c .said) 0 0 k 0) r (N .0)), rest .0), subst (λ (n : ℕ). Unfinished d q s′ o′ (Next n R)) (sym g) (rest .1))
       sorted false h f k =
           let g : given (c ∷ cs) ≡ c .rows + given cs = given-some c cs h in
           let m : given (c ∷ cs) < Due R = l (omega (arith, g, inside-some (c .rows) h)) in

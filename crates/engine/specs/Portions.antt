@@ -19,7 +19,7 @@ use Rattle.exec_portions.specs.Run.{Run, begun, portion, rowsDue}
 use Rattle.exec_portions.specs.RunInvariant.{Pending, task}
 use Rattle.base_scratch.specs.Map.{stageAt}
 use Rattle.exec_portions.specs.UnfinishedQuestion.{idle, Unfinished}
-use Rattle.engine.specs.Replies.{FinishPost}
+use Rattle.engine.specs.Replies.{Replies}
 use Rattle.engine.specs.declared.Reply.{Reply}
 use Rattle.engine.specs.declared.Portioned.{Portioned}
 
@@ -52,7 +52,7 @@ unfoldable pub refusal : ℕ → List ℕ → ℕ
 refusal n s = pick (outside n) 47 (pick (ltb (length s) scratchWords) 31 (pick (idle (getD s stageAt 0)) 48 0))
 
 -- whether it is finished, how many rows were offered, number and length
-pub record DeclinedPost (r : Portioned) (f k x n : ℕ) : Type 0 where
+pub record Says (r : Portioned) (f k x n : ℕ) : Type 0 where
   pub end : r .finished ≡ f
   pub offered : r .offered ≡ k
   pub number : r .number ≡ x
@@ -60,7 +60,7 @@ pub record DeclinedPost (r : Portioned) (f k x n : ℕ) : Type 0 where
 
 -- "exactly a given number of rows .. and says unfinished"
 pub record Unended (d : Bytes) (n : ℕ) (q : Pending) (R : Run) (s s′ : List ℕ) (o′ : List ℤ) (r : Portioned) : Type 0 where
-  pub says : DeclinedPost r 0 n 0 0
+  pub says : Says r 0 n 0 0
   pub unfinished : Unfinished d q s′ o′ (portion (task d q) n R)
   pub spares : Spares s s′
 
@@ -75,7 +75,7 @@ pub record Ended (d : Bytes) (q : Pending) (R : Run) (s s′ : List ℕ) (o′ :
 -- So of other scratch nothing is said but 47, 31 and 48, and what holds of every reply; the call takes any words and ends.
 pub record PortionPost (d : Bytes) (n : ℕ) (s : List ℕ) (o : List ℤ) (s′ : List ℕ) (o′ : List ℤ) (r : Portioned) : Type 0 where
   pub within : (r .offered ≤ n) × (r .length ≤ length o′)
-  pub refused : (refusal n s ≡ 0 → ⊥) → DeclinedPost r 0 0 (refusal n s) 0 × ((s′ ≡ s) × (o′ ≡ o))
+  pub refused : (refusal n s ≡ 0 → ⊥) → Says r 0 0 (refusal n s) 0 × ((s′ ≡ s) × (o′ ≡ o))
   pub unended : refusal n s ≡ 0 → (q : Pending) (R : Run) → Unfinished d q s o R → n < rowsDue (task d q) R → Unended d n q R s s′ o′ r
   pub ended : refusal n s ≡ 0 → (q : Pending) (R : Run) → Unfinished d q s o R → rowsDue (task d q) R ≤ n → Ended d q R s s′ o′ r
 
@@ -83,4 +83,4 @@ pub record PortionPost (d : Bytes) (n : ℕ) (s : List ℕ) (o : List ℤ) (s′
 pub record EndedPost (s s′ : List ℕ) (rows k n : ℕ) (r : Portioned) : Type 0 where
   pub end : r .finished ≡ 1
   pub offered : r .offered ≡ rows
-  pub replies : FinishPost s s′ k n (record { number = r .number; length = r .length })
+  pub replies : Replies s s′ k n (record { number = r .number; length = r .length })

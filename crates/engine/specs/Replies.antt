@@ -21,7 +21,7 @@ pub record AdmitPost (d l : Bytes) (s s′ : List ℕ) (r : Admitted) : Type 0 w
   pub is : AdmittedBy d l s s′ r
 
 -- number k and length n, and the scratch cleared
-pub record FinishPost (s s′ : List ℕ) (k n : ℕ) (r : Reply) : Type 0 where
+pub record Replies (s s′ : List ℕ) (k n : ℕ) (r : Reply) : Type 0 where
   pub number : r .number ≡ k
   pub length : r .length ≡ n
   pub scratch : s′ ≡ cleared s

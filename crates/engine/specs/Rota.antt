@@ -7,7 +7,7 @@ use lib.ListN.{length, getD}
 use lib.IntN.{ℤ}
 use Rattle.spec_encoding.specs.Record.{Bytes}
 use Rattle.spec_outcome.specs.Rota.{rotaFits}
-use Rattle.engine.specs.Portions.{DeclinedPost, PortionPost}
+use Rattle.engine.specs.Portions.{Says, PortionPost}
 use Rattle.engine.specs.declared.Portioned.{Portioned}
 use Rattle.engine.specs.declared.TwoSeats.{TwoSeats}
 use Rattle.engine.specs.declared.Round.{Round}
@@ -22,7 +22,7 @@ seatOf s o = record { scratch = s; answer = o }
 
 -- nothing is told of a seat, and it stays as it is
 pub record Idle (x y : Seat) (r : Portioned) : Type 0 where
-  pub says : DeclinedPost r 0 0 0 0
+  pub says : Says r 0 0 0 0
   pub same : y ≡ x
 
 -- "A round visits the seats in order. Each seat with an unfinished question gets its quota": what is told of seat i, and left there, is

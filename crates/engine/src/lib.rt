@@ -4,8 +4,8 @@ ghost use Prim.Native.Nat.{_≤_, _<_};
 ghost use lib.ListN.{length};
 ghost use Rattle.spec_outcome.specs.Outcome.{byLoops, byPlan, checked, planLines, scratchWords};
 ghost use Rattle.spec_outcome.specs.Gives.{Gives};
-ghost use Rattle.engine.specs.Replies.{AdmitPost, FinishPost};
-ghost use Rattle.engine.specs.Portions.{BeginPost, PortionPost, DeclinedPost, EndedPost};
+ghost use Rattle.engine.specs.Replies.{AdmitPost, Replies};
+ghost use Rattle.engine.specs.Portions.{BeginPost, PortionPost, Says, EndedPost};
 ghost use Rattle.engine.specs.Rota.{seatOf, SeatPost, TwoSeatsPost, RoundPost};
 use base_rota::rota_fits;
 use base_scratch::WORDS;
@@ -47,7 +47,7 @@ pub fn admit(tables: &[u8], question: &[u8], scratch: &mut [u64]) -> Admitted
 // How every call but 31 ends.
 pub fn finish(s: &mut [u64], k: u64, n: u64) -> Reply
     requires { ⌜ scratchWords ≤ length (now s) ⌝ }
-    ensures { λ r. ⌜ FinishPost (now (s .entry)) (now (s .exit)) k n r ⌝ }
+    ensures { λ r. ⌜ Replies (now (s .entry)) (now (s .exit)) k n r ⌝ }
 {
     base_scratch::clear(s);
     Reply {
@@ -173,7 +173,7 @@ pub extern "C" fn dislogha_begin(tables: &[u8], question: &[u8], scratch: &mut [
 
 // A refused portion: no row is offered.
 fn declined(k: u64) -> Portioned
-    ensures { λ r. ⌜ DeclinedPost r 0 0 k 0 ⌝ }
+    ensures { λ r. ⌜ Says r 0 0 k 0 ⌝ }
 {
     Portioned {
         finished: 0,

@@ -28,7 +28,7 @@ use Rattle.form_words.specs.NodeWord.{wordAt, kindOf, belowOf, argOf, pa
 use Rattle.base_scratch.specs.Map.{places}
 use Rattle.form_words.specs.FormTree.{formBy, clauseOf, clausesBy, headBy, formTree, formsTree, clausesTree, headTree}
 use Rattle.form_words.specs.HeadPlace as Hd
-use Rattle.form_words.specs.Look.{Inside, Looks, leafOf, LeafAtPost, LookClausePost}
+use Rattle.form_words.specs.Look.{Inside, Looks, leafOf, LeafAtPost, LooksC}
 
 -- ---- packing
 module _ (k b a : ℕ) (hk : k < 16) (hb : b < 1024) where
@@ -217,19 +217,19 @@ pub leaf-recast : {s : List ℕ} {i : ℕ} {r n : Leaf} → LeafAtPost s i r →
 leaf-recast {s} {i} H e = record { is = subst (LeafIs (nodeAt s i)) (sym (H .is) ∙ e) (leaf-node (nodeAt s i)) }
 
 -- ---- clauses
-pub clause-out : {s : List ℕ} {i : ℕ} → places ≤ i → LookClausePost s i Cl.Head
+pub clause-out : {s : List ℕ} {i : ℕ} → places ≤ i → LooksC s i Cl.Head
 unfolding nodeAt pick
 clause-out {s} {i} p = record { is = rw (le-leb places i p); inside = tt }
 
 module _ {s : List ℕ} {i w a k : ℕ} (p : i < places) (e : w ≡ wordAt s i) (A : (a ≡ argOf w) × (a < 2 ^ 50)) (K : k ≡ kindOf w) where
-  pub clause-generator : {g t : ℕ} → k ≡ 9 → (g ≡ a / 1024 % 1024) × (g < 1024) → (t ≡ a % 1024) × (t < 1024) → LookClausePost s i (Cl.Generator g t)
+  pub clause-generator : {g t : ℕ} → k ≡ 9 → (g ≡ a / 1024 % 1024) × (g < 1024) → (t ≡ a % 1024) × (t < 1024) → LooksC s i (Cl.Generator g t)
   clause-generator l q r = let L = look-generator p e A K l q r in record { is = ap clauseOf (L .is); inside = L .inside }
 
-  pub clause-condition : {j : ℕ} → k ≡ 10 → j ≡ next s i → LookClausePost s i (Cl.Condition j)
+  pub clause-condition : {j : ℕ} → k ≡ 10 → j ≡ next s i → LooksC s i (Cl.Condition j)
   clause-condition l q = let L = look-condition p e A K l q in record { is = ap clauseOf (L .is); inside = L .inside }
 
 -- a kind that is neither a generator's nor a condition's
-pub clause-head : {s : List ℕ} {i w k : ℕ} → w ≡ wordAt s i → k ≡ kindOf w → (k ≡ 9 → ⊥) → (k ≡ 10 → ⊥) → LookClausePost s i Cl.Head
+pub clause-head : {s : List ℕ} {i w k : ℕ} → w ≡ wordAt s i → k ≡ kindOf w → (k ≡ 9 → ⊥) → (k ≡ 10 → ⊥) → LooksC s i Cl.Head
 clause-head {s} {i} e K n9 n10 = record {
   is = node-by (λ n. Cl.Head ≡ clauseOf n) s i e refl (λ q. refl) (λ q. refl) (λ q. refl) (λ q. refl) (λ q. refl) (λ q. refl) (λ q. refl) (λ q. refl) (λ q. absurd (n9 (K ∙ q))) (λ q. absurd (n10 (K ∙ q)));
   inside = tt;
@@ -248,15 +248,15 @@ headNode f s i n = headBy (λ j. formTree f s j) (λ j. headTree f s j) i n
 pub recast : {s : List ℕ} {i : ℕ} {r n : FormNode} → Looks s i r → r ≡ n → Looks s i n
 recast {s} {i} H e = subst (Looks s i) e H
 
-pub recastC : {s : List ℕ} {i : ℕ} {r n : Clause} → LookClausePost s i r → r ≡ n → LookClausePost s i n
-recastC {s} {i} H e = subst (LookClausePost s i) e H
+pub recastC : {s : List ℕ} {i : ℕ} {r n : Clause} → LooksC s i r → r ≡ n → LooksC s i n
+recastC {s} {i} H e = subst (LooksC s i) e H
 
 module _ {s : List ℕ} {i : ℕ} {n : FormNode} (H : Looks s i n) (f : ℕ) where
   pub form-is : formTree (suc f) s i ≡ formNode f s i n
   unfolding formTree
   form-is = ap (formNode f s i) (sym (H .is))
 
-module _ {s : List ℕ} {i : ℕ} {n : Clause} (H : LookClausePost s i n) (f : ℕ) where
+module _ {s : List ℕ} {i : ℕ} {n : Clause} (H : LooksC s i n) (f : ℕ) where
   pub clauses-is : clausesTree (suc f) s i ≡ clausesNode f s i n
   unfolding formTree
   clauses-is = ap (clausesNode f s i) (sym (H .is))

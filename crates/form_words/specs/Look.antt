@@ -53,6 +53,6 @@ InsideC i (Cl.Generator g k) = (i < places) × (g < 1024) × (k < 1024)
 InsideC i (Cl.Condition j) = (i < j) × (j ≤ places)
 InsideC i Cl.Head = Unit {0}
 
-pub record LookClausePost (s : List ℕ) (i : ℕ) (r : Clause) : Type 0 where
+pub record LooksC (s : List ℕ) (i : ℕ) (r : Clause) : Type 0 where
   pub is : r ≡ clauseOf (nodeAt s i)
   pub inside : InsideC i r

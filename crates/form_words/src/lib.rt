@@ -5,7 +5,7 @@ ghost use Prim.Native.Nat.{_+_, _%_, _<_, _^_};
 ghost use lib.ListN.{set};
 ghost use Rattle.form_words.specs.NodeWord.{wordAt, kindOf, belowOf, argOf, pack, next, numberOf};
 ghost use Rattle.base_scratch.specs.Map.{formAt};
-ghost use Rattle.form_words.specs.Look.{Looks, LeafAtPost, LookClausePost};
+ghost use Rattle.form_words.specs.Look.{Looks, LeafAtPost, LooksC};
 use base_scratch::FORM;
 use base_scratch::FORM_WORDS;
 use base_scratch::load_at;
@@ -174,7 +174,7 @@ pub fn leaf_at(s: &[u64], i: usize) -> Leaf
 
 // By the word itself: a clause is looked at for each row, and `look` would make a node first.
 pub fn look_clause(s: &[u64], i: usize) -> Clause
-    ensures { λ r. ⌜ LookClausePost (now (s .entry)) i r ⌝ }
+    ensures { λ r. ⌜ LooksC (now (s .entry)) i r ⌝ }
 {
     if FORM_WORDS <= i {
         return Clause::Head;

@@ -27,7 +27,7 @@ use Rattle.form_words.specs.declared.Clause.the-variants as Cl
 use Rattle.form_words.specs.NodeWord.{next}
 use Rattle.form_words.specs.FormTree.{formTree, formsTree, clausesTree, headTree, left}
 use Rattle.base_scratch.specs.Map.{places}
-use Rattle.form_words.specs.Look.{Looks, LookClausePost}
+use Rattle.form_words.specs.Look.{Looks, LooksC}
 use Rattle.form_words.specs.FormWords.{flat, Holds}
 use Rattle.form_words.specs.FormWords as Fl
 use Rattle.form_words.proofs.ReadBack.{read-back}
@@ -114,7 +114,7 @@ checked-size {u = u} t C e w = record {
 sized : {s : List ℕ} {i : ℕ} {n : FormNode} {r : Size} → Looks s i n → ((f : ℕ) → left i < suc f → SizeOf (formNode f s i n) r) → FormSizePost s i r
 sized {r = r} H h = record { is = elim [ zero ↦ λ l. absurd (omega arith) | suc f ↦ λ l. subst (λ (t : Form). SizeOf t r) (sym (form-is H f)) (h f l) ] }
 
-sizedC : {s : List ℕ} {i : ℕ} {n : Clause} {m : Monoid} {r : Size} → LookClausePost s i n → ((f : ℕ) → left i + 1 < suc f → SizeOfC (monoidOf m) (clausesNode f s i n) (headNode f s i n) r) → ClausesSizePost s i m r
+sizedC : {s : List ℕ} {i : ℕ} {n : Clause} {m : Monoid} {r : Size} → LooksC s i n → ((f : ℕ) → left i + 1 < suc f → SizeOfC (monoidOf m) (clausesNode f s i n) (headNode f s i n) r) → ClausesSizePost s i m r
 sizedC {s} {i} {n} {m} {r} H h = record {
   is = elim [
     | zero ↦ λ l. absurd (omega arith)
@@ -180,7 +180,7 @@ module _ {s : List ℕ} {i : ℕ} {r : Size} where
 
   -- clauses
   module _ {m : Monoid} where
-    pub clauses-generator : {g k : ℕ} {x : Size} → LookClausePost s i (Cl.Generator g k) → ClausesSizePost s (i + 1) m x →
+    pub clauses-generator : {g k : ℕ} {x : Size} → LooksC s i (Cl.Generator g k) → ClausesSizePost s (i + 1) m x →
         r .bound ≡ perGenerator (monoidOf m) (x .bound) → r .fits ≡ x .fits → ClausesSizePost s i m r
     unfolding ownGens within
     clauses-generator H X p q = sizedC H (λ f l.
@@ -190,7 +190,7 @@ module _ {s : List ℕ} {i : ℕ} {r : Size} where
           fits-is = q ∙ A .fits-is;
         })
 
-    pub clauses-condition : {j : ℕ} {t x : Size} → LookClausePost s i (Cl.Condition j) → FormSizePost s (i + 1) t → ClausesSizePost s j m x →
+    pub clauses-condition : {j : ℕ} {t x : Size} → LooksC s i (Cl.Condition j) → FormSizePost s (i + 1) t → ClausesSizePost s j m x →
         r .bound ≡ x .bound → r .fits ≡ (t .fits && x .fits) → ClausesSizePost s i m r
     unfolding ownGens within
     clauses-condition {j} H T X p q = sizedC H (λ f l.
@@ -201,7 +201,7 @@ module _ {s : List ℕ} {i : ℕ} {r : Size} where
           fits-is = q ∙ ap₂ _&&_ (B .fits-is) (A .fits-is) ∙ sym (and-assoc (within (formTree f s (i + 1))) (withinC (clausesTree f s j)) (within (headTree f s j)));
         })
 
-    pub clauses-head : {x : Size} → LookClausePost s i Cl.Head → FormSizePost s i x → r .bound ≡ perHead (monoidOf m) (x .bound) → r .fits ≡ x .fits → ClausesSizePost s i m r
+    pub clauses-head : {x : Size} → LooksC s i Cl.Head → FormSizePost s i x → r .bound ≡ perHead (monoidOf m) (x .bound) → r .fits ≡ x .fits → ClausesSizePost s i m r
     unfolding ownGens within
     clauses-head H X p q = sizedC H (λ f l.
         let A = X .is f (omega arith) in

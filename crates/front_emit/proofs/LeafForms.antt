@@ -21,7 +21,7 @@ use Rattle.front_words.specs.NodeWord.{argOf, nodeWord}
 use Rattle.front_words.specs.NodeTree.{numberOf, kindAt, argAt}
 use Rattle.front_nodes.specs.NodeTable.{most, above, nameBy, nodeBy, nodesOf}
 use Rattle.front_nodes.proofs.PostOrder.{by-pick}
-use Rattle.front_resolve.specs.Place.{Place, ProjectPre}
+use Rattle.front_resolve.specs.Place.{Place, FormAt}
 use Rattle.front_resolve.specs.declared.Form.{Form}
 use Rattle.front_resolve.specs.declared.Form.the-variants.{Number, Truth, Row, Cell, Record, Two, Not, Comp, Table, Bad}
 use Rattle.front_resolve.proofs.Form as form
@@ -126,8 +126,8 @@ module _ {s : List ℕ} {f : Form} {i : ℕ} {st : State} (S : SimplePre s f i s
   pub one-place : st .place < places
   one-place = let v = S .room .room in omega (arith, some-word (quote (simpleS s f) (st .next)))
 
-  form-of : {g : Form} → f ≡ g → ProjectPre s i (S .depth) g
-  form-of e = subst (ProjectPre s i (S .depth)) e (S .form)
+  form-of : {g : Form} → f ≡ g → FormAt s i (S .depth) g
+  form-of e = subst (FormAt s i (S .depth)) e (S .form)
 
   pub cell-small : {k g : ℕ} → f ≡ Cell k g → (k < 2 ^ 33) × (g ≤ limit)
   cell-small e = form-of e

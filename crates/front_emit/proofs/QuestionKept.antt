@@ -27,7 +27,7 @@ use Rattle.front_nodes.proofs.Depths.{level-same}
 use Rattle.front_nodes.proofs.SameTable.{depth-same, children-same, qualifiers-same, nodes-same}
 use Rattle.front_words.specs.NodeTree.{kindAt}
 use Rattle.base_syntax.specs.MonoidWord.{monoidOf}
-use Rattle.front_resolve.specs.Place.{Place, offsets, ProjectPre, SplicePre}
+use Rattle.front_resolve.specs.Place.{Place, offsets, FormAt, Fine}
 use Rattle.front_resolve.specs.declared.Form.{Form}
 use Rattle.front_resolve.specs.declared.Form.the-variants.{Number, Truth, Row, Cell, Record, Two, Not, Comp, Table, Bad}
 use Rattle.front_emit.specs.WriterStart.{mostTables, collections, semS, Ready}
@@ -110,10 +110,10 @@ module _ {s s′ : List ℕ} (H : Kept s s′) where
   node-kept : (i : ℕ) {y z : Node} → nodesOf s i ≡ y → y ≡ z → nodesOf s′ i ≡ z
   node-kept i e f = ap (λ (N : Nodes). N i) nodes-kept ∙ e ∙ f
 
-  pub fine-kept : {h : Place} → h .node < most → SplicePre s h → SplicePre s′ h
+  pub fine-kept : {h : Place} → h .node < most → Fine s h → Fine s′ h
   fine-kept {h} l F = record { form = go (h .form) (F .form); long = F .long }
     where
-      go : (f : Form) → ProjectPre s (h .node) (h .depth) f → ProjectPre s′ (h .node) (h .depth) f
+      go : (f : Form) → FormAt s (h .node) (h .depth) f → FormAt s′ (h .node) (h .depth) f
       go (Number z) p = (node-kept (h .node) (p .0) refl, p .1)
       go (Truth b) p = node-kept (h .node) p refl
       go (Row g) p = p

@@ -21,7 +21,7 @@ use Rattle.front_nodes.specs.Levels.{AllAt, Level}
 use Rattle.base_syntax.specs.declared.Op.{Op}
 use Rattle.front_nodes.specs.declared.Found.the-variants as Fd
 use Rattle.front_nodes.proofs.PostOrder.{post-order}
-use Rattle.front_resolve.specs.Place.{Place, envOf, formSem, ProjectPre, Heads}
+use Rattle.front_resolve.specs.Place.{Place, envOf, formSem, FormAt, Heads}
 use Rattle.front_resolve.specs.declared.Form.{Form}
 use Rattle.front_resolve.specs.declared.Form.the-variants.{Record, Two, Not, Comp}
 use Rattle.front_emit.specs.declared.State.{State}
@@ -80,8 +80,8 @@ pub form-is : (s : List ℕ) (h : Place) {f : Form} → h .form ≡ f → placeS
 form-is s h e = ap (formS s h) e
 
 module _ {s : List ℕ} {h : Place} {st : State} {k : ℕ} (S : StartsAt s h st k) where
-  pub form-at : {f : Form} → h .form ≡ f → ProjectPre s (h .node) (h .depth) f
-  form-at e = subst (ProjectPre s (h .node) (h .depth)) e (S .fine .form)
+  pub form-at : {f : Form} → h .form ≡ f → FormAt s (h .node) (h .depth) f
+  form-at e = subst (FormAt s (h .node) (h .depth)) e (S .fine .form)
 
   pub node-inside : {y : Node} → nodesOf s (h .node) ≡ y → Inside (h .node) y
   node-inside e = subst (Inside (h .node)) e (post-order s (h .node))

@@ -21,7 +21,7 @@ use Rattle.base_scratch.specs.Map.{places}
 use Rattle.front_sizes.specs.SizeWords.{conditionCount}
 use Rattle.front_nodes.specs.NodeTable.{most, depthAt, childrenOf, chain, qualifiersOf, nodesOf}
 use Rattle.front_nodes.specs.Levels.{AllAt, Levelled}
-use Rattle.front_resolve.specs.Place.{Place, envOf, semN, placeSem, ProjectPre, SplicePre}
+use Rattle.front_resolve.specs.Place.{Place, envOf, semN, placeSem, FormAt, Fine}
 use Rattle.front_resolve.specs.declared.Form.{Form}
 use Rattle.front_resolve.specs.declared.Form.the-variants.{Number, Truth, Row, Cell, Record, Two, Not, Comp, Table, Bad}
 use Rattle.front_emit.specs.declared.State.{State}
@@ -105,7 +105,7 @@ pub record Starts (s : List ℕ) (i D : ℕ) (st : State) (k : ℕ) : Type 0 whe
 -- the same of a place
 pub record StartsAt (s : List ℕ) (h : Place) (st : State) (k : ℕ) : Type 0 where
   pub starts : Starts s (h .node) (h .depth) st k
-  pub fine : SplicePre s h
+  pub fine : Fine s h
 
 -- the same of the qualifiers between lo and e
 pub record StartsQ (s : List ℕ) (lo e D : ℕ) (st : State) (k : ℕ) : Type 0 where
@@ -118,7 +118,7 @@ pub record StartsQ (s : List ℕ) (lo e D : ℕ) (st : State) (k : ℕ) : Type 0
 -- the same of a form at node i, with no nodes below it
 pub record SimplePre (s : List ℕ) (f : Form) (i : ℕ) (st : State) : Type 0 where
   pub depth : ℕ
-  pub form : ProjectPre s i depth f
+  pub form : FormAt s i depth f
   pub room : Room st (words (quote (simpleS s f) (st .next)))
 
 -- node i as a term, as a condition, as a generator's term

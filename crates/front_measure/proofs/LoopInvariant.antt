@@ -19,7 +19,7 @@ use Rattle.front_measure.specs.declared.Ways.{Ways}
 use Rattle.front_measure.specs.declared.Weight.{Weight}
 use Rattle.front_measure.specs.MeasurableNodes.{Arranged}
 use Rattle.front_measure.specs.KeptSizes.{Measured, Kept, MeasurePost}
-use Rattle.front_measure.specs.PartContracts.{way, Right, StorePre, WeighPost, offsetsOf, storing}
+use Rattle.front_measure.specs.PartContracts.{way, Right, SmallWeight, WeighPost, offsetsOf, storing}
 use Rattle.front_measure.proofs.Frame.{arranged-same, measured-same}
 
 -- ---- the same words give the same counts
@@ -59,7 +59,7 @@ unfolding way pick
 offset-is w true = refl
 offset-is w false = refl
 
-module _ (s : List ℕ) (i : ℕ) (w : Weight) (S : StorePre w) (room : place i 1 < length s) where
+module _ (s : List ℕ) (i : ℕ) (w : Weight) (S : SmallWeight w) (room : place i 1 < length s) where
   one : List ℕ
   one = set s (place i 0) (pack (w .term) (w .condition .stays) (w .condition .yields))
 

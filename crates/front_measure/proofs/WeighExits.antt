@@ -36,7 +36,7 @@ use Rattle.front_measure.specs.declared.Weight.{Weight}
 use Rattle.front_measure.specs.Measure.{count, beside, above, none, leaf, never, termOf, conditionOf, qualifierOf, total, allOf}
 use Rattle.front_measure.specs.MeasurableNodes.{qualifies, ends, rowUpto, row, ahead, TermAt, TermsAt, Aligned, Arranged}
 use Rattle.front_measure.specs.KeptSizes.{Writes, Adds, Kept}
-use Rattle.front_measure.specs.PartContracts.{ways, way, Right, SmallWays, StorePre, noWays, bothWays, conditionWays, spliceWays, scalarWeight, joins, twoTerm, twoWeight, tableWeight, rowWays, compTerm, compWeight, compAt, qualifierWeight, keptWeight, formWeight, FollowedPost, WeighPost}
+use Rattle.front_measure.specs.PartContracts.{ways, way, Right, SmallWays, SmallWeight, noWays, bothWays, conditionWays, spliceWays, scalarWeight, joins, twoTerm, twoWeight, tableWeight, rowWays, compTerm, compWeight, compAt, qualifierWeight, keptWeight, formWeight, FollowedPost, WeighPost}
 use Rattle.front_measure.proofs.AnyEnvironment.{total-append}
 use Rattle.front_measure.proofs.NodeWeights.{writes-node, writes-row, writes-cell, writes-nothing, writes-number, writes-truth, writes-bad, writes-negate, writes-two, writes-record, writes-comp, writes-deep, writes-table, generator-writes, condition-writes, binding-writes}
 use Rattle.base_syntax.specs.Numbers.{binOf}
@@ -90,10 +90,10 @@ both-small a b =
 above-small : (t : FormSize) → SmallWays (ways (λ v. above t))
 above-small t = ways-small (λ v. above t) (λ v. count-small (1 + t .size) (t .gens))
 
-scalar-small : {t : FormSize} → Small t → StorePre (scalarWeight t)
+scalar-small : {t : FormSize} → Small t → SmallWeight (scalarWeight t)
 scalar-small {t} h = record { term = h; condition = above-small t; splice = never-small; before = none-small }
 
-kept-small : (s : List ℕ) (j : ℕ) → StorePre (keptWeight s j)
+kept-small : (s : List ℕ) (j : ℕ) → SmallWeight (keptWeight s j)
 kept-small s j = record { term = term-small s j; condition = ways-small (conditionCount s j) (condition-small s j); splice = ways-small (splicedCount s j) (spliced-small s j); before = none-small }
 
 row-small : (s : List ℕ) (d e : ℕ) → SmallWays (rowWays s d e)
@@ -134,7 +134,7 @@ module _ {s : List ℕ} {i : ℕ} where
       → ((n : ℕ) → i < n → Arranged s n → (K : ℕ → Collection) → Given K s i → Writes K (nodesOf s) (depthAt s i) i t (λ v. above t) (λ v. never)) → w ≡ scalarWeight t → WeighPost s i w
   scalar-weighs {t} {w} h q f e = record {
     is = λ n l A K B. subst (Right K s i) (sym e) (right-term (scalarWeight t) refl q (recast (f n l A K B) refl (way-of (λ v. above t)) (way-of (λ v. never))));
-    small = subst StorePre (sym e) (scalar-small h);
+    small = subst SmallWeight (sym e) (scalar-small h);
   }
 
   -- what a node that was read is
@@ -154,7 +154,7 @@ module _ {s : List ℕ} {i : ℕ} where
   weigh-table H e q = record {
     is = λ n l A K B. subst (Right K s i) (sym q)
         (right-term tableWeight refl (ap qualifies (named H e)) (recast (writes-table K (nodesOf s) (post-order s) (named H e)) refl (way-of (λ v. count 5 1)) (way-of (λ v. count 2 1))));
-    small = subst StorePre (sym q) (record { term = count-small 4 1; condition = ways-small (λ v. count 5 1) (λ v. count-small 5 1); splice = ways-small (λ v. count 2 1) (λ v. count-small 2 1); before = none-small });
+    small = subst SmallWeight (sym q) (record { term = count-small 4 1; condition = ways-small (λ v. count 5 1) (λ v. count-small 5 1); splice = ways-small (λ v. count 2 1) (λ v. count-small 2 1); before = none-small });
   }
 
 -- ---- a child that is a term
@@ -203,7 +203,7 @@ module _ {s : List ℕ} {i : ℕ} where
         ∙ ap₂ (λ x y. pick (joins (binOf o)) x y) (ap₂ beside (way-of (conditionCount s a) v) (way-of (conditionCount s b) v) ∙ way-both (conditionWays s a) (conditionWays s b) v) (way-of (λ x. above (twoTerm s a b)) v)
         ∙ way-pick (joins (binOf o)) (bothWays (conditionWays s a) (conditionWays s b)) (ways (λ x. above (twoTerm s a b))) v)
         (way-of (λ v. never))));
-    small = subst StorePre (sym r) (record {
+    small = subst SmallWeight (sym r) (record {
       term = count-small (1 + beside (termCount s a) (termCount s b) .size) (beside (termCount s a) (termCount s b) .gens);
       condition = by-pick SmallWays (joins (binOf o)) (bothWays (conditionWays s a) (conditionWays s b)) (ways (λ v. above (twoTerm s a b))) (λ t. both-small (conditionWays s a) (conditionWays s b)) (λ t. above-small (twoTerm s a b));
       splice = never-small;
@@ -293,7 +293,7 @@ module _ {s : List ℕ} {i : ℕ} where
           sum = λ v. total-append (λ c. qualifierOf K (nodesOf s) (depthAt s i) c v) none (ahead s i) (i ∷ []) ∙ ap₂ beside (row-counts B (depthAt s i) (startAt s i) (start-below s i) v) (f n l A K B v) ∙ way-both b x v;
           offset = λ v. ap (λ (c : FormSize). c .gens) (row-counts B (depthAt s i) (startAt s i) (start-below s i) v);
         }));
-        small = subst StorePre (sym e) (record { term = count-small 0 0; condition = h; splice = both-small b x; before = row-small s (depthAt s i) (startAt s i) });
+        small = subst SmallWeight (sym e) (record { term = count-small 0 0; condition = h; splice = both-small b x; before = row-small s (depthAt s i) (startAt s i) });
       }
 
   pub weigh-gen : {n : QueryNode} {c : ℕ} {x : Ways} {w : Weight} → LookPost s i n → n ≡ Gen c → x ≡ spliceWays s c → w ≡ qualifierWeight (rowWays s (depthAt s i) (startAt s i)) x → WeighPost s i w
@@ -331,7 +331,7 @@ rowOf s h = rowWays s (depthAt s h) (startAt s h)
 abbrev made : List ℕ → Sy.Monoid → ℕ → Weight
 made s m h = compWeight m (rowOf s h) (termCount s h) (conditionCount s h true)
 
-made-small : (s : List ℕ) (m : Sy.Monoid) (h : ℕ) → StorePre (made s m h)
+made-small : (s : List ℕ) (m : Sy.Monoid) (h : ℕ) → SmallWeight (made s m h)
 unfolding way
 made-small s m h =
     let a = rowOf s h in
@@ -375,7 +375,7 @@ module _ {s : List ℕ} {i : ℕ} {m : Sy.Monoid} {h : ℕ} (k : nodesOf s i ≡
       go : (b : Bool) → ltb (depthAt s i) levels ≡ b → WeighPost s i w
       go true p =
           let q : w ≡ made s m h = e ∙ ap (λ b. pick b (made s m h) (scalarWeight leaf)) p in
-          record { is = λ n l A K B. subst (Right K s i) (sym q) (made-right (ltb-true (depthAt s i) levels p) l A K B); small = subst StorePre (sym q) (made-small s m h) }
+          record { is = λ n l A K B. subst (Right K s i) (sym q) (made-right (ltb-true (depthAt s i) levels p) l A K B); small = subst SmallWeight (sym q) (made-small s m h) }
       go false p =
           scalar-weighs (count-small 1 0) (ap qualifies k) (λ n l A K B. writes-deep K (nodesOf s) (post-order s) k (ltb-false (depthAt s i) levels p)) (e ∙ ap (λ b. pick b (made s m h) (scalarWeight leaf)) p)
 
@@ -416,7 +416,7 @@ module _ {s : List ℕ} {i : ℕ} (F : follows (nodesOf s i) ≡ true) (T : Term
         let E = subst (λ (b : ℕ). Writes K (nodesOf s) b j (termCount s j) (conditionCount s j) (splicedCount s j)) d W in
         subst (Right K s i) (sym e) (right-term (keptWeight s j) refl T (recast (writes-node K (nodesOf s) (post-order s) (offsets s) (envOf l) j B (envOf g) x) (E .term)
         (λ v. E .condition v ∙ way-of (conditionCount s j) v) (λ v. E .splice v ∙ way-of (splicedCount s j) v)));
-    small = subst StorePre (sym e) (kept-small s j);
+    small = subst SmallWeight (sym e) (kept-small s j);
   }
 
   by-form : (j B : ℕ) (l g : List ℕ) (f : Form) → Heads s i (depthAt s i) l (place f j B g) → w ≡ formWeight s j f → WeighPost s i w

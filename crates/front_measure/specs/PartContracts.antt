@@ -38,7 +38,7 @@ pub record SmallWays (w : Ways) : Type 0 where
   pub stays : Small (w .stays)
   pub yields : Small (w .yields)
 
-pub record StorePre (w : Weight) : Type 0 where
+pub record SmallWeight (w : Weight) : Type 0 where
   pub term : Small (w .term)
   pub condition : SmallWays (w .condition)
   pub splice : SmallWays (w .splice)
@@ -133,7 +133,7 @@ pub record FollowedPost (s : List ℕ) (i : ℕ) (w : Weight) : Type 0 where
 -- where the nodes before i are kept right, this is right for node i
 pub record WeighPost (s : List ℕ) (i : ℕ) (w : Weight) : Type 0 where
   pub is : (n : ℕ) → i < n → Arranged s n → (K : ℕ → Collection) → ((j : ℕ) → j < i → Kept K s s j) → Right K s i w
-  pub small : StorePre w
+  pub small : SmallWeight w
 
 -- the two words of node i
 abbrev pub offsetsOf : Ways → FormSize

@@ -12,7 +12,7 @@ ghost use Rattle.front_nodes.specs.NodeTable.{depthAt, childrenOf, nodesOf};
 ghost use Rattle.front_measure.specs.Measure.{beside, above, none, total};
 ghost use Rattle.front_measure.specs.MeasurableNodes.{qualifies};
 ghost use Rattle.front_measure.specs.KeptSizes.{MeasurePost};
-ghost use Rattle.front_measure.specs.PartContracts.{joins, bothWays, conditionWays, spliceWays, noWays, termWeight, scalarWeight, twoWeight, tableWeight, rowWays, qualifierWeight, keptWeight, formWeight, compAt, way, FollowedPost, WeighPost, StorePre, storing};
+ghost use Rattle.front_measure.specs.PartContracts.{joins, bothWays, conditionWays, spliceWays, noWays, termWeight, scalarWeight, twoWeight, tableWeight, rowWays, qualifierWeight, keptWeight, formWeight, compAt, way, FollowedPost, WeighPost, SmallWeight, storing};
 ghost use Rattle.base_syntax.specs.Numbers.{binOf};
 use base_syntax::Monoid;
 use base_syntax::Op;
@@ -366,7 +366,7 @@ fn weigh(s: &[u64], i: usize) -> Weight
 
 // The words of node i.
 fn store(s: &mut [u64], i: usize, w: Weight)
-    requires { ⌜ StorePre w ⌝ }
+    requires { ⌜ SmallWeight w ⌝ }
     ensures { λ r. ⌜ now (s .exit) ≡ storing (now (s .entry)) i w ⌝ }
 {
     let c = w.condition;

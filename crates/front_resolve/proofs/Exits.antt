@@ -39,7 +39,7 @@ use Rattle.front_resolve.specs.declared.Form.the-variants.{Number, Truth
 use Rattle.front_resolve.specs.declared.Head.{Head}
 use Rattle.front_resolve.specs.declared.Next.{Next}
 use Rattle.front_resolve.specs.declared.Next.the-variants as Ne
-use Rattle.front_resolve.specs.Place.{Place, under, odd, bit, envOf, offsets, semN, formSem, ProjectPre, SplicePre, From, Heads, FollowPost, SplicePost, Projected, Steps, Stepped, ProjectPost, formFor}
+use Rattle.front_resolve.specs.Place.{Place, under, odd, bit, envOf, offsets, semN, formSem, FormAt, Fine, From, Heads, FollowPost, SplicePost, Projected, Steps, Stepped, ProjectPost, formFor}
 use Rattle.base_syntax.specs.Numbers.{binOf}
 
 abbrev pub place : Form → ℕ → ℕ → List ℕ → Place
@@ -82,7 +82,7 @@ module _ (s : List ℕ) (i D : ℕ) where
   settle-sem K e (Nd.Cond c) h = refl
   settle-sem K e Nd.Bad h = refl
 
-  settle-form : (n : QueryNode) → LookPost s i n → ProjectPre s i D (formFor D n)
+  settle-form : (n : QueryNode) → LookPost s i n → FormAt s i D (formFor D n)
   settle-form (Nd.Number z) H = (H .is, H .small)
   settle-form (Nd.Truth b) H = H .is
   settle-form (Nd.Name x d) H = tt
@@ -90,7 +90,7 @@ module _ (s : List ℕ) (i D : ℕ) where
   settle-form Nd.Record H = H .is
   settle-form (Nd.Two o a b) H = H .is
   settle-form (Nd.Not c) H = H .is
-  settle-form (Nd.Comp m c) H = by-pick (ProjectPre s i D) (ltb D levels) (Comp m c) Bad (λ t. (H .is, ltb-true D levels t)) (λ t. tt)
+  settle-form (Nd.Comp m c) H = by-pick (FormAt s i D) (ltb D levels) (Comp m c) Bad (λ t. (H .is, ltb-true D levels t)) (λ t. tt)
   settle-form (Nd.Table k) H = (H .is, H .small)
   settle-form (Nd.Gen c) H = tt
   settle-form (Nd.Bind c) H = tt
@@ -98,7 +98,7 @@ module _ (s : List ℕ) (i D : ℕ) where
   settle-form Nd.Bad H = tt
 
 -- a place at the node itself
-stays : {s : List ℕ} {i D : ℕ} (f : Form) (l : List ℕ) → length l ≡ levels → ProjectPre s i D f → From s i D (place f i D l)
+stays : {s : List ℕ} {i D : ℕ} (f : Form) (l : List ℕ) → length l ≡ levels → FormAt s i D f → From s i D (place f i D l)
 stays f l z p = record { below = omega arith; level = λ n L q e. e; fine = record { form = p; long = z } }
 
 -- ---- resolve
@@ -329,22 +329,22 @@ module _ (K : ℕ → Collection) (s : List ℕ) (i D : ℕ) (e : Env) where
 abbrev at : (ℕ → Collection) → List ℕ → Place → Form → Sem
 at K s h f = formSem K s (h .node) (h .depth) (envOf (h .env)) f
 
-fine-at : {s : List ℕ} {h : Place} {f : Form} → SplicePre s h → h .form ≡ f → ProjectPre s (h .node) (h .depth) f
-fine-at {s} {h} F e = subst (ProjectPre s (h .node) (h .depth)) e (F .form)
+fine-at : {s : List ℕ} {h : Place} {f : Form} → Fine s h → h .form ≡ f → FormAt s (h .node) (h .depth) f
+fine-at {s} {h} F e = subst (FormAt s (h .node) (h .depth)) e (F .form)
 
 -- where a comprehension's head stands, and how deep it may be
-pub comp-inside : {s : List ℕ} {h : Place} {m : Monoid} {k : ℕ} → SplicePre s h → h .form ≡ Comp m k → (k < h .node) × (h .depth < levels)
+pub comp-inside : {s : List ℕ} {h : Place} {m : Monoid} {k : ℕ} → Fine s h → h .form ≡ Comp m k → (k < h .node) × (h .depth < levels)
 comp-inside {s} {h} F e = let w = fine-at F e in (subst (Inside (h .node)) (w .0) (post-order s (h .node)) .1, w .1)
 
 module _ {s : List ℕ} {h : Place} {v : Bool} {n : ℕ} where
-  pub s-junk : SplicePre s h → OneOf unranged (tagOf form.the-type (h .form)) → SplicePost s h v n (place Bad (h .node) (h .depth) (h .env))
+  pub s-junk : Fine s h → OneOf unranged (tagOf form.the-type (h .form)) → SplicePost s h v n (place Bad (h .node) (h .depth) (h .env))
   s-junk F w = record { is = λ K. no-range K s (h .node) (h .depth) (envOf (h .env)) (h .form) w v n; from = stays Bad (h .env) (F .long) tt }
 
-  pub s-table : {k : ℕ} → h .form ≡ Table k → SplicePre s h → n ≤ limit → SplicePost s h v n (place (Row n) (h .node) (h .depth) (h .env))
+  pub s-table : {k : ℕ} → h .form ≡ Table k → Fine s h → n ≤ limit → SplicePost s h v n (place (Row n) (h .node) (h .depth) (h .env))
   unfolding ranges
   s-table e F q = record { is = λ K. ap (λ x. ranges (at K s h x) v n .head) (sym e); from = stays (Row n) (h .env) (F .long) q }
 
-  pub s-comp : {m : Monoid} {k : ℕ} {b : Bool} {l : List ℕ} {r : Place} → h .form ≡ Comp m k → SplicePre s h → b ≡ v || idempotent (monoidOf m) → l ≡ set (h .env) (h .depth) (2 * n + bit b)
+  pub s-comp : {m : Monoid} {k : ℕ} {b : Bool} {l : List ℕ} {r : Place} → h .form ≡ Comp m k → Fine s h → b ≡ v || idempotent (monoidOf m) → l ≡ set (h .env) (h .depth) (2 * n + bit b)
       → Heads s k (h .depth + 1) l r → SplicePost s h v n r
   unfolding ranges
   s-comp {m} {k} {b} {l} e F u p R =
@@ -363,7 +363,7 @@ module _ {s : List ℕ} {h : Place} {v : Bool} {n : ℕ} where
       }
 
 -- the environment keeps its length
-pub entered : {s : List ℕ} {h : Place} (d n : ℕ) {l : List ℕ} → SplicePre s h → l ≡ set (h .env) d n → length l ≡ levels
+pub entered : {s : List ℕ} {h : Place} (d n : ℕ) {l : List ℕ} → Fine s h → l ≡ set (h .env) d n → length l ≡ levels
 entered {h = h} d n F e = ap (λ (l : List ℕ). length l) e ∙ length-set (h .env) d n ∙ F .long
 
 -- ---- project
@@ -388,14 +388,14 @@ nth-depth dep D zero (c ∷ cs) a = a .0
 nth-depth dep D (suc k) (c ∷ cs) a = nth-depth dep D k cs (a .1)
 
 module _ {s : List ℕ} {k : ℕ} {h : Place} where
-  pub p-junk : SplicePre s h → OneOf fieldless (tagOf form.the-type (h .form)) → Projected s k h (place Bad (h .node) (h .depth) (h .env))
+  pub p-junk : Fine s h → OneOf fieldless (tagOf form.the-type (h .form)) → Projected s k h (place Bad (h .node) (h .depth) (h .env))
   p-junk F w = record { is = λ K. no-field K s (h .node) (h .depth) (envOf (h .env)) (h .form) w k; from = stays Bad (h .env) (F .long) tt }
 
-  pub p-row : {g : ℕ} → h .form ≡ Row g → SplicePre s h → k < 2 ^ 33 → Projected s k h (place (Cell k g) (h .node) (h .depth) (h .env))
+  pub p-row : {g : ℕ} → h .form ≡ Row g → Fine s h → k < 2 ^ 33 → Projected s k h (place (Cell k g) (h .node) (h .depth) (h .env))
   unfolding part
   p-row {g} e F q = record { is = λ K. ap (λ x. part k (at K s h x)) (sym e); from = stays (Cell k g) (h .env) (F .long) (q, fine-at F e) }
 
-  pub p-none : h .form ≡ Record → SplicePre s h → ChildPost s (h .node) k Fd.Nothing → Projected s k h (place Bad (h .node) (h .depth) (h .env))
+  pub p-none : h .form ≡ Record → Fine s h → ChildPost s (h .node) k Fd.Nothing → Projected s k h (place Bad (h .node) (h .depth) (h .env))
   unfolding part found-sem
   p-none e F P =
       record {
@@ -403,7 +403,7 @@ module _ {s : List ℕ} {k : ℕ} {h : Place} where
         from = stays Bad (h .env) (F .long) tt;
       }
 
-  pub p-part : {c : ℕ} {r : Place} → h .form ≡ Record → SplicePre s h → ChildPost s (h .node) k (Fd.At c) → Heads s c (h .depth) (h .env) r → Projected s k h r
+  pub p-part : {c : ℕ} {r : Place} → h .form ≡ Record → Fine s h → ChildPost s (h .node) k (Fd.At c) → Heads s c (h .depth) (h .env) r → Projected s k h r
   unfolding part found-sem found-depth
   p-part {c} e F P R =
       let c-before = P .before in

@@ -73,27 +73,27 @@ placeSem K s r = formSem K s (r .node) (r .depth) (envOf (r .env)) (r .form)
 
 -- A form at node i is that node's own, or a row or a cell, or nothing. `nothing` is the number 0, so `Bad` says as much of
 -- what a node comes to as that number would.
-abbrev pub ProjectPre : List ℕ → ℕ → ℕ → Form → Type 0
-ProjectPre s i D (Number z) = (nodesOf s i ≡ nnum z) × (mag z < 2 ^ 33)
-ProjectPre s i D (Truth b) = nodesOf s i ≡ ntruth b
-ProjectPre s i D (Row g) = g ≤ limit
-ProjectPre s i D (Cell k g) = (k < 2 ^ 33) × (g ≤ limit)
-ProjectPre s i D Record = nodesOf s i ≡ nrec (childrenOf s i)
-ProjectPre s i D (Two o a b) = nodesOf s i ≡ nbin (binOf o) a b
-ProjectPre s i D (Not c) = nodesOf s i ≡ nnegate c
-ProjectPre s i D (Comp m h) = (nodesOf s i ≡ ncomp (monoidOf m) (qualifiersOf s i) h) × (D < levels)
-ProjectPre s i D (Table k) = (nodesOf s i ≡ ntable k) × (k < 2 ^ 33)
-ProjectPre s i D Bad = Unit {0}
+abbrev pub FormAt : List ℕ → ℕ → ℕ → Form → Type 0
+FormAt s i D (Number z) = (nodesOf s i ≡ nnum z) × (mag z < 2 ^ 33)
+FormAt s i D (Truth b) = nodesOf s i ≡ ntruth b
+FormAt s i D (Row g) = g ≤ limit
+FormAt s i D (Cell k g) = (k < 2 ^ 33) × (g ≤ limit)
+FormAt s i D Record = nodesOf s i ≡ nrec (childrenOf s i)
+FormAt s i D (Two o a b) = nodesOf s i ≡ nbin (binOf o) a b
+FormAt s i D (Not c) = nodesOf s i ≡ nnegate c
+FormAt s i D (Comp m h) = (nodesOf s i ≡ ncomp (monoidOf m) (qualifiersOf s i) h) × (D < levels)
+FormAt s i D (Table k) = (nodesOf s i ≡ ntable k) × (k < 2 ^ 33)
+FormAt s i D Bad = Unit {0}
 
-pub record SplicePre (s : List ℕ) (r : Place) : Type 0 where
-  pub form : ProjectPre s (r .node) (r .depth) (r .form)
+pub record Fine (s : List ℕ) (r : Place) : Type 0 where
+  pub form : FormAt s (r .node) (r .depth) (r .form)
   pub long : length (r .env) ≡ levels
 
 -- A place that came of node j: it stands there or before, and at its node's depth where the depths of the table agree.
 pub record From (s : List ℕ) (j D : ℕ) (r : Place) : Type 0 where
   pub below : r .node ≤ j
   pub level : (n : ℕ) → Levelled (nodesOf s) (depthAt s) n → j < n → depthAt s j ≡ D → depthAt s (r .node) ≡ r .depth
-  pub fine : SplicePre s r
+  pub fine : Fine s r
 
 -- The place that node i comes to has what the node comes to.
 pub record Heads (s : List ℕ) (i D : ℕ) (l : List ℕ) (r : Place) : Type 0 where

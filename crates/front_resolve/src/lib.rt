@@ -7,7 +7,7 @@ ghost use Rattle.spec_normal_form.specs.Normal.{idempotent};
 ghost use Rattle.front_theory.specs.NodeForms.{levels};
 ghost use Rattle.front_theory.specs.CappedOffsets.{limit};
 ghost use Rattle.base_syntax.specs.MonoidWord.{monoidOf};
-ghost use Rattle.front_resolve.specs.Place.{under, odd, bit, offsets, SplicePre, ProjectPre, Heads, FollowPost, SplicePost, Stepped, ProjectPost, formFor};
+ghost use Rattle.front_resolve.specs.Place.{under, odd, bit, offsets, Fine, FormAt, Heads, FollowPost, SplicePost, Stepped, ProjectPost, formFor};
 use base_syntax::Monoid;
 use base_syntax::Op;
 use front_nodes::Binder;
@@ -191,7 +191,7 @@ fn follow(s: &[u64], x: usize, d: usize, env: &mut [u16; 32]) -> Next
 
 // What a generator over h ranges through, from number n on.
 fn splice(s: &[u64], h: Head, v: bool, n: u64, env: &mut [u16; 32]) -> Next
-    requires { ⌜ SplicePre (now s) (under (now env) h) × (n ≤ limit) ⌝ }
+    requires { ⌜ Fine (now s) (under (now env) h) × (n ≤ limit) ⌝ }
     ensures { λ r. ⌜ Stepped (now (s .entry)) (h .node) (now (env .exit)) (SplicePost (now (s .entry)) (under (now (env .entry)) h) v n) r ⌝ }
 {
     let f = h.form;
@@ -215,7 +215,7 @@ fn splice(s: &[u64], h: Head, v: bool, n: u64, env: &mut [u16; 32]) -> Next
 
 // Field k of h, in whatever environment h stands.
 fn project(s: &[u64], k: usize, h: Head) -> Next
-    requires { ⌜ ProjectPre (now s) (h .node) (h .depth) (h .form) × (k < 2 ^ 33) ⌝ }
+    requires { ⌜ FormAt (now s) (h .node) (h .depth) (h .form) × (k < 2 ^ 33) ⌝ }
     ensures { λ r. ⌜ ProjectPost (now (s .entry)) k h r ⌝ }
 {
     let f = h.form;

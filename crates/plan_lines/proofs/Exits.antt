@@ -21,7 +21,7 @@ use Rattle.form_words.specs.declared.Clause.the-variants as Cl
 use Rattle.form_words.specs.NodeWord.{next}
 use Rattle.form_words.specs.FormTree.{left}
 use Rattle.base_scratch.specs.Map.{places}
-use Rattle.form_words.specs.Look.{Looks, LookClausePost}
+use Rattle.form_words.specs.Look.{Looks, LooksC}
 use Rattle.form_words.proofs.NodeWords.{next-past}
 use Rattle.spec_plan.specs.Plan.{PTerm, ptruth, Source, table, unit, nest}
 use Rattle.spec_plan.specs.Plan as Pl
@@ -68,7 +68,7 @@ module _ {s : List ℕ} {i : ℕ} {n : FormNode} (H : Looks s i n) where
   unfolding opsIn
   ops-lays h = text-by (λ f l. lays-as (ap (λ (x : FormNode). showOps (opsBy (λ j. opsIn f s j) (λ j e. opsInF f s j e) (λ m. ownIn f Pl.outer s i ++ (innerIn f s (i + 1) ++ (nest (pred (markAt s i)) (monoidOf m) (headIn f s (i + 1)) (conj (condsIn f s 0 (i + 1))) ∷ []))) i x)) (H .is)) (h f l))
 
-module _ {s : List ℕ} {i : ℕ} {d : Clause} (H : LookClausePost s i d) where
+module _ {s : List ℕ} {i : ℕ} {d : Clause} (H : LooksC s i d) where
   head-lays : {lim p r : ℕ} {o o′ : List ℕ} → ((f : ℕ) → left i + 1 < suc f → Lays lim (showTerm (headBy (λ j. termIn f s j) (λ j. headIn f s j) i d)) o p o′ r) → Text (left i + 1) (λ f. showTerm (headIn f s i)) lim o p o′ r
   unfolding headIn
   head-lays h = text-by (λ f l. lays-as (ap (λ (x : Clause). showTerm (headBy (λ j. termIn f s j) (λ j. headIn f s j) i x)) (H .is)) (h f l))
@@ -122,57 +122,57 @@ terms-more s i e {j} l top A B J C = text-by (λ f h. lays-as (ap (λ (x : Bool)
     (lays-two A (lays-two (B .is f (omega arith)) (lays-as (ap (λ (x : ℕ). showTerms (termsIn f s x e)) J) (C .is f (omega (arith, J, next-past s i (omega arith))))))))
 
 -- ---- head
-pub head-generator : {s : List ℕ} {i g k lim p r : ℕ} {o o′ : List ℕ} → LookClausePost s i (Cl.Generator g k) → Text (left (i + 1) + 1) (λ f. showTerm (headIn f s (i + 1))) lim o p o′ r → Text (left i + 1) (λ f. showTerm (headIn f s i)) lim o p o′ r
+pub head-generator : {s : List ℕ} {i g k lim p r : ℕ} {o o′ : List ℕ} → LooksC s i (Cl.Generator g k) → Text (left (i + 1) + 1) (λ f. showTerm (headIn f s (i + 1))) lim o p o′ r → Text (left i + 1) (λ f. showTerm (headIn f s i)) lim o p o′ r
 head-generator H T = head-lays H (λ f l. T .is f (omega (arith, H .inside .0)))
 
-pub head-condition : {s : List ℕ} {i j lim p r : ℕ} {o o′ : List ℕ} → LookClausePost s i (Cl.Condition j) → Text (left j + 1) (λ f. showTerm (headIn f s j)) lim o p o′ r → Text (left i + 1) (λ f. showTerm (headIn f s i)) lim o p o′ r
+pub head-condition : {s : List ℕ} {i j lim p r : ℕ} {o o′ : List ℕ} → LooksC s i (Cl.Condition j) → Text (left j + 1) (λ f. showTerm (headIn f s j)) lim o p o′ r → Text (left i + 1) (λ f. showTerm (headIn f s i)) lim o p o′ r
 head-condition H T = head-lays H (λ f l. T .is f (omega (arith, H .inside .0, H .inside .1)))
 
-pub head-head : {s : List ℕ} {i lim p r : ℕ} {o o′ : List ℕ} → LookClausePost s i Cl.Head → Text (left i) (λ f. showTerm (termIn f s i)) lim o p o′ r → Text (left i + 1) (λ f. showTerm (headIn f s i)) lim o p o′ r
+pub head-head : {s : List ℕ} {i lim p r : ℕ} {o o′ : List ℕ} → LooksC s i Cl.Head → Text (left i) (λ f. showTerm (termIn f s i)) lim o p o′ r → Text (left i + 1) (λ f. showTerm (headIn f s i)) lim o p o′ r
 head-head H T = head-lays H (λ f l. T .is f (omega arith))
 
 -- ---- conditions: F is what is written of them
 module _ (F : List PTerm → List ℕ) (m : ℕ) where
-  pub conds-generator : {s : List ℕ} {i g k lim p r : ℕ} {o o′ : List ℕ} → LookClausePost s i (Cl.Generator g k) → Text (left (i + 1) + 1) (λ f. F (condsIn f s m (i + 1))) lim o p o′ r → Text (left i + 1) (λ f. F (condsIn f s m i)) lim o p o′ r
+  pub conds-generator : {s : List ℕ} {i g k lim p r : ℕ} {o o′ : List ℕ} → LooksC s i (Cl.Generator g k) → Text (left (i + 1) + 1) (λ f. F (condsIn f s m (i + 1))) lim o p o′ r → Text (left i + 1) (λ f. F (condsIn f s m i)) lim o p o′ r
   conds-generator H T = conds-lays H F m (λ f l. T .is f (omega (arith, H .inside .0)))
 
-  pub conds-skip : {s : List ℕ} {i j a lim p r : ℕ} {o o′ : List ℕ} → LookClausePost s i (Cl.Condition j) → a ≡ markAt s i → (a ≡ m → ⊥) → Text (left j + 1) (λ f. F (condsIn f s m j)) lim o p o′ r → Text (left i + 1) (λ f. F (condsIn f s m i)) lim o p o′ r
+  pub conds-skip : {s : List ℕ} {i j a lim p r : ℕ} {o o′ : List ℕ} → LooksC s i (Cl.Condition j) → a ≡ markAt s i → (a ≡ m → ⊥) → Text (left j + 1) (λ f. F (condsIn f s m j)) lim o p o′ r → Text (left i + 1) (λ f. F (condsIn f s m i)) lim o p o′ r
   unfolding pick
   conds-skip {s} {i} {j} H e n T = conds-lays H F m (λ f l. lays-as
       (ap (λ (t : Bool). F (pick t (termIn f s (i + 1) ∷ condsIn f s m j) (condsIn f s m j))) (sym (ne-eqb (markAt s i) m (λ x. n (e ∙ x)))))
       (T .is f (omega (arith, H .inside .0, H .inside .1))))
 
-  conds-take : {s : List ℕ} {i j a lim p r : ℕ} {o o′ : List ℕ} (H : LookClausePost s i (Cl.Condition j)) → a ≡ markAt s i → a ≡ m → ((f : ℕ) → left i + 1 < suc f → Lays lim (F (termIn f s (i + 1) ∷ condsIn f s m j)) o p o′ r) → Text (left i + 1) (λ f. F (condsIn f s m i)) lim o p o′ r
+  conds-take : {s : List ℕ} {i j a lim p r : ℕ} {o o′ : List ℕ} (H : LooksC s i (Cl.Condition j)) → a ≡ markAt s i → a ≡ m → ((f : ℕ) → left i + 1 < suc f → Lays lim (F (termIn f s (i + 1) ∷ condsIn f s m j)) o p o′ r) → Text (left i + 1) (λ f. F (condsIn f s m i)) lim o p o′ r
   unfolding pick
   conds-take {s} {i} {j} H e y T = conds-lays H F m (λ f l. lays-as (ap (λ (t : Bool). F (pick t (termIn f s (i + 1) ∷ condsIn f s m j) (condsIn f s m j))) (sym (eq-eqb (markAt s i) m (sym e ∙ y)))) (T f l))
 
-  conds-none : {s : List ℕ} {i lim p r : ℕ} {o o′ : List ℕ} → LookClausePost s i Cl.Head → Lays lim (F []) o p o′ r → Text (left i + 1) (λ f. F (condsIn f s m i)) lim o p o′ r
+  conds-none : {s : List ℕ} {i lim p r : ℕ} {o o′ : List ℕ} → LooksC s i Cl.Head → Lays lim (F []) o p o′ r → Text (left i + 1) (λ f. F (condsIn f s m i)) lim o p o′ r
   conds-none H X = conds-lays H F m (λ f l. X)
 
-pub openings-later : {m i j a lim p q r : ℕ} {b : Bool} {s o o₁ o₂ : List ℕ} → LookClausePost s i (Cl.Condition j) → a ≡ markAt s i → a ≡ m → b ≡ true → Lays lim (ascii "(and ") o p o₁ q → Text (left j + 1) (λ f. opens true (condsIn f s m j)) lim o₁ q o₂ r → Text (left i + 1) (λ f. opens b (condsIn f s m i)) lim o p o₂ r
+pub openings-later : {m i j a lim p q r : ℕ} {b : Bool} {s o o₁ o₂ : List ℕ} → LooksC s i (Cl.Condition j) → a ≡ markAt s i → a ≡ m → b ≡ true → Lays lim (ascii "(and ") o p o₁ q → Text (left j + 1) (λ f. opens true (condsIn f s m j)) lim o₁ q o₂ r → Text (left i + 1) (λ f. opens b (condsIn f s m i)) lim o p o₂ r
 unfolding opens
 openings-later {m} {i} {j} {a} {lim} {p} {q} {r} {b} {s} {o} {o₁} {o₂} H e y t A B = subst (λ (c : Bool). Text (left i + 1) (λ f. opens c (condsIn f s m i)) lim o p o₂ r) (sym t)
     (conds-take (opens true) m H e y (λ f l. lays-two A (B .is f (omega (arith, H .inside .0, H .inside .1)))))
 
-pub openings-first : {m i j a lim p r : ℕ} {b : Bool} {s o o′ : List ℕ} → LookClausePost s i (Cl.Condition j) → a ≡ markAt s i → a ≡ m → b ≡ false → Text (left j + 1) (λ f. opens true (condsIn f s m j)) lim o p o′ r → Text (left i + 1) (λ f. opens b (condsIn f s m i)) lim o p o′ r
+pub openings-first : {m i j a lim p r : ℕ} {b : Bool} {s o o′ : List ℕ} → LooksC s i (Cl.Condition j) → a ≡ markAt s i → a ≡ m → b ≡ false → Text (left j + 1) (λ f. opens true (condsIn f s m j)) lim o p o′ r → Text (left i + 1) (λ f. opens b (condsIn f s m i)) lim o p o′ r
 unfolding opens
 openings-first {m} {i} {j} {a} {lim} {p} {r} {b} {s} {o} {o′} H e y t B = subst (λ (c : Bool). Text (left i + 1) (λ f. opens c (condsIn f s m i)) lim o p o′ r) (sym t)
     (conds-take (opens false) m H e y (λ f l. B .is f (omega (arith, H .inside .0, H .inside .1))))
 
-pub openings-head : (m : ℕ) {i lim p : ℕ} (b : Bool) {s o : List ℕ} → LookClausePost s i Cl.Head → Text (left i + 1) (λ f. opens b (condsIn f s m i)) lim o p o p
+pub openings-head : (m : ℕ) {i lim p : ℕ} (b : Bool) {s o : List ℕ} → LooksC s i Cl.Head → Text (left i + 1) (λ f. opens b (condsIn f s m i)) lim o p o p
 unfolding opens
 openings-head m {i} {lim} {p} b {s} {o} H = conds-none (opens b) m H (lays-nil lim p o)
 
-pub closings-condition : (b : Bool) {m i j a lim p q r : ℕ} {s o o₁ o₂ : List ℕ} → LookClausePost s i (Cl.Condition j) → a ≡ markAt s i → a ≡ m → Text (left (i + 1)) (λ f. conditionText b (termIn f s (i + 1))) lim o p o₁ q →
+pub closings-condition : (b : Bool) {m i j a lim p q r : ℕ} {s o o₁ o₂ : List ℕ} → LooksC s i (Cl.Condition j) → a ≡ markAt s i → a ≡ m → Text (left (i + 1)) (λ f. conditionText b (termIn f s (i + 1))) lim o p o₁ q →
     Text (left j + 1) (λ f. closes true (condsIn f s m j)) lim o₁ q o₂ r → Text (left i + 1) (λ f. closes b (condsIn f s m i)) lim o p o₂ r
 unfolding closes
 closings-condition b {m} {i} {j} {a} {lim} {p} {q} {r} H e y A B = conds-take (closes b) m H e y (λ f l. lays-two (A .is f (omega (arith, H .inside .0, H .inside .1))) (B .is f (omega (arith, H .inside .0, H .inside .1))))
 
-pub closings-later : (m : ℕ) {i lim p : ℕ} {b : Bool} {s o : List ℕ} → LookClausePost s i Cl.Head → b ≡ true → Text (left i + 1) (λ f. closes b (condsIn f s m i)) lim o p o p
+pub closings-later : (m : ℕ) {i lim p : ℕ} {b : Bool} {s o : List ℕ} → LooksC s i Cl.Head → b ≡ true → Text (left i + 1) (λ f. closes b (condsIn f s m i)) lim o p o p
 unfolding closes
 closings-later m {i} {lim} {p} {b} {s} {o} H t = subst (λ (c : Bool). Text (left i + 1) (λ f. closes c (condsIn f s m i)) lim o p o p) (sym t) (conds-none (closes true) m H (lays-nil lim p o))
 
-pub closings-none : (m : ℕ) {i lim p r : ℕ} {b : Bool} {s o o′ : List ℕ} → LookClausePost s i Cl.Head → b ≡ false → Lays lim (ascii "true") o p o′ r → Text (left i + 1) (λ f. closes b (condsIn f s m i)) lim o p o′ r
+pub closings-none : (m : ℕ) {i lim p r : ℕ} {b : Bool} {s o o′ : List ℕ} → LooksC s i Cl.Head → b ≡ false → Lays lim (ascii "true") o p o′ r → Text (left i + 1) (λ f. closes b (condsIn f s m i)) lim o p o′ r
 unfolding closes
 closings-none m {i} {lim} {p} {r} {b} {s} {o} {o′} H t X = subst (λ (c : Bool). Text (left i + 1) (λ f. closes c (condsIn f s m i)) lim o p o′ r) (sym t) (conds-none (closes false) m H X)
 
@@ -208,34 +208,34 @@ unfolding showSource
 unit-is s c m b {lim} {p} {q} {r} {t} A B C = record { is = λ f l. lays-as (grower-line b unit (conj (condsIn f s m c))) (lays-two A (lays-two B (C .is f l))) }
 
 -- ---- generators
-grows-by : {s : List ℕ} {i : ℕ} {d : Clause} {r : Bool} → LookClausePost s i d → ((f : ℕ) → left i + 1 < suc f → (O : Source → ℕ → Pl.Op) (u : Pl.Op) →
+grows-by : {s : List ℕ} {i : ℕ} {d : Clause} {r : Bool} → LooksC s i d → ((f : ℕ) → left i + 1 < suc f → (O : Source → ℕ → Pl.Op) (u : Pl.Op) →
     orElse u (growsBy O (λ j. growsIn f O s j) i (markAt s i) d) ≡ pick r (growsBy O (λ j. growsIn f O s j) i (markAt s i) d) (u ∷ [])) → GrowsPost s i r
 grows-by {s} {i} {d} {r} H h = record { is = elim [ zero ↦ λ l. absurd (omega arith) | suc f ↦ λ l O u. subst (λ (x : List Pl.Op). orElse u x ≡ pick r x (u ∷ [])) (sym (grows-is H f O)) (h f l O u) ] }
 
-pub grows-generator : {s : List ℕ} {i g k : ℕ} → LookClausePost s i (Cl.Generator g k) → GrowsPost s i true
+pub grows-generator : {s : List ℕ} {i g k : ℕ} → LooksC s i (Cl.Generator g k) → GrowsPost s i true
 unfolding orElse pick
 grows-generator H = grows-by H (λ f l O u. refl)
 
-pub grows-condition : {s : List ℕ} {i j : ℕ} {r : Bool} → LookClausePost s i (Cl.Condition j) → GrowsPost s j r → GrowsPost s i r
+pub grows-condition : {s : List ℕ} {i j : ℕ} {r : Bool} → LooksC s i (Cl.Condition j) → GrowsPost s j r → GrowsPost s i r
 grows-condition H G = grows-by H (λ f l O u. G .is f (omega (arith, H .inside .0, H .inside .1)) O u)
 
-pub grows-head : {s : List ℕ} {i : ℕ} → LookClausePost s i Cl.Head → GrowsPost s i false
+pub grows-head : {s : List ℕ} {i : ℕ} → LooksC s i Cl.Head → GrowsPost s i false
 unfolding orElse pick
 grows-head H = grows-by H (λ f l O u. refl)
 
-growers-by : {s : List ℕ} {c i lim p r : ℕ} {b : Bool} {d : Clause} {o o′ : List ℕ} → LookClausePost s i d → ((f : ℕ) → left i + 1 < suc f → (h : ℕ) → left c + 1 < h →
+growers-by : {s : List ℕ} {c i lim p r : ℕ} {b : Bool} {d : Clause} {o o′ : List ℕ} → LooksC s i d → ((f : ℕ) → left i + 1 < suc f → (h : ℕ) → left c + 1 < h →
     Lays lim (showOps (growsBy (opIn h (grower b) s c) (λ j. growsIn f (opIn h (grower b) s c) s j) i (markAt s i) d)) o p o′ r) → GrowersPost s c i b lim o p o′ r
 growers-by {s} {c} {i} {lim} {p} {r} {b} H q = record { is = elim [ zero ↦ λ l. absurd (omega arith) | suc f ↦ λ l h m. lays-as (ap showOps (sym (grows-is H f (opIn h (grower b) s c)))) (q f l h m) ] }
 
-pub growers-generator : {s : List ℕ} {c i g k a lim p q r : ℕ} {b : Bool} {o o₁ o₂ : List ℕ} → LookClausePost s i (Cl.Generator g k) → a ≡ markAt s i → Text (left c + 1) (λ f. showOp (opIn f (grower b) s c (table k) a)) lim o p o₁ q → GrowersPost s c (i + 1) b lim o₁ q o₂ r →
+pub growers-generator : {s : List ℕ} {c i g k a lim p q r : ℕ} {b : Bool} {o o₁ o₂ : List ℕ} → LooksC s i (Cl.Generator g k) → a ≡ markAt s i → Text (left c + 1) (λ f. showOp (opIn f (grower b) s c (table k) a)) lim o p o₁ q → GrowersPost s c (i + 1) b lim o₁ q o₂ r →
     GrowersPost s c i b lim o p o₂ r
 unfolding showOps
 growers-generator {s} {c} {i} {g} {k} {a} {lim} {p} {q} {r} {b} H e A B = growers-by H (λ f l h m. lays-two (lays-as (ap (λ (x : ℕ). showOp (opIn h (grower b) s c (table k) x)) e) (A .is h m)) (B .is f (omega (arith, H .inside .0)) h m))
 
-pub growers-condition : {s : List ℕ} {c i j lim p r : ℕ} {b : Bool} {o o′ : List ℕ} → LookClausePost s i (Cl.Condition j) → GrowersPost s c j b lim o p o′ r → GrowersPost s c i b lim o p o′ r
+pub growers-condition : {s : List ℕ} {c i j lim p r : ℕ} {b : Bool} {o o′ : List ℕ} → LooksC s i (Cl.Condition j) → GrowersPost s c j b lim o p o′ r → GrowersPost s c i b lim o p o′ r
 growers-condition H B = growers-by H (λ f l h m. B .is f (omega (arith, H .inside .0, H .inside .1)) h m)
 
-pub growers-head : {s : List ℕ} {c i lim p : ℕ} {b : Bool} {o : List ℕ} → LookClausePost s i Cl.Head → GrowersPost s c i b lim o p o p
+pub growers-head : {s : List ℕ} {c i lim p : ℕ} {b : Bool} {o : List ℕ} → LooksC s i Cl.Head → GrowersPost s c i b lim o p o p
 unfolding showOps
 growers-head {s} {c} {i} {lim} {p} {b} {o} H = growers-by H (λ f l h m. lays-nil lim p o)
 
@@ -312,13 +312,13 @@ upto-more s i e {j} l top A J B = text-by (λ f h. lays-as
     (ap (λ (x : ℕ). showOps (opsIn f s i) ++ showOps (opsInF f s x e)) J ∙ sym (show-append (opsIn f s i) (opsInF f s (next s i) e)) ∙ ap (λ (t : Bool). showOps (pick t [] (opsIn f s i ++ opsInF f s (next s i) e))) (sym (lt-leb e i l)))
     (lays-two (A .is f (omega arith)) (B .is f (omega (arith, J, next-past s i (omega arith))))))
 
-pub inside-generator : {s : List ℕ} {i g k lim p r : ℕ} {o o′ : List ℕ} → LookClausePost s i (Cl.Generator g k) → Text (left (i + 1) + 1) (λ f. showOps (innerIn f s (i + 1))) lim o p o′ r → Text (left i + 1) (λ f. showOps (innerIn f s i)) lim o p o′ r
+pub inside-generator : {s : List ℕ} {i g k lim p r : ℕ} {o o′ : List ℕ} → LooksC s i (Cl.Generator g k) → Text (left (i + 1) + 1) (λ f. showOps (innerIn f s (i + 1))) lim o p o′ r → Text (left i + 1) (λ f. showOps (innerIn f s i)) lim o p o′ r
 inside-generator H A = inner-lays H (λ f l. A .is f (omega (arith, H .inside .0)))
 
-pub inside-condition : {s : List ℕ} {i j lim p q r : ℕ} {o o₁ o₂ : List ℕ} → LookClausePost s i (Cl.Condition j) → Text (left (i + 1)) (λ f. showOps (opsIn f s (i + 1))) lim o p o₁ q → Text (left j + 1) (λ f. showOps (innerIn f s j)) lim o₁ q o₂ r → Text (left i + 1) (λ f. showOps (innerIn f s i)) lim o p o₂ r
+pub inside-condition : {s : List ℕ} {i j lim p q r : ℕ} {o o₁ o₂ : List ℕ} → LooksC s i (Cl.Condition j) → Text (left (i + 1)) (λ f. showOps (opsIn f s (i + 1))) lim o p o₁ q → Text (left j + 1) (λ f. showOps (innerIn f s j)) lim o₁ q o₂ r → Text (left i + 1) (λ f. showOps (innerIn f s i)) lim o p o₂ r
 inside-condition {s} {i} {j} H A B = inner-lays H (λ f l. lays-as (sym (show-append (opsIn f s (i + 1)) (innerIn f s j))) (lays-two (A .is f (omega (arith, H .inside .0, H .inside .1))) (B .is f (omega (arith, H .inside .0, H .inside .1)))))
 
-pub inside-head : {s : List ℕ} {i lim p r : ℕ} {o o′ : List ℕ} → LookClausePost s i Cl.Head → Text (left i) (λ f. showOps (opsIn f s i)) lim o p o′ r → Text (left i + 1) (λ f. showOps (innerIn f s i)) lim o p o′ r
+pub inside-head : {s : List ℕ} {i lim p r : ℕ} {o o′ : List ℕ} → LooksC s i Cl.Head → Text (left i) (λ f. showOps (opsIn f s i)) lim o p o′ r → Text (left i + 1) (λ f. showOps (innerIn f s i)) lim o p o′ r
 inside-head H A = inner-lays H (λ f l. A .is f (omega arith))
 
 -- ---- the whole

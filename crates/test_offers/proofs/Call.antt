@@ -8,7 +8,7 @@ use Rattle.spec_encoding.specs.Record.{Bytes}
 use Rattle.spec_outcome.specs.Acceptance.{Accepted}
 use Rattle.spec_outcome.specs.Outcome.{scratchWords, settled}
 use Rattle.spec_outcome.specs.Gives.{Gives, Settles}
-use Rattle.engine.specs.Replies.{AdmitPost, FinishPost}
+use Rattle.engine.specs.Replies.{AdmitPost, Replies}
 use Rattle.engine.specs.declared.Admitted.{Admitted}
 use Rattle.engine.specs.declared.Admitted.the-variants as Admitted
 use Rattle.engine.specs.declared.Reply.{Reply}
@@ -25,13 +25,13 @@ module _ {d l : Bytes} {s t : List ℕ} {x : Admitted} (B : AdmitPost d l s t x)
   unfolding offered
   offered-scant e = scant-by B counted [] e
 
-  pub offered-refused : {k : ℕ} → x ≡ Admitted.Refused k → {u : List ℕ} {r : Reply} → FinishPost t u k 0 r → Gives (offered d l s) (r .number) (r .length) [] u
+  pub offered-refused : {k : ℕ} → x ≡ Admitted.Refused k → {u : List ℕ} {r : Reply} → Replies t u k 0 r → Gives (offered d l s) (r .number) (r .length) [] u
   unfolding offered
   offered-refused e R = refused-by B counted [] e R
 
   pub room-told : x ≡ Admitted.Accepted → {u : List ℕ} {n : ℕ} → RowsOfPost d t u n → scratchWords ≤ length u
   room-told e A = omega (arith, room-accepted B e, A .long)
 
-  pub offered-given : x ≡ Admitted.Accepted → {u v : List ℕ} {n : ℕ} {r : Reply} → RowsOfPost d t u n → FinishPost u v 0 n r → Gives (offered d l s) (r .number) (r .length) [] v
+  pub offered-given : x ≡ Admitted.Accepted → {u v : List ℕ} {n : ℕ} {r : Reply} → RowsOfPost d t u n → Replies u v 0 n r → Gives (offered d l s) (r .number) (r .length) [] v
   unfolding offered
   offered-given e A R = settled-by B counted [] e (record { long = A .long; above = λ j h. A .above j (omega arith) }) (λ Y. settles-counted (Y .accepted) (A .is (Y .accepted) (Y .prepared))) R
