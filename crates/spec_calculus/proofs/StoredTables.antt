@@ -3,8 +3,8 @@ use mathlib.Core.Path.{_≡_, refl, ap, ap₂, _∙_, fun-ext}
 use mathlib.Core.List.{List, [], _∷_}
 use Prim.Native.Nat.{ℕ}
 use Rattle.spec_calculus.specs.Lists.{bindL, guard, upd}
-use Rattle.spec_calculus.specs.Syntax.{of, Term, Terms, Quals, num, truth, name, field, rec, bin, negate, comp, table, tnil, tcons, qnil, gen, bind, cond}
-use Rattle.spec_calculus.specs.Value.{Value, vcons, asBool, elems, fieldOf, binV, notV, Tables, kindOf, rowsOf}
+use Rattle.spec_calculus.specs.Syntax.{of, Term, Terms, Quals, num, truth, name, field, rec, bin, negate, app, comp, table, tnil, tcons, qnil, gen, bind, cond}
+use Rattle.spec_calculus.specs.Value.{Value, vcons, asBool, elems, fieldOf, binV, notV, appV, Tables, kindOf, rowsOf}
 use Rattle.spec_calculus.specs.Value as Va
 use Rattle.spec_calculus.specs.Monoid.{canonical}
 use Rattle.spec_calculus.specs.Meaning.{Env, eval, evals, runs}
@@ -20,6 +20,7 @@ module _ (T U : Tables) (tables : (k : ℕ) → canonical (of (kindOf T k)) (row
     eval-same (name x) ρ = refl
     eval-same (field i t) ρ = ap (fieldOf i) (eval-same t ρ)
     eval-same (rec ts) ρ = ap Va.rec (evals-same ts ρ)
+    eval-same (app f ts) ρ = ap (appV f) (evals-same ts ρ)
     eval-same (bin o s t) ρ = ap₂ (binV o) (eval-same s ρ) (eval-same t ρ)
     eval-same (negate t) ρ = ap notV (eval-same t ρ)
     eval-same (comp m qs h) ρ = ap (canonical m) (runs-same qs (λ σ. eval canonical T h σ ∷ []) (λ σ. eval canonical U h σ ∷ []) (λ σ. ap (λ v. v ∷ []) (eval-same h σ)) ρ)

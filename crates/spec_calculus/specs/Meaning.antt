@@ -3,8 +3,8 @@
 use mathlib.Core.List.{List, [], _∷_}
 use Prim.Native.Nat.{ℕ}
 use Rattle.spec_calculus.specs.Lists.{bindL, guard, upd}
-use Rattle.spec_calculus.specs.Syntax.{Term, Terms, Quals, num, truth, name, field, rec, bin, negate, comp, table, tnil, tcons, qnil, gen, bind, cond, of, Question, asTerm}
-use Rattle.spec_calculus.specs.Value.{Value, Values, vnil, vcons, junk, asBool, elems, fieldOf, binV, notV, Tables, kindOf, rowsOf}
+use Rattle.spec_calculus.specs.Syntax.{Term, Terms, Quals, num, truth, name, field, rec, bin, negate, app, comp, table, tnil, tcons, qnil, gen, bind, cond, of, Question, asTerm}
+use Rattle.spec_calculus.specs.Value.{Value, Values, vnil, vcons, junk, asBool, elems, fieldOf, binV, notV, appV, Tables, kindOf, rowsOf}
 use Rattle.spec_calculus.specs.Value as Va
 use Rattle.spec_calculus.specs.Monoid.{Fold}
 
@@ -19,6 +19,7 @@ unfoldable mutual
   eval F T (name x) ρ = ρ x
   eval F T (field i t) ρ = fieldOf i (eval F T t ρ)
   eval F T (rec ts) ρ = Va.rec (evals F T ts ρ)
+  eval F T (app f ts) ρ = appV f (evals F T ts ρ)
   eval F T (bin o s t) ρ = binV o (eval F T s ρ) (eval F T t ρ)
   eval F T (negate t) ρ = notV (eval F T t ρ)
   eval F T (comp m qs h) ρ = F m (runs F T qs (λ σ. eval F T h σ ∷ []) ρ)

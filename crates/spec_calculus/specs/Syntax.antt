@@ -1,4 +1,4 @@
--- What is asked: the terms, monoids and qualifiers that document 01's records of kinds 1 to 18 stand for.
+-- What is asked: the terms, monoids and qualifiers that document 01's records of kinds 1 to 18, and document 02's of kind 19, stand for.
 use Prim.Native.Nat.{ℕ}
 use mathlib.Core.Bool.{Bool}
 use lib.IntN.{ℤ}
@@ -16,6 +16,13 @@ pub data Monoid : Type 0 where
 pub data Bin : Type 0 where
   plus minus times equal less and or : Bin
 
+-- the operators that document 02 adds, and how many terms each has: "Add kind 19, three terms" (E2)
+pub data Fun : Type 0 where
+  choice : Fun
+
+unfoldable pub arity : Fun → ℕ
+arity choice = 3
+
 -- terms, and "kind 14 is one byte of monoid, any count of qualifiers, then one head term"
 mutual
   pub data Term : Type 0 where
@@ -26,6 +33,7 @@ mutual
     rec : Terms → Term
     bin : Bin → Term → Term → Term
     negate : Term → Term  -- "13 not"
+    app : Fun → Terms → Term  -- document 02's operators
     comp : Monoid → Quals → Term → Term
     table : ℕ → Term
 

@@ -6,7 +6,8 @@ use lib.Dec.{eqb}
 use lib.IntN.{ℤ, pos, negsuc, _+ℤ_, _-ℤ_, _*ℤ_}
 use lib.Signed.{ltZ}
 use lib.ListN.{getD}
-use Rattle.spec_calculus.specs.Syntax.{Collection, list, Bin, plus, minus, times, equal, less, and, or}
+use Rattle.spec_calculus.specs.Lists.{pick}
+use Rattle.spec_calculus.specs.Syntax.{Collection, list, Bin, plus, minus, times, equal, less, and, or, Fun, choice}
 
 -- "Meaning is over unbounded whole numbers."
 mutual
@@ -83,6 +84,21 @@ binV or v w = truth (asBool v || asBool w)
 
 unfoldable pub notV : Value → Value
 notV v = truth (mathlib.Core.Bool.not (asBool v))
+
+-- A number or a truth is itself; what refusal 25 rules out reads as 0.
+unfoldable pub scalar : Value → Value
+scalar (num z) = num z
+scalar (truth b) = truth b
+scalar (rec vs) = junk
+scalar (coll vs) = junk
+
+-- "a truth, then two numbers or two truths, meaning the first of the two where the truth is true and else the second" (document 02, E2)
+unfoldable pub choiceV : Value → Value → Value → Value
+choiceV c v w = scalar (pick (asBool c) v w)
+
+-- document 02's operators, over the values of their terms
+unfoldable pub appV : Fun → Values → Value
+appV choice vs = choiceV (nth 0 vs) (nth 1 vs) (nth 2 vs)
 
 -- "A table is .. one byte of collection .., one byte of columns .., rows .., then the cells row by row": each row a record
 pub record Table : Type 0 where

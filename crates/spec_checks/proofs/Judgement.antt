@@ -6,10 +6,10 @@ use native.Mathlib.Omega.{arith}
 use lib.Dec.{ltb}
 use lib.ListN.{length}
 use Rattle.spec_calculus.specs.Lists.{pick, upd}
-use Rattle.spec_calculus.specs.Syntax.{Collection, Monoid, of, sum, max, min, some, all, Bin, plus, minus, times, equal, less, and, or, Term, Terms, Quals, num, name, field, rec, bin, negate, comp, table, tnil, tcons, qnil, gen, bind, cond, Question, asTerm}
+use Rattle.spec_calculus.specs.Syntax.{Collection, Monoid, of, sum, max, min, some, all, Bin, plus, minus, times, equal, less, and, or, Fun, choice, Term, Terms, Quals, num, name, field, rec, bin, negate, app, comp, table, tnil, tcons, qnil, gen, bind, cond, Question, asTerm}
 use Rattle.spec_calculus.specs.Syntax as Sy
 use Rattle.spec_calculus.specs.Value.{Tables, kindOf, columnsOf}
-use Rattle.spec_checks.specs.Types.{Ty, Tys, number, truth, record′, coll, ynil, ycons, Typed, wrong, has, Typeds, wrongs, hass, cells, typeAt, fieldType, ofNumber, ofTruth, binType, gathers, compType, ranges, typedAs, record″, consType, Context, typeOf, typesOf, typeOfQ, mayStand, isTyped, generatorsFit}
+use Rattle.spec_checks.specs.Types.{Ty, Tys, number, truth, record′, coll, ynil, ycons, Typed, wrong, has, Typeds, wrongs, hass, cells, typeAt, fieldType, ofNumber, ofTruth, binType, gathers, compType, ranges, typedAs, allTyped, ofThree, choiceType, appType, record″, consType, Context, typeOf, typesOf, typeOfQ, mayStand, isTyped, generatorsFit}
 
 -- "Arithmetic, equal and less take numbers; and, or, not and conditions take truths"
 unfoldable pub operand : Bin → Ty
@@ -30,6 +30,16 @@ result less = truth
 result and = truth
 result or = truth
 
+abbrev pub Scalar : Ty → Type 0
+Scalar number = Unit {0}
+Scalar truth = Unit {0}
+Scalar (record′ ts) = ⊥
+Scalar (coll c t) = ⊥
+
+-- an operator over operands of types us is of type τ
+abbrev pub Takes : Fun → Tys → Ty → Type 0
+Takes choice us τ = Scalar τ × (us ≡ ycons truth (ycons τ (ycons τ ynil)))
+
 -- a comprehension of m with heads of type σ is of type τ
 abbrev pub Gathers : Monoid → Ty → Ty → Type 0
 Gathers (of c) σ τ = τ ≡ coll c σ
@@ -46,6 +56,7 @@ abbrev mutual
   Has T Γ (name x) τ = Γ x ≡ has τ
   Has T Γ (field i t) τ = (ts : Tys) × Has T Γ t (record′ ts) × (typeAt i ts ≡ has τ)
   Has T Γ (rec ts) τ = (us : Tys) × HasL T Γ ts us × (τ ≡ record′ us)
+  Has T Γ (app f ts) τ = (us : Tys) × HasL T Γ ts us × Takes f us τ
   Has T Γ (bin o s t) τ = Has T Γ s (operand o) × Has T Γ t (operand o) × (τ ≡ result o)
   Has T Γ (negate t) τ = Has T Γ t truth × (τ ≡ truth)
   Has T Γ (comp m qs h) τ = (Δ : Context) × (σ : Ty) × HasQ T m Γ qs Δ × Has T Δ h σ × Gathers m σ τ
@@ -143,6 +154,29 @@ unfolding typedAs
 bind-typed wrong k τ e = untyped e
 bind-typed (has σ) k τ e = (σ, refl, e)
 
+three-types : (a b c x y z : Ty) → has a ≡ has x → has b ≡ has y → has c ≡ has z → ycons a (ycons b (ycons c ynil)) ≡ ycons x (ycons y (ycons z ynil))
+three-types a b c x y z p q r = cc
+
+choice-typed : (c s t τ : Ty) → choiceType c s t ≡ has τ → Takes choice (ycons c (ycons s (ycons t ynil))) τ
+unfolding choiceType
+choice-typed c number t τ e = let a = truth-typed (has c) (ofNumber (has t) (has number)) τ e in let b = number-typed (has t) (has number) τ (a .1) in let g = same-type number τ (b .1) in rw g (tt, three-types c number t truth number number (a .0) refl (b .0))
+choice-typed c truth t τ e = let a = truth-typed (has c) (ofTruth (has t) (has truth)) τ e in let b = truth-typed (has t) (has truth) τ (a .1) in let g = same-type truth τ (b .1) in rw g (tt, three-types c truth t truth truth truth (a .0) refl (b .0))
+choice-typed c (record′ us) t τ e = untyped e
+choice-typed c (coll d u) t τ e = untyped e
+
+app-typed : (f : Fun) (us : Tys) (τ : Ty) → appType f us ≡ has τ → Takes f us τ
+unfolding appType ofThree
+app-typed choice ynil τ e = untyped e
+app-typed choice (ycons s ynil) τ e = untyped e
+app-typed choice (ycons s (ycons t ynil)) τ e = untyped e
+app-typed choice (ycons s (ycons t (ycons u ynil))) τ e = choice-typed s t u τ e
+app-typed choice (ycons s (ycons t (ycons u (ycons v us)))) τ e = untyped e
+
+all-typed : (s : Typeds) (k : Tys → Typed) (τ : Ty) → allTyped s k ≡ has τ → (us : Tys) × (s ≡ hass us) × (k us ≡ has τ)
+unfolding allTyped
+all-typed wrongs k τ e = untyped e
+all-typed (hass us) k τ e = (us, refl, e)
+
 rec-typed : (s : Typeds) (τ : Ty) → record″ s ≡ has τ → (us : Tys) × (s ≡ hass us) × (τ ≡ record′ us)
 unfolding record″
 rec-typed wrongs τ e = untyped e
@@ -168,6 +202,9 @@ mutual
   typed T (rec ts) Γ τ e =
       let a = rec-typed (typesOf mayStand T ts Γ) τ e in
       (a .0, typeds T ts Γ (a .0) (a .1), a .2)
+  typed T (app f ts) Γ τ e =
+      let a = all-typed (typesOf mayStand T ts Γ) (appType f) τ e in
+      (a .0, typeds T ts Γ (a .0) (a .1), app-typed f (a .0) τ (a .2))
   typed T (bin o s t) Γ τ e =
       let a = bin-typed o (typeOf mayStand T s Γ) (typeOf mayStand T t Γ) τ e in
       (typed T s Γ (operand o) (a .0), typed T t Γ (operand o) (a .1), a .2)

@@ -5,9 +5,9 @@ use mathlib.Core.Bool.{Bool, true, false}
 use Prim.Native.Nat.{ℕ}
 use lib.Dec.{eqb}
 use Rattle.spec_calculus.specs.Lists.{bindL, guard, upd}
-use Rattle.spec_calculus.specs.Syntax.{Monoid, of, sum, max, min, some, all, Term, Terms, Quals, num, name, field, rec, bin, negate, comp, table, tnil, tcons, qnil, gen, bind, cond, Question, asTerm}
+use Rattle.spec_calculus.specs.Syntax.{Monoid, of, sum, max, min, some, all, Term, Terms, Quals, num, name, field, rec, bin, negate, app, comp, table, tnil, tcons, qnil, gen, bind, cond, Question, asTerm}
 use Rattle.spec_calculus.specs.Syntax as Sy
-use Rattle.spec_calculus.specs.Value.{Value, vcons, junk, asBool, elems, fieldOf, binV, notV, Tables, kindOf, columnsOf, rowsOf}
+use Rattle.spec_calculus.specs.Value.{Value, vcons, junk, asBool, elems, fieldOf, binV, notV, appV, Tables, kindOf, columnsOf, rowsOf}
 use Rattle.spec_calculus.specs.Value as Va
 use Rattle.spec_calculus.specs.Monoid.{ordered, canonical, raw}
 use Rattle.spec_calculus.specs.Meaning.{Env, eval, evals, runs, meaning}
@@ -16,7 +16,7 @@ use Rattle.spec_calculus.proofs.Folds.{canon, Eqv, eqv-bind, eqv-guard, fold-eq
 use Rattle.spec_checks.specs.Types.{Ty, Tys, truth, record′, coll, wrong, has, cells, Context, typeOf, mayStand, generatorsFit}
 use Rattle.spec_checks.proofs.GeneratorFits.{fit-eqv}
 use Rattle.spec_checks.proofs.Judgement.{operand, Gathers, Has, HasL, HasQ, untyped, typed, question-typed}
-use Rattle.spec_checks.proofs.Refold.{onParts, refold, refolds, arrangeAs, gathered, bin-refold, fold-refold, field-refold, elems-refold, rows-kept}
+use Rattle.spec_checks.proofs.Refold.{onParts, refold, refolds, arrangeAs, gathered, bin-refold, gives, takes-gives, app-refold, fold-refold, field-refold, elems-refold, rows-kept}
 
 gathers-type : (m : Monoid) (s t : Ty) → Gathers m s t → t ≡ gathered m s
 unfolding gathered
@@ -49,6 +49,8 @@ module _ (T : Tables) where
     has-arranged (name x) Γ τ h ρ σ e = e x τ h
     has-arranged (field i t) Γ τ h ρ σ e = ap (fieldOf i) (has-arranged t Γ (record′ (h .0)) (h .1) ρ σ e) ∙ field-refold ordered (h .0) i τ (h .2) (eval raw T t ρ)
     has-arranged (rec ts) Γ τ h ρ σ e = rw (h .2) (ap Va.rec (hass-arranged ts Γ (h .0) (h .1) ρ σ e))
+    has-arranged (app f ts) Γ τ h ρ σ e = rw (takes-gives f (h .0) τ (h .2)) (
+        ap (appV f) (hass-arranged ts Γ (h .0) (h .1) ρ σ e) ∙ app-refold ordered f (h .0) (evals raw T ts ρ))
     has-arranged (bin o s t) Γ τ h ρ σ e = rw (h .2) (
         ap₂ (binV o) (has-arranged s Γ (operand o) (h .0) ρ σ e) (has-arranged t Γ (operand o) (h .1) ρ σ e)
         ∙ bin-refold ordered o (operand o) (operand o) (eval raw T s ρ) (eval raw T t ρ))

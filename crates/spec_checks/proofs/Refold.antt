@@ -1,18 +1,19 @@
 -- A value folded anew: each collection in it, the innermost first, is made again of its elements by an entry.
 use mathlib.Core.Path.{_≡_, refl, sym, ap, ap₂, _∙_, fun-ext}
 use mathlib.Core.List.{List, [], _∷_, map}
-use mathlib.Core.Bool.{_&&_, _||_}
+use mathlib.Core.Bool.{Bool, true, false, _&&_, _||_, true≢false}
 use Prim.Native.Nat.{ℕ, zero, suc}
 use lib.IntN.{ℤ, _+ℤ_, _-ℤ_, _*ℤ_}
 use lib.Signed.{ltZ}
-use Rattle.spec_calculus.specs.Syntax.{Collection, Monoid, of, sum, max, min, some, all, Bin, plus, minus, times, equal, less, and, or}
-use Rattle.spec_calculus.specs.Value.{Value, Values, vnil, vcons, toList, fromList, junk, asInt, asBool, elems, nth, fieldOf, eqZ, binV}
+use Rattle.spec_calculus.specs.Lists.{pick}
+use Rattle.spec_calculus.specs.Syntax.{Collection, Monoid, of, sum, max, min, some, all, Bin, plus, minus, times, equal, less, and, or, Fun, choice}
+use Rattle.spec_calculus.specs.Value.{Value, Values, vnil, vcons, toList, fromList, junk, asInt, asBool, elems, nth, fieldOf, eqZ, binV, scalar, choiceV, appV}
 use Rattle.spec_calculus.specs.Value as Va
 use Rattle.spec_calculus.specs.Monoid.{start, greater, lesser, against, Entry, step, total, finish, foldBy, ordered, canonical, raw}
 use Rattle.spec_calculus.proofs.Lists.{map-same}
 use Rattle.spec_calculus.proofs.Folds.{to-from, fold-of, arranged, canonical-of, raw-of}
 use Rattle.spec_checks.specs.Types.{Ty, Tys, number, truth, record′, coll, ynil, ycons, has, cells, typeAt}
-use Rattle.spec_checks.proofs.Judgement.{result, untyped, same-type}
+use Rattle.spec_checks.proofs.Judgement.{result, Scalar, Takes, untyped, same-type}
 
 -- what r makes of a record, k of a collection; a number and a truth stay
 unfoldable pub onParts : (Values → Value) → (Values → Value) → Value → Value
@@ -43,6 +44,32 @@ gathered min t = number
 gathered some t = truth
 gathered all t = truth
 
+-- the type of an operator over operands of types us: of a choice a number's or a truth's, whatever its terms are
+unfoldable pub second : Tys → Ty
+second ynil = number
+second (ycons s ynil) = number
+second (ycons s (ycons t us)) = t
+
+unfoldable pub single : Ty → Ty
+single number = number
+single truth = truth
+single (record′ ts) = number
+single (coll c t) = number
+
+unfoldable pub gives : Fun → Tys → Ty
+gives choice us = single (second us)
+
+single-scalar : (t : Ty) → Scalar t → single t ≡ t
+unfolding single
+single-scalar number s = refl
+single-scalar truth s = refl
+single-scalar (record′ ts) s = absurd s
+single-scalar (coll c t) s = absurd s
+
+pub takes-gives : (f : Fun) (us : Tys) (τ : Ty) → Takes f us τ → τ ≡ gives f us
+unfolding gives second
+takes-gives choice us τ h = sym (single-scalar τ (h .0)) ∙ ap (λ ts. single (second ts)) (sym (h .1))
+
 -- as the values of questions are: each list as it is, each bag sorted, each set sorted without repeats
 abbrev pub arrangeAs : Ty → Value → Value
 arrangeAs t v = refold ordered t v
@@ -61,16 +88,42 @@ by-parts P h r k p q (Va.coll vs) = q vs
 
 -- the same number or truth, where they are read as one
 abbrev pub Reads : Value → Value → Type 0
-Reads v w = (asInt v ≡ asInt w) × (asBool v ≡ asBool w)
+Reads v w = (asInt v ≡ asInt w) × (asBool v ≡ asBool w) × (scalar v ≡ scalar w)
 
 module _ (E : Entry) where
   -- What is folded anew reads as it did; so the operators give the same.
   pub refold-reads : (t : Ty) (v : Value) → Reads (refold E t v) v
-  unfolding refold asInt asBool
-  refold-reads number v = (refl, refl)
-  refold-reads truth v = (refl, refl)
-  refold-reads (record′ ts) v = by-parts Reads (λ w. (refl, refl)) _ _ (λ vs. (refl, refl)) (λ vs. (refl, refl)) v
-  refold-reads (coll c t) v = by-parts Reads (λ w. (refl, refl)) _ _ (λ vs. (refl, refl)) (λ vs. (ap asInt (fold-of E c _), ap asBool (fold-of E c _))) v
+  unfolding refold asInt asBool scalar
+  refold-reads number v = (refl, refl, refl)
+  refold-reads truth v = (refl, refl, refl)
+  refold-reads (record′ ts) v = by-parts Reads (λ w. (refl, refl, refl)) _ _ (λ vs. (refl, refl, refl)) (λ vs. (refl, refl, refl)) v
+  refold-reads (coll c t) v = by-parts Reads (λ w. (refl, refl, refl)) _ _ (λ vs. (refl, refl, refl)) (λ vs. (ap asInt (fold-of E c _), ap asBool (fold-of E c _), ap scalar (fold-of E c _))) v
+
+  single-kept : (t : Ty) (v : Value) → refold E (single t) v ≡ v
+  unfolding refold single
+  single-kept number v = refl
+  single-kept truth v = refl
+  single-kept (record′ ts) v = refl
+  single-kept (coll c t) v = refl
+
+  choice-refold : (b d : Bool) (v w x y : Value) → b ≡ d → Reads v x → Reads w y → scalar (pick b v w) ≡ scalar (pick d x y)
+  unfolding pick
+  choice-refold true true v w x y e r s = r .2
+  choice-refold true false v w x y e r s = absurd (true≢false e)
+  choice-refold false true v w x y e r s = absurd (true≢false (sym e))
+  choice-refold false false v w x y e r s = s .2
+
+  operand-reads : (i : ℕ) (us : Tys) (vs : Values) → Reads (nth i (refolds E us vs)) (nth i vs)
+  unfolding refold nth
+  operand-reads i ynil vs = (refl, refl, refl)
+  operand-reads i (ycons t us) vnil = (refl, refl, refl)
+  operand-reads zero (ycons t us) (vcons v vs) = refold-reads t v
+  operand-reads (suc i) (ycons t us) (vcons v vs) = operand-reads i us vs
+
+  pub app-refold : (f : Fun) (us : Tys) (vs : Values) → appV f (refolds E us vs) ≡ refold E (gives f us) (appV f vs)
+  unfolding appV choiceV gives
+  app-refold choice us vs = choice-refold (asBool (nth 0 (refolds E us vs))) (asBool (nth 0 vs)) (nth 1 (refolds E us vs)) (nth 2 (refolds E us vs)) (nth 1 vs) (nth 2 vs) (operand-reads 0 us vs .1) (operand-reads 1 us vs) (operand-reads 2 us vs)
+      ∙ sym (single-kept (second us) (appV choice vs))
 
   pub bin-refold : (o : Bin) (s t : Ty) (v w : Value) → binV o (refold E s v) (refold E t w) ≡ refold E (result o) (binV o v w)
   unfolding binV result refold

@@ -5,9 +5,9 @@ use Prim.Native.Nat.{ℕ}
 use lib.Dec.{ltb}
 use lib.ListN.{length}
 use Rattle.spec_calculus.specs.Lists.{pick, upd}
-use Rattle.spec_calculus.specs.Syntax.{Collection, Monoid, Term, Terms, Quals, num, truth, name, field, rec, bin, negate, comp, table, tnil, tcons, qnil, gen, bind, cond}
+use Rattle.spec_calculus.specs.Syntax.{Collection, Monoid, Term, Terms, Quals, num, truth, name, field, rec, bin, negate, app, comp, table, tnil, tcons, qnil, gen, bind, cond}
 use Rattle.spec_calculus.specs.Value.{Tables, kindOf, columnsOf}
-use Rattle.spec_checks.specs.Types.{Typed, has, wrong, record′, coll, cells, fieldType, ofTruth, binType, compType, ranges, typedAs, record″, consType, Context, typeOf, typesOf, typeOfQ}
+use Rattle.spec_checks.specs.Types.{Typed, has, wrong, record′, coll, cells, fieldType, ofTruth, binType, compType, ranges, typedAs, allTyped, appType, record″, consType, Context, typeOf, typesOf, typeOfQ}
 use Rattle.spec_checks.specs.Types as Types
 
 -- 25 and 26 look at how many tables there are, at their collections and at their columns.
@@ -21,6 +21,7 @@ module _ (J : Collection → Monoid → Bool) (T U : Tables) (n : length T ≡ l
     type-same (name x) Γ = refl
     type-same (field i t) Γ = ap (fieldType i) (type-same t Γ)
     type-same (rec ts) Γ = ap record″ (types-same ts Γ)
+    type-same (app f ts) Γ = ap (λ us. allTyped us (appType f)) (types-same ts Γ)
     type-same (bin o s t) Γ = ap₂ (binType o) (type-same s Γ) (type-same t Γ)
     type-same (negate t) Γ = ap (λ x. ofTruth x (has Types.truth)) (type-same t Γ)
     type-same (comp m qs h) Γ = ap (compType m) (typeQ-same m qs (λ Δ. typeOf J T h Δ) (λ Δ. typeOf J U h Δ) (λ Δ. type-same h Δ) Γ)

@@ -5,7 +5,7 @@ use mathlib.Core.Bool.{Bool, true, false, _&&_, _||_, not}
 use Prim.Native.Nat.{ℕ}
 use lib.Dec.{eqb}
 use Rattle.spec_calculus.specs.Lists.{upd}
-use Rattle.spec_calculus.specs.Syntax.{Term, Terms, Quals, num, truth, name, field, rec, bin, negate, comp, table, tnil, tcons, qnil, gen, bind, cond, Question, asTerm}
+use Rattle.spec_calculus.specs.Syntax.{Term, Terms, Quals, num, truth, name, field, rec, bin, negate, app, comp, table, tnil, tcons, qnil, gen, bind, cond, Question, asTerm}
 
 -- which names hold here
 abbrev pub Scope : Type 0
@@ -19,6 +19,7 @@ unfoldable mutual
   inScope (name x) s = s x
   inScope (field i t) s = inScope t s
   inScope (rec ts) s = inScopes ts s
+  inScope (app f ts) s = inScopes ts s
   inScope (bin o t u) s = inScope t s && inScope u s
   inScope (negate t) s = inScope t s
   inScope (comp m qs h) s = inScopeQ qs (λ r. inScope h r) s
@@ -42,6 +43,7 @@ unfoldable mutual
   binders (name x) = []
   binders (field i t) = binders t
   binders (rec ts) = bindersL ts
+  binders (app f ts) = bindersL ts
   binders (bin o t u) = binders t ++ binders u
   binders (negate t) = binders t
   binders (comp m qs h) = bindersQ qs ++ binders h

@@ -4,7 +4,7 @@ use Prim.Native.Nat.{ℕ, zero, suc}
 use lib.Dec.{ltb}
 use lib.ListN.{length}
 use Rattle.spec_calculus.specs.Lists.{pick, upd}
-use Rattle.spec_calculus.specs.Syntax.{Collection, list, bag, set, Monoid, of, sum, max, min, some, all, Bin, plus, minus, times, equal, less, and, or, Term, Terms, Quals, num, name, field, rec, bin, negate, comp, table, tnil, tcons, qnil, gen, bind, cond, Question, asTerm}
+use Rattle.spec_calculus.specs.Syntax.{Collection, list, bag, set, Monoid, of, sum, max, min, some, all, Bin, plus, minus, times, equal, less, and, or, Fun, choice, Term, Terms, Quals, num, name, field, rec, bin, negate, app, comp, table, tnil, tcons, qnil, gen, bind, cond, Question, asTerm}
 use Rattle.spec_calculus.specs.Syntax as Sy
 use Rattle.spec_calculus.specs.Value.{Tables, kindOf, columnsOf}
 
@@ -71,6 +71,24 @@ binType less s t = ofNumber s (ofNumber t (has truth))
 binType and s t = ofTruth s (ofTruth t (has truth))
 binType or s t = ofTruth s (ofTruth t (has truth))
 
+-- "three terms"
+unfoldable pub ofThree : (Ty → Ty → Ty → Typed) → Tys → Typed
+ofThree k ynil = wrong
+ofThree k (ycons s ynil) = wrong
+ofThree k (ycons s (ycons t ynil)) = wrong
+ofThree k (ycons s (ycons t (ycons u ynil))) = k s t u
+ofThree k (ycons s (ycons t (ycons u (ycons v us)))) = wrong
+
+-- "a truth, then two numbers or two truths" (document 02, E2)
+unfoldable pub choiceType : Ty → Ty → Ty → Typed
+choiceType c number t = ofTruth (has c) (ofNumber (has t) (has number))
+choiceType c truth t = ofTruth (has c) (ofTruth (has t) (has truth))
+choiceType c (record′ us) t = wrong
+choiceType c (coll d u) t = wrong
+
+unfoldable pub appType : Fun → Tys → Typed
+appType choice ts = ofThree choiceType ts
+
 unfoldable pub gathers : Collection → Typed → Typed
 gathers c wrong = wrong
 gathers c (has t) = has (coll c t)
@@ -100,6 +118,10 @@ unfoldable pub record″ : Typeds → Typed
 record″ wrongs = wrong
 record″ (hass ts) = has (record′ ts)
 
+unfoldable pub allTyped : Typeds → (Tys → Typed) → Typed
+allTyped wrongs k = wrong
+allTyped (hass ts) k = k ts
+
 unfoldable pub consType : Typed → Typeds → Typeds
 consType wrong us = wrongs
 consType (has t) wrongs = wrongs
@@ -116,6 +138,7 @@ unfoldable mutual
   typeOf J T (name x) Γ = Γ x
   typeOf J T (field i t) Γ = fieldType i (typeOf J T t Γ)
   typeOf J T (rec ts) Γ = record″ (typesOf J T ts Γ)
+  typeOf J T (app f ts) Γ = allTyped (typesOf J T ts Γ) (appType f)
   typeOf J T (bin o s t) Γ = binType o (typeOf J T s Γ) (typeOf J T t Γ)
   typeOf J T (negate t) Γ = ofTruth (typeOf J T t Γ) (has truth)
   typeOf J T (comp m qs h) Γ = compType m (typeOfQ J T m qs (λ Δ. typeOf J T h Δ) Γ)

@@ -3,24 +3,25 @@
 use mathlib.Core.Path.{_≡_, refl, sym, ap, subst, _∙_}
 use mathlib.Core.List.{List, [], _∷_, _++_, foldl}
 use mathlib.Core.Bool.{Bool, true, false, _&&_, and-eq-true-iff}
-use Prim.Native.Nat.{ℕ, suc, _+_, _*_, _^_, _≤_}
+use Prim.Native.Nat.{ℕ, zero, suc, _+_, _*_, _^_, _≤_}
 use native.Mathlib.Nat.{le-refl, le-trans, mul-le-mul, mul-le-mul-right, mul-comm, mul-left-comm, zero-add, suc-mul, one-mul, pow-succ'}
 use native.Mathlib.Numerals.{one-add}
 use native.Mathlib.Omega.{arith}
-use borrow.Author.Tests.{leb-true}
+use borrow.Author.Tests.{leb-true, leb-false}
 use lib.Dec.{eqb, leb}
 use lib.IntN.{pos, natAbs}
-use lib.ListN.{length, length-append}
-use Rattle.spec_calculus.specs.Lists.{bindL, guard, upd}
-use Rattle.spec_calculus.specs.Syntax.{Monoid, of, sum, max, min, some, all, Bin, plus, minus, times, equal, less, and, or}
-use Rattle.spec_calculus.specs.Value.{Value, junk, asInt, asBool, fieldOf, binV, notV, Tables, columnsOf, rowsOf}
+use lib.ListN.{getD, length, length-append}
+use Rattle.spec_calculus.specs.Lists.{bindL, guard, pick, upd}
+use Rattle.spec_calculus.specs.Syntax.{Monoid, of, sum, max, min, some, all, Bin, plus, minus, times, equal, less, and, or, Fun, choice}
+use Rattle.spec_calculus.specs.Value.{Value, Values, nth, scalar, choiceV, appV, junk, asInt, asBool, fieldOf, binV, notV, Tables, columnsOf, rowsOf}
+use Rattle.spec_calculus.specs.Value as Va
 use Rattle.spec_calculus.specs.Monoid.{start, greater, lesser, Entry, step, total, finish, Fold, foldBy}
 use Rattle.spec_calculus.specs.Meaning.{Env}
 use Rattle.spec_calculus.proofs.Lists.{All, all-bind, all-front, all-behind, all-guard}
 use Rattle.spec_calculus.proofs.Magnitude.{abs-plus, abs-minus, abs-times, abs-greater, abs-lesser, abs-against}
 use Rattle.spec_calculus.proofs.WellFormed.{Row, cell-small, row-no-number, WellFormed, rows-at-most, rows-well-formed}
-use Rattle.spec_normal_form.specs.Form.{Form, Forms, Clauses, NormalForm, asForm, num, truth, row, cell, rec, bin, negate, comp, fnil, fcons, done, gen, cond, value, loops}
-use Rattle.spec_normal_form.specs.Bound.{ownGens, binBound, compBound, bound, within, withinF, withinC, numbersFit}
+use Rattle.spec_normal_form.specs.Form.{Form, Forms, Clauses, NormalForm, asForm, num, truth, row, cell, rec, bin, negate, app, comp, fnil, fcons, done, gen, cond, value, values, loops}
+use Rattle.spec_normal_form.specs.Bound.{ownGens, binBound, larger, appBound, compBound, bound, bounds, within, withinF, withinC, numbersFit}
 
 -- ---- lists
 -- Each element gives at most n, so a list of them gives at most its length times n.
@@ -171,6 +172,35 @@ bin-bound less v w a b p q = omega arith
 bin-bound and v w a b p q = omega arith
 bin-bound or v w a b p q = omega arith
 
+larger-bounds : (a b : ℕ) → (a ≤ larger a b) × (b ≤ larger a b)
+unfolding larger pick
+larger-bounds a b = go (leb a b) refl
+  where
+    go : (c : Bool) → leb a b ≡ c → (a ≤ pick c b a) × (b ≤ pick c b a)
+    go true p = (leb-true a b p, le-refl b)
+    go false p = (le-refl a, omega (arith, leb-false a b p))
+
+scalar-bound : (b : ℕ) (v : Value) → Small b v → Small b (scalar v)
+unfolding scalar asInt
+scalar-bound b (Va.num z) h = h
+scalar-bound b (Va.truth c) h = h
+scalar-bound b (Va.rec vs) h = h
+scalar-bound b (Va.coll vs) h = h
+
+choice-bound : (c : Bool) (v w : Value) (a b : ℕ) → Small a v → Small b w → Small (larger a b) (scalar (pick c v w))
+unfolding pick
+choice-bound true v w a b p q = scalar-bound (larger a b) v (le-trans p (larger-bounds a b .0))
+choice-bound false v w a b p q = scalar-bound (larger a b) w (le-trans q (larger-bounds a b .1))
+
+-- each value within the bound at its position
+abbrev AllSmall : List ℕ → Values → Type 0
+AllSmall bs vs = (i : ℕ) → Small (getD bs i 0) (nth i vs)
+
+-- What an operator makes of values within their bounds is within its bound.
+app-bound : (f : Fun) (bs : List ℕ) (vs : Values) → AllSmall bs vs → Small (appBound f bs) (appV f vs)
+unfolding appV appBound choiceV
+app-bound choice bs vs h = choice-bound (asBool (nth 0 vs)) (nth 1 vs) (nth 2 vs) (getD bs 1 0) (getD bs 2 0) (h 1) (h 2)
+
 comp-bound : (m : Monoid) (g b : ℕ) → foldBound m (1024 ^ g) b ≡ compBound m g b
 unfolding foldBound compBound
 comp-bound (of c) g b = refl
@@ -202,16 +232,24 @@ module _ (E : Entry) {T : Tables} (W : WellFormed T) where
   all-heads h b k q ρ R = loops-all (foldBy E) W (Small b) (λ σ. value (foldBy E) T h σ ∷ []) (λ σ S. (k σ S, tt)) q ρ R
 
   -- Every number of a normal form is within its bound.
-  pub value-bound : (f : Form) (ρ : Env) → RowsIn ρ → Small (bound f) (value (foldBy E) T f ρ)
-  unfolding value bound asInt notV
-  value-bound (num z) ρ R = le-refl (natAbs z)
-  value-bound (truth b) ρ R = omega arith
-  value-bound (row g) ρ R = omega (arith, ap natAbs (R g .no-number))
-  value-bound (cell i g) ρ R = R g .fields i
-  value-bound (rec ts) ρ R = omega arith
-  value-bound (bin o s t) ρ R = bin-bound o (value (foldBy E) T s ρ) (value (foldBy E) T t ρ) (bound s) (bound t) (value-bound s ρ R) (value-bound t ρ R)
-  value-bound (negate t) ρ R = omega arith
-  value-bound (comp m q h) ρ R = part-right m q h ρ (bound h) (all-heads h (bound h) (λ σ S. value-bound h σ S) q ρ R) [] (heads (foldBy E) T q h ρ) refl
+  mutual
+    unfolding value bound asInt notV nth
+
+    pub value-bound : (f : Form) (ρ : Env) → RowsIn ρ → Small (bound f) (value (foldBy E) T f ρ)
+    value-bound (num z) ρ R = le-refl (natAbs z)
+    value-bound (truth b) ρ R = omega arith
+    value-bound (row g) ρ R = omega (arith, ap natAbs (R g .no-number))
+    value-bound (cell i g) ρ R = R g .fields i
+    value-bound (rec ts) ρ R = omega arith
+    value-bound (app f ts) ρ R = app-bound f (bounds ts) (values (foldBy E) T ts ρ) (λ i. values-bound ts ρ R i)
+    value-bound (bin o s t) ρ R = bin-bound o (value (foldBy E) T s ρ) (value (foldBy E) T t ρ) (bound s) (bound t) (value-bound s ρ R) (value-bound t ρ R)
+    value-bound (negate t) ρ R = omega arith
+    value-bound (comp m q h) ρ R = part-right m q h ρ (bound h) (all-heads h (bound h) (λ σ S. value-bound h σ S) q ρ R) [] (heads (foldBy E) T q h ρ) refl
+
+    values-bound : (ts : Forms) (ρ : Env) → RowsIn ρ → AllSmall (bounds ts) (values (foldBy E) T ts ρ)
+    values-bound fnil ρ R i = omega arith
+    values-bound (fcons t ts) ρ R zero = value-bound t ρ R
+    values-bound (fcons t ts) ρ R (suc i) = values-bound ts ρ R i
 
   -- Every head that the loops meet is within the head's bound.
   pub heads-small : (q : Clauses) (h : Form) (ρ : Env) → RowsIn ρ → All (Small (bound h)) (heads (foldBy E) T q h ρ)
@@ -246,6 +284,7 @@ within-bound (truth b) h = omega arith
 within-bound (row g) h = omega arith
 within-bound (cell i g) h = omega arith
 within-bound (rec ts) h = omega arith
+within-bound (app f ts) h = leb-true (bound (app f ts)) (2 ^ 62) (both (leb (bound (app f ts)) (2 ^ 62)) (withinF ts) h .0)
 within-bound (bin o s t) h = leb-true (bound (bin o s t)) (2 ^ 62) (both (leb (bound (bin o s t)) (2 ^ 62)) (within s && within t) h .0)
 within-bound (negate t) h = omega arith
 within-bound (comp m q h) k = leb-true (bound (comp m q h)) (2 ^ 62) (both (leb (bound (comp m q h)) (2 ^ 62)) (withinC q && within h) k .0)
@@ -257,6 +296,10 @@ within-operands o s t h = both (within s) (within t) (both (leb (bound (bin o s 
 pub within-negated : (t : Form) → within (negate t) ≡ true → within t ≡ true
 unfolding within
 within-negated t h = h
+
+pub within-app : (f : Fun) (ts : Forms) → within (app f ts) ≡ true → withinF ts ≡ true
+unfolding within
+within-app f ts h = both (leb (bound (app f ts)) (2 ^ 62)) (withinF ts) h .1
 
 pub within-fields : (ts : Forms) → within (rec ts) ≡ true → withinF ts ≡ true
 unfolding within
@@ -286,6 +329,7 @@ abbrev mutual
   Each P (row g) = P (row g)
   Each P (cell i g) = P (cell i g)
   Each P (rec ts) = P (rec ts) × EachF P ts
+  Each P (app f ts) = P (app f ts) × EachF P ts
   Each P (bin o s t) = P (bin o s t) × Each P s × Each P t
   Each P (negate t) = P (negate t) × Each P t
   Each P (comp m q h) = P (comp m q h) × EachC P q × Each P h
@@ -307,6 +351,7 @@ module _ (P : Form → Type 0) (k : (f : Form) → within f ≡ true → P f) wh
     each (row g) h = k (row g) h
     each (cell i g) h = k (cell i g) h
     each (rec ts) h = (k (rec ts) h, eachF ts (within-fields ts h))
+    each (app f ts) h = (k (app f ts) h, eachF ts (within-app f ts h))
     each (bin o s t) h = (k (bin o s t) h, each s (within-operands o s t h .0), each t (within-operands o s t h .1))
     each (negate t) h = (k (negate t) h, each t (within-negated t h))
     each (comp m q f) h = (k (comp m q f) h, eachC q (within-comp m q f h .0), each f (within-comp m q f h .1))

@@ -1,7 +1,7 @@
 -- The starred cases: the values of their normal forms.
 use mathlib.Core.Path.{_≡_, refl}
 use Rattle.spec_calculus.specs.Lists.{bindL, guard, pick, upd}
-use Rattle.spec_calculus.specs.Value.{nth, fieldOf, asInt, asBool, elems, eqZ, binV, count, kindOf, rowsOf}
+use Rattle.spec_calculus.specs.Value.{nth, fieldOf, asInt, asBool, elems, eqZ, binV, scalar, choiceV, appV, count, kindOf, rowsOf}
 use Rattle.spec_calculus.specs.Order.{then, compareZ, compareV, leV, insert, put}
 use Rattle.spec_calculus.specs.Monoid.{start, greater, lesser, against, step, total, finish, foldBy, ordered, canonical}
 use Rattle.spec_calculus.specs.Cases.{Case, answers, prints, refuses, starred}
@@ -16,5 +16,5 @@ Normalised (prints T q s) = Unit {0}
 Normalised (refuses T q n) = Unit {0}
 
 pub starred-normalised : All Normalised starred
-unfolding bindL guard pick upd nth fieldOf asInt asBool elems eqZ binV count kindOf rowsOf then compareZ compareV leV insert put start greater lesser against step total finish foldBy ordered canonical _⊕_ gens value normalValue quote idempotent givesWay condition ranges Nm.nth part binary before norm normal
-starred-normalised = (refl, (tt, (refl, (refl, (refl, (refl, (refl, (refl, (refl, (refl, (refl, (refl, (refl, (refl, (refl, (refl, (tt, (tt, (refl, tt)))))))))))))))))))
+unfolding bindL guard pick upd nth fieldOf asInt asBool elems eqZ binV scalar choiceV appV count kindOf rowsOf then compareZ compareV leV insert put start greater lesser against step total finish foldBy ordered canonical _⊕_ gens value normalValue quote idempotent givesWay condition ranges Nm.nth part binary before norm normal
+starred-normalised = (refl, (tt, (refl, (refl, (refl, (refl, (refl, (refl, (refl, (refl, (refl, (refl, (refl, (refl, (refl, (refl, (tt, (tt, (refl, (refl, (refl, (tt, (tt, (tt, (refl, (tt, (refl, (tt, (tt, (refl, (tt, (tt, (tt, (tt, tt))))))))))))))))))))))))))))))))))

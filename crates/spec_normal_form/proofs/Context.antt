@@ -3,10 +3,10 @@ use mathlib.Core.Path.{_≡_, refl, sym, ap, fun-ext, _∙_}
 use mathlib.Core.Bool.{Bool, _||_}
 use Prim.Native.Nat.{ℕ}
 use Rattle.spec_calculus.specs.Lists.{upd}
-use Rattle.spec_calculus.specs.Syntax.{Collection, sum, Term, field, rec, bin, negate, comp, gen, bind, cond, Question, asTerm}
+use Rattle.spec_calculus.specs.Syntax.{Collection, sum, Term, field, rec, bin, negate, app, comp, gen, bind, cond, Question, asTerm}
 use Rattle.spec_normal_form.specs.Form.{Form, NormalForm, asForm, done}
 use Rattle.spec_normal_form.specs.Form as Nf
-use Rattle.spec_normal_form.specs.Normal.{Sem, fields, plain, scons, quote, idempotent, condition, ranges, part, binary, before, SemEnv, norm, norms, walk, nowhere, normal}
+use Rattle.spec_normal_form.specs.Normal.{Sem, fields, plain, scons, quote, idempotent, condition, ranges, part, binary, applied, before, SemEnv, norm, norms, walk, nowhere, normal}
 use Rattle.spec_normal_form.specs.Place.{Place, Places, PlaceQ, put, putL, putQ}
 use Rattle.spec_normal_form.specs.Place as Pl
 use Rattle.spec_normal_form.specs.Rules.{Rewrites, none, onwards}
@@ -22,6 +22,7 @@ module _ (K : ℕ → Collection) (s t : Term) (e : (δ : SemEnv) → norm K s �
     place-keeps Pl.hole δ = e δ
     place-keeps (Pl.field i p) δ = ap (part i) (place-keeps p δ)
     place-keeps (Pl.rec p) δ = ap fields (placeL-keeps p δ)
+    place-keeps (Pl.app f p) δ = ap (applied f) (placeL-keeps p δ)
     place-keeps (Pl.binLeft o p u) δ = ap (λ d. binary o d (norm K u δ)) (place-keeps p δ)
     place-keeps (Pl.binRight o u p) δ = ap (binary o (norm K u δ)) (place-keeps p δ)
     place-keeps (Pl.negate p) δ = ap (λ d. plain (λ n. Nf.negate (quote d n))) (place-keeps p δ)
@@ -55,6 +56,7 @@ outermost (Nf.truth b) = alone (Nf.truth b)
 outermost (Nf.row g) = alone (Nf.row g)
 outermost (Nf.cell i g) = alone (Nf.cell i g)
 outermost (Nf.rec ts) = alone (Nf.rec ts)
+outermost (Nf.app f ts) = alone (Nf.app f ts)
 outermost (Nf.bin o s t) = alone (Nf.bin o s t)
 outermost (Nf.negate t) = alone (Nf.negate t)
 

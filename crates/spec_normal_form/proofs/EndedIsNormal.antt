@@ -5,10 +5,10 @@ use Prim.Native.Nat.{ℕ, zero, suc}
 use lib.Dec.{eqb, ltb}
 use lib.ListN.{length}
 use Rattle.spec_calculus.specs.Lists.{pick, upd}
-use Rattle.spec_calculus.specs.Syntax.{Collection, Monoid, of, sum, max, min, some, all, Bin, plus, minus, times, equal, less, and, or, Term, Terms, Quals, num, name, field, rec, bin, negate, comp, table, tnil, tcons, qnil, gen, bind, cond, Question, asTerm}
+use Rattle.spec_calculus.specs.Syntax.{Collection, Monoid, of, sum, max, min, some, all, Bin, plus, minus, times, equal, less, and, or, Fun, choice, Term, Terms, Quals, num, name, field, rec, bin, negate, app, comp, table, tnil, tcons, qnil, gen, bind, cond, Question, asTerm}
 use Rattle.spec_calculus.specs.Syntax as Sy
 use Rattle.spec_calculus.specs.Value.{Tables, kindOf, columnsOf}
-use Rattle.spec_checks.specs.Types.{Ty, Typed, Typeds, number, truth, record′, coll, wrong, has, wrongs, hass, cells, typeAt, fieldType, ofNumber, ofTruth, binType, gathers, compType, ranges, record″, consType, Context, typeOf, typesOf, typeOfQ, isTyped, typesFit}
+use Rattle.spec_checks.specs.Types.{Ty, Tys, ynil, ycons, Typed, Typeds, number, truth, record′, coll, wrong, has, wrongs, hass, cells, typeAt, fieldType, ofNumber, ofTruth, binType, gathers, compType, ranges, ofThree, choiceType, appType, allTyped, record″, consType, Context, typeOf, typesOf, typeOfQ, isTyped, typesFit}
 use Rattle.spec_normal_form.specs.Form.{Form, Forms, Clauses, NormalForm, fnil, fcons, done}
 use Rattle.spec_normal_form.specs.Form as Nf
 use Rattle.spec_normal_form.specs.Normal.{idempotent}
@@ -51,6 +51,26 @@ bin-fields equal s t = number-fields s (ofNumber t (has truth)) (number-fields t
 bin-fields less s t = number-fields s (ofNumber t (has truth)) (number-fields t (has truth) (λ i. refl))
 bin-fields and s t = truth-fields s (ofTruth t (has truth)) (truth-fields t (has truth) (λ i. refl))
 bin-fields or s t = truth-fields s (ofTruth t (has truth)) (truth-fields t (has truth) (λ i. refl))
+
+choice-fields : (c s t : Ty) → NoFields (choiceType c s t)
+unfolding choiceType fieldType
+choice-fields c number t = truth-fields (has c) (ofNumber (has t) (has number)) (number-fields (has t) (has number) (λ i. refl))
+choice-fields c truth t = truth-fields (has c) (ofTruth (has t) (has truth)) (truth-fields (has t) (has truth) (λ i. refl))
+choice-fields c (record′ us) t = λ i. refl
+choice-fields c (coll d u) t = λ i. refl
+
+app-fields : (f : Fun) (us : Tys) → NoFields (appType f us)
+unfolding appType ofThree fieldType
+app-fields choice ynil = λ i. refl
+app-fields choice (ycons s ynil) = λ i. refl
+app-fields choice (ycons s (ycons t ynil)) = λ i. refl
+app-fields choice (ycons s (ycons t (ycons u ynil))) = choice-fields s t u
+app-fields choice (ycons s (ycons t (ycons u (ycons v us)))) = λ i. refl
+
+all-fields : (ws : Typeds) (k : Tys → Typed) → ((us : Tys) → NoFields (k us)) → NoFields (allTyped ws k)
+unfolding allTyped fieldType
+all-fields wrongs k h = λ i. refl
+all-fields (hass us) k h = h us
 
 comp-fields : (m : Monoid) (t : Typed) → NoFields (compType m t)
 unfolding compType gathers fieldType
@@ -141,6 +161,11 @@ abbrev AreTyped : Typeds → Type 0
 AreTyped wrongs = ⊥
 AreTyped (hass ts) = Unit {0}
 
+all-typed : (ws : Typeds) (k : Tys → Typed) → IsTyped (allTyped ws k) → AreTyped ws
+unfolding allTyped
+all-typed wrongs k h = wrong-typed h
+all-typed (hass ts) k h = tt
+
 record-typed : (ws : Typeds) → IsTyped (record″ ws) → AreTyped ws
 unfolding record″
 record-typed wrongs h = wrong-typed h
@@ -165,6 +190,7 @@ module _ (J : Collection → Monoid → Bool) (T : Tables) where
       let e : fieldType i (fieldType j w) ≡ wrong = ap (λ u. fieldType i (fieldType j (typeOf J T u Γ))) (y .1) ∙ row-fields (Γ (y .0)) (r (y .0)) j i in
       wrong-typed (subst IsTyped e h)
   is-name (rec ts) Γ r n a i h = absurd n
+  is-name (app f ts) Γ r n a i h = wrong-typed (subst IsTyped (all-fields (typesOf J T ts Γ) (appType f) (app-fields f) i) h)
   is-name (bin o s t) Γ r n a i h = wrong-typed (subst IsTyped (bin-fields o (typeOf J T s Γ) (typeOf J T t Γ) i) h)
   is-name (negate t) Γ r n a i h = wrong-typed (subst IsTyped (truth-fields (typeOf J T t Γ) (has truth) (λ k. refl) i) h)
   is-name (comp m q t) Γ r n a i h = wrong-typed (subst IsTyped (comp-fields m (typeOfQ J T m q (λ Δ. typeOf J T t Δ) Γ) i) h)
@@ -183,6 +209,7 @@ module _ (J : Collection → Monoid → Bool) (T : Tables) where
   over-table (name x) Γ j k a h = absurd a
   over-table (field i t) Γ j k a h = absurd a
   over-table (rec ts) Γ j k a h = absurd a
+  over-table (app f ts) Γ j k a h = absurd a
   over-table (bin o s t) Γ j k a h = absurd a
   over-table (negate t) Γ j k a h = absurd a
   over-table (comp m q t) Γ j k a h = absurd a
@@ -201,6 +228,7 @@ module _ (J : Collection → Monoid → Bool) (T : Tables) where
     form (name x) Γ r h a = (Nf.row x, refl)
     form (field i t) Γ r h a = let y = is-name t Γ r (a .0) (a .1) i h in (Nf.cell i (y .0), ap (field i) (sym (y .1)))
     form (rec ts) Γ r h a = let f = forms ts Γ r (record-typed (typesOf J T ts Γ) h) a in (Nf.rec (f .0), ap rec (f .1))
+    form (app f ts) Γ r h a = let g = forms ts Γ r (all-typed (typesOf J T ts Γ) (appType f) h) a in (Nf.app f (g .0), ap (app f) (g .1))
     form (bin o s t) Γ r h a =
         let p = bin-typed o (typeOf J T s Γ) (typeOf J T t Γ) h in
         let f = form s Γ r (p .0) (a .0) in

@@ -56,6 +56,7 @@ module _ (K : ℕ → Collection) where
   cond-fixed (Nf.row g) b n s e = refl
   cond-fixed (Nf.cell i g) b n s e = refl
   cond-fixed (Nf.rec ts) b n s e = ap one e
+  cond-fixed (Nf.app f ts) b n s e = ap one e
   cond-fixed (Nf.bin o t u) b n s e = condition-binary o (norm K (termOf t) nowhere) (norm K (termOf u) nowhere) b n s ∙ ap one e
   cond-fixed (Nf.negate t) b n s e = ap one e
   cond-fixed (Nf.comp m q h) b n s e =
@@ -71,6 +72,7 @@ module _ (K : ℕ → Collection) where
     fixed (Nf.row g) S n p o = refl
     fixed (Nf.cell i g) S n p o = refl
     fixed (Nf.rec ts) S n p o = ap Nf.rec (fixeds ts S n p o)
+    fixed (Nf.app f ts) S n p o = ap (Nf.app f) (fixeds ts S n p o)
     fixed (Nf.bin c s t) S n p o =
         quote-binary c (norm K (termOf s) nowhere) (norm K (termOf t) nowhere) n
         ∙ ap (λ x. Nf.bin c x (quote (norm K (termOf t) nowhere) (n + gens x))) (fixed s S n (p .0) (o .0)) ∙ ap (Nf.bin c s) (fixed t S (n + gens s) (p .1) (o .1))

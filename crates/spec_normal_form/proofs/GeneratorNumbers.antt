@@ -9,7 +9,7 @@ use Rattle.spec_calculus.specs.Lists.{upd}
 use Rattle.spec_calculus.specs.Syntax.{Collection, Question}
 use Rattle.spec_calculus.proofs.Lists.{upd-other}
 use Rattle.spec_checks.specs.Scope.{Scope, namesHold}
-use Rattle.spec_normal_form.specs.Form.{Form, Forms, Clauses, num, truth, row, cell, rec, bin, negate, comp, fnil, fcons, done, gen, cond, gens, gensC, asForm}
+use Rattle.spec_normal_form.specs.Form.{Form, Forms, Clauses, num, truth, row, cell, rec, bin, negate, app, comp, fnil, fcons, done, gen, cond, gens, gensC, asForm}
 use Rattle.spec_normal_form.specs.Normal.{normal}
 use Rattle.spec_normal_form.specs.NoRule.{behind, Ordered, OrderedF, OrderedC}
 use Rattle.spec_normal_form.proofs.NoRuleApplies.{normal-in-scope}
@@ -21,6 +21,7 @@ abbrev mutual
   Numbered (row g) i = g < i
   Numbered (cell f g) i = g < i
   Numbered (rec ts) i = NumberedF ts i
+  Numbered (app f ts) i = NumberedF ts i
   Numbered (bin o s t) i = Numbered s i × Numbered t (i + gens s)
   Numbered (negate t) i = Numbered t i
   Numbered (comp m q h) i = NumberedC q i × Numbered h (i + gensC q)
@@ -63,6 +64,7 @@ mutual
   numbered (row g) S i a x = a g x
   numbered (cell f g) S i a x = a g x
   numbered (rec ts) S i a x = numberedF ts S i a x
+  numbered (app f ts) S i a x = numberedF ts S i a x
   numbered (bin o s t) S i a x = (numbered s S i a (x .0), numbered t S (i + gens s) (below-more S i (gens s) a) (x .1))
   numbered (negate t) S i a x = numbered t S i a x
   numbered (comp m q h) S i a x = (numberedC q S i a (x .0), numbered h (behind q S) (i + gensC q) (below-behind q S i (x .0) a) (x .1))

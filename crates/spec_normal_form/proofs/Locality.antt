@@ -5,12 +5,12 @@ use mathlib.Mathlib.Data.Bool.Basic.{and-elim-left, and-elim-right}
 use Prim.Native.Nat.{ℕ}
 use lib.Dec.{eqb, eqb→eq}
 use Rattle.spec_calculus.specs.Lists.{upd}
-use Rattle.spec_calculus.specs.Syntax.{Collection, Monoid, Term, Terms, Quals, num, truth, name, field, rec, bin, negate, comp, table, tnil, tcons, qnil, gen, bind, cond}
+use Rattle.spec_calculus.specs.Syntax.{Collection, Monoid, Term, Terms, Quals, num, truth, name, field, rec, bin, negate, app, comp, table, tnil, tcons, qnil, gen, bind, cond}
 use Rattle.spec_calculus.proofs.Lists.{upd-other}
 use Rattle.spec_checks.specs.Scope.{Scope, inScope, inScopes, inScopeQ}
 use Rattle.spec_normal_form.specs.Form.{done}
 use Rattle.spec_normal_form.specs.Form as Nf
-use Rattle.spec_normal_form.specs.Normal.{Sem, fields, nested, plain, scons, quote, idempotent, condition, ranges, part, binary, before, SemEnv, norm, norms, walk}
+use Rattle.spec_normal_form.specs.Normal.{Sem, fields, nested, plain, scons, quote, idempotent, condition, ranges, part, binary, before, SemEnv, norm, norms, walk, applied}
 use Rattle.spec_normal_form.proofs.WriteOut.{spliceOf}
 
 -- scopes grow
@@ -59,6 +59,7 @@ module _ (K : ℕ → Collection) where
     norm-agree (name x) S u δ ε a = a x u
     norm-agree (field i t) S u δ ε a = ap (part i) (norm-agree t S u δ ε a)
     norm-agree (rec ts) S u δ ε a = ap fields (norms-agree ts S u δ ε a)
+    norm-agree (app f ts) S u δ ε a = ap (applied f) (norms-agree ts S u δ ε a)
     norm-agree (bin o s t) S u δ ε a = ap₂ (binary o) (norm-agree s S (and-elim-left (inScope s S) (inScope t S) u) δ ε a) (norm-agree t S (and-elim-right (inScope s S) (inScope t S) u) δ ε a)
     norm-agree (negate t) S u δ ε a = ap (λ d. plain (λ n. Nf.negate (quote d n))) (norm-agree t S u δ ε a)
     norm-agree (comp m qs t) S u δ ε a = comp-cong m qs qs (λ μ. norm K t μ) (λ μ. norm K t μ) δ ε

@@ -6,9 +6,9 @@ use Prim.Native.Nat.{ℕ, zero, suc, _+_, _≤_, _<_}
 use native.Mathlib.Omega.{arith}
 use lib.Dec.{eqb}
 use Rattle.spec_calculus.specs.Lists.{bindL, guard, upd}
-use Rattle.spec_calculus.specs.Syntax.{Collection, Monoid, of, sum, max, min, some, all, Bin, plus, minus, times, equal, less, and, or, Term, Terms, Quals, num, name, field, rec, bin, negate, comp, table, tnil, tcons, qnil, gen, bind, cond, Question, asTerm}
+use Rattle.spec_calculus.specs.Syntax.{Collection, Monoid, of, sum, max, min, some, all, Bin, plus, minus, times, equal, less, and, or, Fun, choice, Term, Terms, Quals, num, name, field, rec, bin, negate, app, comp, table, tnil, tcons, qnil, gen, bind, cond, Question, asTerm}
 use Rattle.spec_calculus.specs.Syntax as Sy
-use Rattle.spec_calculus.specs.Value.{Value, Values, vcons, junk, asBool, elems, fieldOf, binV, notV, Tables, kindOf, columnsOf, rowsOf}
+use Rattle.spec_calculus.specs.Value.{Value, Values, vcons, junk, asBool, elems, fieldOf, binV, notV, appV, Tables, kindOf, columnsOf, rowsOf}
 use Rattle.spec_calculus.specs.Value as Va
 use Rattle.spec_calculus.specs.Monoid.{canonical}
 use Rattle.spec_calculus.specs.Meaning.{Env, eval, evals, runs, meaning}
@@ -16,7 +16,7 @@ use Rattle.spec_calculus.proofs.Lists.{bind-bind, bind-one, guard-bind, guard-g
 use Rattle.spec_calculus.proofs.Folds.{canon, Eqv, eqv-bind, eqv-guard, fold-eqv, repeats-eqv}
 use Rattle.spec_checks.specs.Types.{Ty, Tys, number, truth, record′, coll, ynil, ycons, wrong, has, cells, typeAt, Context, mayStand, generatorsFit}
 use Rattle.spec_checks.proofs.GeneratorFits.{mayStand-trans, fit-eqv}
-use Rattle.spec_checks.proofs.Judgement.{operand, result, Gathers, Has, HasL, HasQ, untyped, same-type, question-typed}
+use Rattle.spec_checks.proofs.Judgement.{operand, result, Gathers, Has, HasL, HasQ, untyped, same-type, question-typed, Scalar, Takes}
 use Rattle.spec_normal_form.specs.Form.{Form, Clauses, done, _⊕_, gens, gensC, value, values, loops, normalValue}
 use Rattle.spec_normal_form.specs.Form as Nf
 use Rattle.spec_normal_form.specs.Normal.{Sem, Sems, row, both, nested, plain, scons, quote, quotes, idempotent, givesWay, one, condition, Splice, ranges, nth, part, pair, binary, before, SemEnv, norm, norms, walk, nowhere, normal}
@@ -261,6 +261,16 @@ module _ (T : Tables) where
   bin-ok and a b v w n ρ r s = and-ok a b v w n ρ r s
   bin-ok or a b v w n ρ r s = truth-ok _ (binV or v w) n ρ (pair-ok or a b v w n ρ (r .0) (s .0))
 
+  choice-ok : (τ : Ty) (f : ℕ → Form) (v : Value) (n : ℕ) (ρ : Env) → Scalar τ → Quotes (plain f) v n ρ → R τ (plain f) v n ρ
+  unfolding R
+  choice-ok number f v n ρ s p = p
+  choice-ok truth f v n ρ s p = truth-ok f v n ρ p
+  choice-ok (record′ us) f v n ρ s p = absurd s
+  choice-ok (coll c t) f v n ρ s p = absurd s
+
+  app-ok : (g : Fun) (us : Tys) (τ : Ty) (f : ℕ → Form) (v : Value) (n : ℕ) (ρ : Env) → Takes g us τ → Quotes (plain f) v n ρ → R τ (plain f) v n ρ
+  app-ok choice us τ f v n ρ h p = choice-ok τ f v n ρ (h .0) p
+
   mutual
     unfolding norm eval value quote R part nth Va.nth fieldOf bindL
 
@@ -270,6 +280,7 @@ module _ (T : Tables) where
     norm-ok (name x) Γ τ h δ ρ n σ E = E x τ h
     norm-ok (field i t) Γ τ h δ ρ n σ E = at-ok (h .0) i τ (part i (norm (kindOf T) t δ)) (fieldOf i (eval canonical T t ρ)) n σ (h .2) (norm-ok t Γ (record′ (h .0)) (h .1) δ ρ n σ E .1 i)
     norm-ok (rec ts) Γ τ h δ ρ n σ E = rw (h .2) (let r = norms-ok ts Γ (h .0) (h .1) δ ρ n σ E in (λ j μ e. ap Va.rec (r .0 j μ e), r .1))
+    norm-ok (app f ts) Γ τ h δ ρ n σ E = app-ok f (h .0) τ (λ j. Nf.app f (quotes (norms (kindOf T) ts δ) j)) (appV f (evals canonical T ts ρ)) n σ (h .2) (λ j μ e. ap (appV f) (norms-ok ts Γ (h .0) (h .1) δ ρ n σ E .0 j μ e))
     norm-ok (bin o s t) Γ τ h δ ρ n σ E = rw (h .2) (
         bin-ok o (norm (kindOf T) s δ) (norm (kindOf T) t δ) (eval canonical T s ρ) (eval canonical T t ρ) n σ
         (norm-ok s Γ (operand o) (h .0) δ ρ n σ E) (norm-ok t Γ (operand o) (h .1) δ ρ n σ E))

@@ -7,7 +7,7 @@ use Prim.Native.Nat.{ℕ, zero, suc, _+_}
 use native.Mathlib.Omega.{arith}
 use lib.Dec.{eqb}
 use Rattle.spec_calculus.specs.Lists.{upd}
-use Rattle.spec_calculus.specs.Syntax.{Collection, Monoid, of, sum, max, min, some, all, Bin, plus, minus, times, equal, less, and, or, Term, Terms, Quals, num, truth, name, field, rec, bin, negate, comp, table, tnil, tcons, qnil, gen, bind, cond, Question, asTerm}
+use Rattle.spec_calculus.specs.Syntax.{Collection, Monoid, of, sum, max, min, some, all, Bin, plus, minus, times, equal, less, and, or, Term, Terms, Quals, num, truth, name, field, rec, bin, negate, app, comp, table, tnil, tcons, qnil, gen, bind, cond, Question, asTerm}
 use Rattle.spec_calculus.proofs.Lists.{upd-hit}
 use Rattle.spec_checks.specs.Scope.{Scope, inScope, inScopes, inScopeQ, namesHold, distinct, binders}
 use Rattle.spec_normal_form.specs.Form.{Form, Clauses, done, _⊕_, gens, gensC, asForm}
@@ -65,6 +65,7 @@ stays-less (truth x) b c h = tt
 stays-less (name x) b c h = tt
 stays-less (field i t) b c h = tt
 stays-less (rec ts) b c h = tt
+stays-less (app f ts) b c h = tt
 stays-less (bin o s t) b c h = h
 stays-less (negate t) b c h = tt
 stays-less (comp m q x) b c h = gives-way-less m b c h
@@ -243,6 +244,7 @@ module _ (K : ℕ → Collection) (c : Bool) where
     norm-writes (name x) P h δ S e = e x h
     norm-writes (field i t) P h δ S e = part-writes i (norm K t δ) S (norm-writes t P h δ S e)
     norm-writes (rec ts) P h δ S e = norms-write ts P h δ S e
+    norm-writes (app f ts) P h δ S e = λ R n g. let x = quotes-write (norms K ts δ) R (writesL-grow (norms K ts δ) S R g (norms-write ts P h δ S e)) n in (x .0, λ b. tt, x .1)
     norm-writes (bin o s t) P h δ S e = binary-writes o (norm K s δ) (norm K t δ) S
         (norm-writes s P (λ p. and-elim-left (inScope s P) (inScope t P) (h p)) δ S e)
         (norm-writes t P (λ p. and-elim-right (inScope s P) (inScope t P) (h p)) δ S e)

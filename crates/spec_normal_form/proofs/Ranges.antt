@@ -7,7 +7,7 @@ use native.Mathlib.Omega.{arith}
 use lib.Dec.{eqb}
 use lib.Signed.{mag}
 use Rattle.spec_calculus.specs.Lists.{upd}
-use Rattle.spec_calculus.specs.Syntax.{Collection, Bin, plus, minus, times, equal, less, and, or, Term, Terms, Quals, num, truth, name, field, rec, bin, negate, comp, table, tnil, tcons, qnil, gen, bind, cond, Question, asTerm}
+use Rattle.spec_calculus.specs.Syntax.{Collection, Bin, plus, minus, times, equal, less, and, or, arity, Term, Terms, Quals, num, truth, name, field, rec, bin, negate, app, comp, table, tnil, tcons, qnil, gen, bind, cond, Question, asTerm}
 use Rattle.spec_checks.specs.Scope.{namesHold}
 use Rattle.spec_normal_form.specs.Form.{Form, Forms, Clauses, fnil, fcons, done, _⊕_, gens, gensF, gensC, asForm}
 use Rattle.spec_normal_form.specs.Form as Nf
@@ -16,7 +16,20 @@ use Rattle.spec_normal_form.specs.Size.{nodes, nodesF, nodesC}
 use Rattle.spec_normal_form.proofs.WriteOut.{condition-cases, normal-is-quote}
 use Rattle.spec_normal_form.proofs.GeneratorNumbers.{Numbered, NumberedF, NumberedC, normal-numbered}
 
--- constants are "signed, four bytes each"; a field's index and a table's number are one byte
+-- n terms, n forms
+abbrev pub ExactlyL : ℕ → Terms → Type 0
+ExactlyL zero tnil = Unit {0}
+ExactlyL zero (tcons t ts) = ⊥
+ExactlyL (suc n) tnil = ⊥
+ExactlyL (suc n) (tcons t ts) = ExactlyL n ts
+
+abbrev pub Exactly : ℕ → Forms → Type 0
+Exactly zero fnil = Unit {0}
+Exactly zero (fcons t ts) = ⊥
+Exactly (suc n) fnil = ⊥
+Exactly (suc n) (fcons t ts) = Exactly n ts
+
+-- constants are "signed, four bytes each"; a field's index and a table's number are one byte; an operator has as many terms as it takes
 abbrev mutual
   pub InRange : Term → Type 0
   InRange (num z) = mag z < 2 ^ 31
@@ -24,6 +37,7 @@ abbrev mutual
   InRange (name x) = Unit {0}
   InRange (field i t) = (i < 256) × InRange t
   InRange (rec ts) = InRangeL ts
+  InRange (app f ts) = ExactlyL (arity f) ts × InRangeL ts
   InRange (bin o s t) = InRange s × InRange t
   InRange (negate t) = InRange t
   InRange (comp m qs h) = InRangeQ qs × InRange h
@@ -50,6 +64,7 @@ abbrev mutual
   Ranged (Nf.row g) = Unit {0}
   Ranged (Nf.cell i g) = i < 256
   Ranged (Nf.rec ts) = RangedF ts
+  Ranged (Nf.app f ts) = Exactly (arity f) ts × RangedF ts
   Ranged (Nf.bin o s t) = Ranged s × Ranged t
   Ranged (Nf.negate t) = Ranged t
   Ranged (Nf.comp m q h) = RangedC q × Ranged h
@@ -172,6 +187,13 @@ upd-writes x d δ a e y = go (eqb x y) refl
     go false p = rw (p, upd) (e y)
 
 module _ (K : ℕ → Collection) where
+  exactly-written : (k : ℕ) (ts : Terms) (δ : SemEnv) (n : ℕ) → ExactlyL k ts → Exactly k (quotes (norms K ts δ) n)
+  unfolding norm quote
+  exactly-written zero tnil δ n x = tt
+  exactly-written zero (tcons t ts) δ n x = x
+  exactly-written (suc k) tnil δ n x = x
+  exactly-written (suc k) (tcons t ts) δ n x = exactly-written k ts δ (n + gens (quote (norm K t δ) n)) x
+
   mutual
     unfolding norm Writes
 
@@ -181,6 +203,7 @@ module _ (K : ℕ → Collection) where
     norm-writes (name x) r δ e = e x
     norm-writes (field i t) r δ e = part-writes i (norm K t δ) (r .0) (norm-writes t (r .1) δ e)
     norm-writes (rec ts) r δ e = norms-write ts r δ e
+    norm-writes (app f ts) r δ e = λ n. (exactly-written (arity f) ts δ n (r .0), quotes-write (norms K ts δ) (norms-write ts (r .1) δ e) n)
     norm-writes (bin o s t) r δ e = binary-writes o (norm K s δ) (norm K t δ) (norm-writes s (r .0) δ e) (norm-writes t (r .1) δ e)
     norm-writes (negate t) r δ e = λ n. quote-writes (norm K t δ) (norm-writes t r δ e) n
     norm-writes (comp m qs t) r δ e = λ b n. walk-writes qs (r .0) (b || idempotent m) (λ ε. norm K t ε) (λ ε f. norm-writes t (r .1) ε f) δ n e
@@ -216,6 +239,7 @@ abbrev mutual
   Below m (Nf.row g) = g < m
   Below m (Nf.cell i g) = g < m
   Below m (Nf.rec ts) = BelowF m ts
+  Below m (Nf.app f ts) = BelowF m ts
   Below m (Nf.bin o s t) = Below m s × Below m t
   Below m (Nf.negate t) = Below m t
   Below m (Nf.comp o q h) = BelowC m q × Below m h
@@ -240,6 +264,7 @@ module _ (m : ℕ) where
     numbered-below (Nf.row g) i a l = omega (arith, a, l)
     numbered-below (Nf.cell f g) i a l = omega (arith, a, l)
     numbered-below (Nf.rec ts) i a l = numbered-belowF ts i a l
+    numbered-below (Nf.app f ts) i a l = numbered-belowF ts i a l
     numbered-below (Nf.bin o s t) i a l = (numbered-below s i (a .0) (omega (arith, l)), numbered-below t (i + gens s) (a .1) (omega (arith, l)))
     numbered-below (Nf.negate t) i a l = numbered-below t i a l
     numbered-below (Nf.comp o q h) i a l = (numbered-belowC q i (a .0) (omega (arith, l)), numbered-below h (i + gensC q) (a .1) (omega (arith, l)))
@@ -263,6 +288,7 @@ mutual
   two-each (Nf.row g) = omega arith
   two-each (Nf.cell i g) = omega arith
   two-each (Nf.rec ts) = omega (arith, two-eachF ts)
+  two-each (Nf.app f ts) = omega (arith, two-eachF ts)
   two-each (Nf.bin o s t) = omega (arith, two-each s, two-each t)
   two-each (Nf.negate t) = omega (arith, two-each t)
   two-each (Nf.comp m q h) = omega (arith, two-eachC q, two-each h)

@@ -3,7 +3,7 @@ use mathlib.Core.Path.{_≡_, refl, sym, ap, ap₂, _∙_, fun-ext}
 use mathlib.Core.List.{List, [], _∷_, map}
 use mathlib.Core.Bool.{not}
 use Rattle.spec_calculus.specs.Lists.{bindL, guard, upd}
-use Rattle.spec_calculus.specs.Value.{Value, vcons, junk, asBool, binV, notV, Tables, rowsOf}
+use Rattle.spec_calculus.specs.Value.{Value, vcons, junk, asBool, binV, notV, appV, Tables, rowsOf}
 use Rattle.spec_calculus.specs.Value as Va
 use Rattle.spec_calculus.specs.Monoid.{Entry, foldBy, ordered, canonical, raw}
 use Rattle.spec_calculus.specs.Meaning.{Env}
@@ -11,8 +11,8 @@ use Rattle.spec_calculus.proofs.Lists.{map-bind, map-guard}
 use Rattle.spec_checks.specs.Types.{Ty, Tys, number, record′, ynil, ycons}
 use Rattle.spec_checks.specs.Types as Types
 use Rattle.spec_checks.proofs.Judgement.{result}
-use Rattle.spec_checks.proofs.Refold.{onParts, refold, refolds, arrangeAs, gathered, refold-reads, bin-refold, fold-refold}
-use Rattle.spec_normal_form.specs.Form.{Form, Forms, Clauses, NormalForm, asForm, num, truth, row, cell, rec, bin, negate, comp, fnil, fcons, done, gen, cond, value, values, loops, normalValue}
+use Rattle.spec_checks.proofs.Refold.{onParts, refold, refolds, arrangeAs, gathered, refold-reads, bin-refold, gives, app-refold, fold-refold}
+use Rattle.spec_normal_form.specs.Form.{Form, Forms, Clauses, NormalForm, asForm, num, truth, row, cell, rec, bin, negate, app, comp, fnil, fcons, done, gen, cond, value, values, loops, normalValue}
 
 -- a normal form as its own type; a row has no collection in it, so it is left as a number is
 unfoldable mutual
@@ -22,6 +22,7 @@ unfoldable mutual
   shape (row g) = number
   shape (cell i g) = number
   shape (rec ts) = record′ (shapes ts)
+  shape (app f ts) = gives f (shapes ts)
   shape (bin o s t) = result o
   shape (negate t) = Types.truth
   shape (comp m q h) = gathered m (shape h)
@@ -44,6 +45,7 @@ module _ (E : Entry) (T : Tables) where
     value-refold (row g) ρ = refl
     value-refold (cell i g) ρ = refl
     value-refold (rec ts) ρ = ap Va.rec (values-refold ts ρ)
+    value-refold (app f ts) ρ = ap (appV f) (values-refold ts ρ) ∙ app-refold E f (shapes ts) (values raw T ts ρ)
     value-refold (bin o s t) ρ = ap₂ (binV o) (value-refold s ρ) (value-refold t ρ) ∙ bin-refold E o (shape s) (shape t) (value raw T s ρ) (value raw T t ρ)
     value-refold (negate t) ρ = ap notV (value-refold t ρ) ∙ ap (λ b. Va.truth (not b)) (refold-reads E (shape t) (value raw T t ρ) .1)
     value-refold (comp m q h) ρ =

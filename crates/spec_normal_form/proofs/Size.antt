@@ -6,7 +6,7 @@ use native.Mathlib.Omega.{arith}
 use lib.Dec.{eqb, leb}
 use lib.IntN.{pos}
 use Rattle.spec_calculus.specs.Lists.{pick, upd}
-use Rattle.spec_calculus.specs.Syntax.{Collection, bag, Monoid, of, sum, Bin, plus, minus, times, equal, less, and, or, Term, Terms, Quals, num, truth, name, field, rec, bin, negate, comp, table, tnil, tcons, qnil, gen, bind, cond, Question, asTerm}
+use Rattle.spec_calculus.specs.Syntax.{Collection, bag, Monoid, of, sum, Bin, plus, minus, times, equal, less, and, or, Term, Terms, Quals, num, truth, name, field, rec, bin, negate, app, comp, table, tnil, tcons, qnil, gen, bind, cond, Question, asTerm}
 use Rattle.spec_normal_form.specs.Form.{Form, Clauses, done, _⊕_, gens, gensC, asForm}
 use Rattle.spec_normal_form.specs.Form as Nf
 use Rattle.spec_normal_form.specs.Size.{nodes, nodesF, nodesC, sizeFits}
@@ -102,6 +102,7 @@ unfoldable mutual
   measure K (name x) ζ = ζ x
   measure K (field i t) ζ = asField i (measure K t ζ)
   measure K (rec ts) ζ = zfields (measures K ts ζ)
+  measure K (app f ts) ζ = zplain (1 + asNodesL (measures K ts ζ))
   measure K (bin o s t) ζ = zbinary o (measure K s ζ) (measure K t ζ)
   measure K (negate t) ζ = zplain (1 + asNodes (measure K t ζ))
   measure K (comp m qs h) ζ = znested m (λ b. tally K qs (b || idempotent m) (λ ξ. measure K h ξ) ζ .count) (λ b. tally K qs (b || idempotent m) (λ ξ. measure K h ξ) ζ .end)
@@ -258,6 +259,7 @@ module _ (K : ℕ → Collection) where
     norm-size (name x) δ ζ e = e x
     norm-size (field i t) δ ζ e = part-size i (norm K t δ) (measure K t ζ) (norm-size t δ ζ e)
     norm-size (rec ts) δ ζ e = (measures K ts ζ, norms-size ts δ ζ e, refl)
+    norm-size (app f ts) δ ζ e = (1 + asNodesL (measures K ts ζ), λ n. ap (λ a. 1 + a) (quotes-size (norms K ts δ) (measures K ts ζ) (norms-size ts δ ζ e) n), refl)
     norm-size (bin o s t) δ ζ e = binary-size o (norm K s δ) (norm K t δ) (measure K s ζ) (measure K t ζ) (norm-size s δ ζ e) (norm-size t δ ζ e)
     norm-size (negate t) δ ζ e = (1 + asNodes (measure K t ζ), λ n. ap (λ a. 1 + a) (quote-size (norm K t δ) (measure K t ζ) (norm-size t δ ζ e) n), refl)
     norm-size (comp m qs h) δ ζ e = (

@@ -6,7 +6,7 @@ use Prim.Native.Nat.{ℕ}
 use native.Mathlib.Omega.{arith}
 use Rattle.spec_calculus.specs.Lists.{bindL, guard, upd}
 use Rattle.spec_calculus.specs.Syntax.{list, bag, Monoid, of, sum, max, min, some, all}
-use Rattle.spec_calculus.specs.Value.{Value, vcons, asBool, binV, notV, Tables, rowsOf}
+use Rattle.spec_calculus.specs.Value.{Value, vcons, asBool, binV, notV, appV, Tables, rowsOf}
 use Rattle.spec_calculus.specs.Value as Va
 use Rattle.spec_calculus.specs.Order.{leV, insert}
 use Rattle.spec_calculus.specs.Monoid.{Entry, start, step, finish, foldBy, ordered, canonical}
@@ -88,6 +88,7 @@ module _ (T U : Tables) (rows : (k : ℕ) → Rearranged (rowsOf T k) (rowsOf U 
     value-sorted (row g) ρ = refl
     value-sorted (cell i g) ρ = refl
     value-sorted (Nf.rec ts) ρ = ap Va.rec (values-sorted ts ρ)
+    value-sorted (Nf.app f ts) ρ = ap (appV f) (values-sorted ts ρ)
     value-sorted (Nf.bin o s t) ρ = ap₂ (binV o) (value-sorted s ρ) (value-sorted t ρ)
     value-sorted (Nf.negate t) ρ = ap notV (value-sorted t ρ)
     value-sorted (Nf.comp m q h) ρ = sorted-unseen m (loops-sorted q (λ σ. value (foldBy sorted) T h σ ∷ []) (λ σ. value (foldBy sorted) U h σ ∷ []) (λ σ. rearranged-path (ap (λ v. v ∷ []) (value-sorted h σ))) ρ)

@@ -5,12 +5,12 @@ use mathlib.Core.List.{List, [], _∷_, _++_}
 use Prim.Native.Nat.{ℕ}
 use lib.Dec.{eqb, eqb→eq}
 use Rattle.spec_calculus.specs.Lists.{pick, upd}
-use Rattle.spec_calculus.specs.Syntax.{Collection, Term, Terms, Quals, num, truth, name, field, rec, bin, negate, comp, table, tnil, tcons, qnil, gen, bind, cond}
+use Rattle.spec_calculus.specs.Syntax.{Collection, Term, Terms, Quals, num, truth, name, field, rec, bin, negate, app, comp, table, tnil, tcons, qnil, gen, bind, cond}
 use Rattle.spec_calculus.proofs.Lists.{upd-same, upd-other}
 use Rattle.spec_checks.specs.Scope.{Scope, inScope, binders, bindersL, bindersQ}
 use Rattle.spec_normal_form.specs.Form.{done}
 use Rattle.spec_normal_form.specs.Form as Nf
-use Rattle.spec_normal_form.specs.Normal.{Sem, fields, plain, scons, quote, idempotent, condition, ranges, part, binary, before, SemEnv, norm, norms, walk}
+use Rattle.spec_normal_form.specs.Normal.{Sem, fields, plain, scons, quote, idempotent, condition, ranges, part, binary, applied, before, SemEnv, norm, norms, walk}
 use Rattle.spec_normal_form.specs.Rules.{sub, subL, subQ, Fresh}
 use Rattle.spec_normal_form.proofs.WriteOut.{spliceOf}
 use Rattle.spec_normal_form.proofs.Locality.{agree-out, comp-cong, norm-agree}
@@ -55,6 +55,7 @@ module _ (K : ℕ → Collection) (S : Scope) (x : ℕ) (sx : S x ≡ true) (s :
     sub-ok (name y) c δ e = name-sub y δ e
     sub-ok (field i t) c δ e = ap (part i) (sub-ok t c δ e)
     sub-ok (rec ts) c δ e = ap fields (subL-ok ts c δ e)
+    sub-ok (app f ts) c δ e = ap (applied f) (subL-ok ts c δ e)
     sub-ok (bin o t u) c δ e = let f = fresh-split S (binders t) (binders u) c in ap₂ (binary o) (sub-ok t (f .0) δ e) (sub-ok u (f .1) δ e)
     sub-ok (negate t) c δ e = ap (λ z. plain (λ n. Nf.negate (quote z n))) (sub-ok t c δ e)
     sub-ok (comp m qs h) c δ e =

@@ -5,8 +5,8 @@ use mathlib.Core.Bool.{Bool}
 use Prim.Native.Nat.{ℕ, suc, _+_}
 use lib.IntN.{ℤ}
 use Rattle.spec_calculus.specs.Lists.{bindL, guard, upd}
-use Rattle.spec_calculus.specs.Syntax.{Monoid, Bin}
-use Rattle.spec_calculus.specs.Value.{Value, Values, vnil, vcons, junk, asBool, fieldOf, binV, notV, Tables, rowsOf}
+use Rattle.spec_calculus.specs.Syntax.{Monoid, Bin, Fun}
+use Rattle.spec_calculus.specs.Value.{Value, Values, vnil, vcons, junk, asBool, fieldOf, binV, notV, appV, Tables, rowsOf}
 use Rattle.spec_calculus.specs.Value as Va
 use Rattle.spec_calculus.specs.Monoid.{Fold}
 use Rattle.spec_calculus.specs.Meaning.{Env}
@@ -20,6 +20,7 @@ mutual
     rec : Forms → Form
     bin : Bin → Form → Form → Form
     negate : Form → Form
+    app : Fun → Forms → Form
     comp : Monoid → Clauses → Form → Form
 
   pub data Forms : Type 0 where
@@ -55,6 +56,7 @@ unfoldable mutual
   gens (row g) = 0
   gens (cell i g) = 0
   gens (rec ts) = gensF ts
+  gens (app f ts) = gensF ts
   gens (bin o s t) = gens s + gens t
   gens (negate t) = gens t
   gens (comp m q h) = gensC q + gens h
@@ -76,6 +78,7 @@ unfoldable mutual
   value F T (row g) ρ = ρ g
   value F T (cell i g) ρ = fieldOf i (ρ g)
   value F T (rec ts) ρ = Va.rec (values F T ts ρ)
+  value F T (app f ts) ρ = appV f (values F T ts ρ)
   value F T (bin o s t) ρ = binV o (value F T s ρ) (value F T t ρ)
   value F T (negate t) ρ = notV (value F T t ρ)
   value F T (comp m q h) ρ = F m (loops F T q (λ σ. value F T h σ ∷ []) ρ)

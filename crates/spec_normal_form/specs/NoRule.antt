@@ -4,7 +4,7 @@ use mathlib.Core.Path.{_≡_}
 use mathlib.Core.Bool.{Bool, true, false}
 use Prim.Native.Nat.{ℕ, suc, _+_}
 use Rattle.spec_calculus.specs.Lists.{upd}
-use Rattle.spec_calculus.specs.Syntax.{Bin, plus, minus, times, equal, less, and, or, Term, Terms, Quals, num, truth, name, field, rec, bin, negate, comp, table, tnil, tcons, qnil, gen, bind, cond, Question}
+use Rattle.spec_calculus.specs.Syntax.{Bin, plus, minus, times, equal, less, and, or, Term, Terms, Quals, num, truth, name, field, rec, bin, negate, app, comp, table, tnil, tcons, qnil, gen, bind, cond, Question}
 use Rattle.spec_checks.specs.Scope.{Scope}
 use Rattle.spec_normal_form.specs.Form.{Form, Forms, Clauses, NormalForm, fnil, fcons, done, gens, gensC}
 use Rattle.spec_normal_form.specs.Form as Nf
@@ -18,6 +18,7 @@ unfoldable mutual
   termOf (Nf.row g) = name g
   termOf (Nf.cell i g) = field i (name g)
   termOf (Nf.rec ts) = rec (termsOf ts)
+  termOf (Nf.app f ts) = app f (termsOf ts)
   termOf (Nf.bin o s t) = bin o (termOf s) (termOf t)
   termOf (Nf.negate t) = negate (termOf t)
   termOf (Nf.comp m q h) = comp m (qualsOf q) (termOf h)
@@ -40,6 +41,7 @@ NotRecord (truth b) = Unit {0}
 NotRecord (name x) = Unit {0}
 NotRecord (field i t) = Unit {0}
 NotRecord (rec ts) = ⊥
+NotRecord (app f ts) = Unit {0}
 NotRecord (bin o s t) = Unit {0}
 NotRecord (negate t) = Unit {0}
 NotRecord (comp m q h) = Unit {0}
@@ -51,6 +53,7 @@ IsTable (truth b) = ⊥
 IsTable (name x) = ⊥
 IsTable (field i t) = ⊥
 IsTable (rec ts) = ⊥
+IsTable (app f ts) = ⊥
 IsTable (bin o s t) = ⊥
 IsTable (negate t) = ⊥
 IsTable (comp m q h) = ⊥
@@ -72,6 +75,7 @@ Stays b (truth x) = Unit {0}
 Stays b (name x) = Unit {0}
 Stays b (field i t) = Unit {0}
 Stays b (rec ts) = Unit {0}
+Stays b (app f ts) = Unit {0}
 Stays b (bin o s t) = NotAnd o
 Stays b (negate t) = Unit {0}
 Stays b (comp m q h) = givesWay m b ≡ false
@@ -87,6 +91,7 @@ unfoldable mutual
   NoRule (name x) = Unit {0}
   NoRule (field i t) = NotRecord t × NoRule t  -- (2)
   NoRule (rec ts) = NoRuleL ts
+  NoRule (app f ts) = NoRuleL ts
   NoRule (bin o s t) = NoRule s × NoRule t
   NoRule (negate t) = NoRule t
   NoRule (comp m q h) = NoRuleQ q (idempotent m) × NoRule h
@@ -118,6 +123,7 @@ unfoldable mutual
   Ordered (Nf.row g) S i = S g ≡ true
   Ordered (Nf.cell f g) S i = S g ≡ true
   Ordered (Nf.rec ts) S i = OrderedF ts S i
+  Ordered (Nf.app f ts) S i = OrderedF ts S i
   Ordered (Nf.bin o s t) S i = Ordered s S i × Ordered t S (i + gens s)
   Ordered (Nf.negate t) S i = Ordered t S i
   Ordered (Nf.comp m q h) S i = OrderedC q S i × Ordered h (behind q S) (i + gensC q)

@@ -6,7 +6,7 @@ use mathlib.Core.Bool.{Bool, true, false, _||_}
 use Prim.Native.Nat.{ℕ, zero, suc, _+_}
 use lib.IntN.{pos}
 use Rattle.spec_calculus.specs.Lists.{upd}
-use Rattle.spec_calculus.specs.Syntax.{Collection, list, bag, set, Monoid, of, sum, max, min, some, all, Bin, plus, minus, times, equal, less, and, or, Term, Terms, Quals, num, truth, name, field, rec, bin, negate, comp, table, tnil, tcons, qnil, gen, bind, cond, Question}
+use Rattle.spec_calculus.specs.Syntax.{Collection, list, bag, set, Monoid, of, sum, max, min, some, all, Bin, plus, minus, times, equal, less, and, or, Fun, Term, Terms, Quals, num, truth, name, field, rec, bin, negate, app, comp, table, tnil, tcons, qnil, gen, bind, cond, Question}
 use Rattle.spec_normal_form.specs.Form.{Form, Forms, Clauses, fnil, fcons, done, _⊕_, gens, gensC, NormalForm}
 use Rattle.spec_normal_form.specs.Form as Nf
 
@@ -119,6 +119,10 @@ binary less a b = pair less a b
 binary and a b = both a b
 binary or a b = pair or a b
 
+-- An operator of document 02 stands as it was asked: 02 adds no rule, so it is not simplified, nor split where it is a condition.
+abbrev pub applied : Fun → Sems → Sem
+applied f ds = plain (λ n. Nf.app f (quotes ds n))
+
 -- clauses written from n on, and what comes behind them
 unfoldable pub before : Clauses → ℕ → (ℕ → Splice) → Splice
 before w n k = let s = k (n + gensC w) in record { clauses = w ⊕ s .clauses; head = s .head }
@@ -138,6 +142,7 @@ unfoldable mutual
   norm K (name x) δ = δ x
   norm K (field i t) δ = part i (norm K t δ)
   norm K (rec ts) δ = fields (norms K ts δ)
+  norm K (app f ts) δ = applied f (norms K ts δ)
   norm K (bin o s t) δ = binary o (norm K s δ) (norm K t δ)
   norm K (negate t) δ = plain (λ n. Nf.negate (quote (norm K t δ) n))
   norm K (comp m qs h) δ = nested m (λ b n. walk K qs (b || idempotent m) (λ ε. norm K h ε) δ n .clauses) (λ b n. walk K qs (b || idempotent m) (λ ε. norm K h ε) δ n .head)

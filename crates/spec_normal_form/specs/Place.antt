@@ -1,6 +1,6 @@
 -- Any place of a term: a term with one hole, and what fills it. A rule of document 01 is applied wherever it applies.
 use Prim.Native.Nat.{ℕ}
-use Rattle.spec_calculus.specs.Syntax.{Monoid, Bin, Term, Terms, Quals, tcons}
+use Rattle.spec_calculus.specs.Syntax.{Monoid, Bin, Fun, Term, Terms, Quals, tcons}
 use Rattle.spec_calculus.specs.Syntax as Sy
 
 mutual
@@ -11,6 +11,7 @@ mutual
     binLeft : Bin → Place → Term → Place
     binRight : Bin → Term → Place → Place
     negate : Place → Place
+    app : Fun → Places → Place
     quals : Monoid → PlaceQ → Term → Place
     head : Monoid → Quals → Place → Place
 
@@ -32,6 +33,7 @@ unfoldable mutual
   put hole s = s
   put (field i p) s = Sy.field i (put p s)
   put (rec p) s = Sy.rec (putL p s)
+  put (app f p) s = Sy.app f (putL p s)
   put (binLeft o p t) s = Sy.bin o (put p s) t
   put (binRight o t p) s = Sy.bin o t (put p s)
   put (negate p) s = Sy.negate (put p s)

@@ -6,7 +6,7 @@ use Prim.Native.Nat.{ℕ, zero, suc}
 use lib.Dec.{eqb}
 use lib.IntN.{pos}
 use Rattle.spec_calculus.specs.Lists.{pick, upd}
-use Rattle.spec_calculus.specs.Syntax.{Collection, Monoid, of, some, and, Term, Terms, Quals, num, truth, name, field, rec, bin, negate, comp, table, tnil, tcons, qnil, gen, bind, cond}
+use Rattle.spec_calculus.specs.Syntax.{Collection, Monoid, of, some, and, Term, Terms, Quals, num, truth, name, field, rec, bin, negate, app, comp, table, tnil, tcons, qnil, gen, bind, cond}
 use Rattle.spec_checks.specs.Scope.{Scope, inScope, inScopeQ, binders, bindersQ}
 use Rattle.spec_checks.specs.Types.{mayStand}
 use Rattle.spec_normal_form.specs.Normal.{idempotent}
@@ -20,6 +20,7 @@ unfoldable mutual
   sub x s (name y) = pick (eqb x y) s (name y)
   sub x s (field i t) = field i (sub x s t)
   sub x s (rec ts) = rec (subL x s ts)
+  sub x s (app f ts) = app f (subL x s ts)
   sub x s (bin o t u) = bin o (sub x s t) (sub x s u)
   sub x s (negate t) = negate (sub x s t)
   sub x s (comp m qs h) = comp m (subQ x s qs) (sub x s h)

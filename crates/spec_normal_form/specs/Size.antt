@@ -2,7 +2,7 @@
 use mathlib.Core.Bool.{Bool}
 use Prim.Native.Nat.{ℕ, _+_}
 use lib.Dec.{leb}
-use Rattle.spec_normal_form.specs.Form.{Form, Forms, Clauses, NormalForm, asForm, num, truth, row, cell, rec, bin, negate, comp, fnil, fcons, done, gen, cond}
+use Rattle.spec_normal_form.specs.Form.{Form, Forms, Clauses, NormalForm, asForm, num, truth, row, cell, rec, bin, negate, app, comp, fnil, fcons, done, gen, cond}
 
 -- A cell is a field and a name; a generator is itself and its table.
 unfoldable mutual
@@ -12,6 +12,7 @@ unfoldable mutual
   nodes (row g) = 1
   nodes (cell i g) = 2
   nodes (rec ts) = 1 + nodesF ts
+  nodes (app f ts) = 1 + nodesF ts  -- "It is one node." (document 02, E2)
   nodes (bin o s t) = 1 + (nodes s + nodes t)
   nodes (negate t) = 1 + nodes t
   nodes (comp m q h) = 1 + (nodesC q + nodes h)

@@ -1,7 +1,7 @@
 -- The starred cases: the values of their plans, and their lines.
 use mathlib.Core.Path.{_≡_, refl}
 use Rattle.spec_calculus.specs.Lists.{bindL, guard, pick, upd}
-use Rattle.spec_calculus.specs.Value.{nth, fieldOf, asInt, asBool, elems, eqZ, binV, count, kindOf, rowsOf}
+use Rattle.spec_calculus.specs.Value.{nth, fieldOf, asInt, asBool, elems, eqZ, binV, scalar, choiceV, appV, count, kindOf, rowsOf}
 use Rattle.spec_calculus.specs.Order.{then, compareZ, compareV, leV, insert, put}
 use Rattle.spec_calculus.specs.Monoid.{start, greater, lesser, against, step, total, finish, foldBy, ordered, canonical}
 use Rattle.spec_calculus.specs.Cases.{Case, answers, prints, refuses, starred}
@@ -11,7 +11,7 @@ use Rattle.spec_normal_form.specs.Normal.{quote, idempotent, givesWay, conditio
 use Rattle.spec_normal_form.specs.Normal as Nm
 use Rattle.spec_plan.specs.Operators.{valueOf, at, evalP, meets, whole, sourceRows, numbered, matches, kept, matchesOrPad, number, same, enter, heads, groups, close, apply, exec, one, planValue}
 use Rattle.spec_plan.specs.Planner.{free, mentions, next, term, nextL, termL, joined, conj, source, gensOf, condsOf, orUnit, planGens, sift, early, late, slot, slots, after, mentioned, lastOf, home, growsAt, grows, ops, planOf}
-use Rattle.spec_plan.specs.Lines.{ascii, digits, decimal, signedDecimal, monoidName, binName, truthName, showTerm, showSource, showLast, showOp, showOps, lines}
+use Rattle.spec_plan.specs.Lines.{ascii, digits, decimal, signedDecimal, monoidName, binName, funName, truthName, showTerm, showSource, showLast, showOp, showOps, lines}
 
 -- the definitions that a plan's making and running compute with
 unfoldable pub planning : Unit {0}
@@ -19,11 +19,11 @@ unfolding upd pick kindOf _⊕_ gens quote idempotent givesWay condition ranges 
 planning = tt
 
 unfoldable pub running : Unit {0}
-unfolding bindL guard pick nth fieldOf asInt asBool elems eqZ binV count rowsOf then compareZ compareV leV insert put start greater lesser against step total finish foldBy ordered canonical valueOf at evalP meets whole sourceRows numbered matches kept matchesOrPad number same enter heads groups close apply exec one planValue
+unfolding bindL guard pick nth fieldOf asInt asBool elems eqZ binV scalar choiceV appV count rowsOf then compareZ compareV leV insert put start greater lesser against step total finish foldBy ordered canonical valueOf at evalP meets whole sourceRows numbered matches kept matchesOrPad number same enter heads groups close apply exec one planValue
 running = tt
 
 unfoldable pub printing : Unit {0}
-unfolding ascii digits decimal signedDecimal monoidName binName truthName showTerm showSource showLast showOp showOps lines
+unfolding ascii digits decimal signedDecimal monoidName binName funName truthName showTerm showSource showLast showOp showOps lines
 printing = tt
 
 abbrev pub Planned : Case → Type 0
@@ -33,4 +33,4 @@ Planned (refuses T q n) = Unit {0}
 
 pub starred-planned : All Planned starred
 unfolding planning running printing
-starred-planned = (refl, (refl, (refl, (refl, (refl, (refl, (refl, (refl, (refl, (refl, (refl, (refl, (refl, (refl, (refl, (refl, (refl, (tt, (refl, tt)))))))))))))))))))
+starred-planned = (refl, (refl, (refl, (refl, (refl, (refl, (refl, (refl, (refl, (refl, (refl, (refl, (refl, (refl, (refl, (refl, (refl, (tt, (refl, (refl, (refl, (tt, (tt, (tt, (refl, (refl, (refl, (refl, (refl, (refl, (tt, (tt, (tt, (tt, tt))))))))))))))))))))))))))))))))))

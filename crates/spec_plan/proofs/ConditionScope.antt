@@ -2,7 +2,7 @@
 use mathlib.Core.Path.{_≡_}
 use mathlib.Core.List.{List, [], _∷_}
 use mathlib.Core.Bool.{Bool, true, not, _&&_}
-use Rattle.spec_normal_form.specs.Form.{Form, Forms, Clauses, num, truth, row, cell, rec, bin, negate, comp, fnil, fcons, done, gen, cond}
+use Rattle.spec_normal_form.specs.Form.{Form, Forms, Clauses, num, truth, row, cell, rec, bin, negate, app, comp, fnil, fcons, done, gen, cond}
 use Rattle.spec_plan.specs.Planner.{mentions, Gen, from, fromUnit, gensOf}
 
 -- whether a term mentions none of these generators
@@ -19,6 +19,7 @@ abbrev mutual
   Scoped (row g) = Unit {0}
   Scoped (cell i g) = Unit {0}
   Scoped (rec ts) = ScopedF ts
+  Scoped (app f ts) = ScopedF ts
   Scoped (bin o s t) = Scoped s × Scoped t
   Scoped (negate t) = Scoped t
   Scoped (comp m q h) = ScopedC q × Scoped h

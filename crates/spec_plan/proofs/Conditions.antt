@@ -6,12 +6,12 @@ use mathlib.Core.Bool.{Bool, true, false, _&&_, _||_, not, and-assoc, or-true, a
 use Prim.Native.Nat.{ℕ}
 use lib.Dec.{eqb, eqb→eq}
 use Rattle.spec_calculus.specs.Lists.{bindL, guard, pick, upd}
-use Rattle.spec_calculus.specs.Value.{Value, vcons, asBool, fieldOf, binV, notV, Tables, rowsOf}
+use Rattle.spec_calculus.specs.Value.{Value, vcons, asBool, fieldOf, binV, notV, appV, Tables, rowsOf}
 use Rattle.spec_calculus.specs.Value as Va
 use Rattle.spec_calculus.specs.Monoid.{Fold}
 use Rattle.spec_calculus.specs.Meaning.{Env}
 use Rattle.spec_calculus.proofs.Lists.{bind-ext, bind-guard, guard-guard, All, all-any, all-zip, all-imp, upd-other}
-use Rattle.spec_normal_form.specs.Form.{Form, Forms, Clauses, num, truth, row, cell, rec, bin, negate, comp, fnil, fcons, done, gen, cond, value, values, loops}
+use Rattle.spec_normal_form.specs.Form.{Form, Forms, Clauses, num, truth, row, cell, rec, bin, negate, app, comp, fnil, fcons, done, gen, cond, value, values, loops}
 use Rattle.spec_plan.specs.Operators.{sourceRows}
 use Rattle.spec_plan.specs.Planner.{free, mentions, mentionsF, mentionsC, Gen, from, fromUnit, source, gensOf, condsOf, orUnit, planGens, sift, early, late}
 use Rattle.spec_plan.proofs.StreamRows.{eqb-self}
@@ -76,6 +76,7 @@ module _ (F : Fold) (T : Tables) where
     agree (row g) ρ σ a = a g (eqb-self g)
     agree (cell i g) ρ σ a = ap (fieldOf i) (a g (eqb-self g))
     agree (rec ts) ρ σ a = ap Va.rec (agreeF ts ρ σ a)
+    agree (app f ts) ρ σ a = ap (appV f) (agreeF ts ρ σ a)
     agree (bin o s t) ρ σ a = ap₂ (binV o) (agree s ρ σ (λ x e. a x (or-l (mentions x s) (mentions x t) e))) (agree t ρ σ (λ x e. a x (or-r (mentions x s) (mentions x t) e)))
     agree (negate t) ρ σ a = ap notV (agree t ρ σ a)
     agree (comp m q h) ρ σ a = ap (F m) (agreeC q (λ x. mentions x h) (λ τ. value F T h τ ∷ []) (λ τ υ b. ap (λ v. v ∷ []) (agree h τ υ b)) ρ σ

@@ -5,14 +5,14 @@ use mathlib.Core.Path.{_≡_, refl, ap, ap₂}
 use mathlib.Core.List.{List, [], _∷_, _++_}
 use Prim.Native.Nat.{ℕ, suc, _+_}
 use Rattle.spec_calculus.specs.Lists.{bindL}
-use Rattle.spec_calculus.specs.Syntax.{sum, equal, Term, Terms, Quals, num, truth, name, field, rec, bin, negate, comp, table, tnil, tcons, qnil, gen, bind, cond}
-use Rattle.spec_calculus.specs.Value.{vcons, fieldOf, binV, notV, Tables}
+use Rattle.spec_calculus.specs.Syntax.{sum, equal, Term, Terms, Quals, num, truth, name, field, rec, bin, negate, app, comp, table, tnil, tcons, qnil, gen, bind, cond}
+use Rattle.spec_calculus.specs.Value.{vcons, fieldOf, binV, notV, appV, Tables}
 use Rattle.spec_calculus.specs.Value as Va
 use Rattle.spec_calculus.specs.Monoid.{Fold}
 use Rattle.spec_calculus.specs.Meaning.{Env, eval, evals}
 use Rattle.spec_calculus.proofs.Lists.{All, all-any}
 use Rattle.spec_normal_form.specs.Form.{NormalForm}
-use Rattle.spec_plan.specs.Plan.{PTerm, PTerms, pnum, ptruth, place, pfield, prec, pbin, pnegate, pnil, pcons, Op, join, outer, nest, Plan, plan}
+use Rattle.spec_plan.specs.Plan.{PTerm, PTerms, pnum, ptruth, place, pfield, prec, pbin, pnegate, papp, pnil, pcons, Op, join, outer, nest, Plan, plan}
 use Rattle.spec_plan.specs.Operators.{Row, valueOf, at, evalP, evalPs}
 use Rattle.spec_plan.specs.Planner.{planOf}
 
@@ -24,6 +24,7 @@ unfoldable mutual
   questions (name x) = 1
   questions (field i t) = questions t
   questions (rec ts) = questionsT ts
+  questions (app f ts) = questionsT ts
   questions (bin o s t) = questions s + questions t
   questions (negate t) = questions t
   questions (comp m qs h) = suc (questionsQ qs + questions h)
@@ -53,6 +54,7 @@ unfoldable mutual
   reading σ (place n) = σ n
   reading σ (pfield i t) = field i (reading σ t)
   reading σ (prec ts) = rec (readings σ ts)
+  reading σ (papp f ts) = app f (readings σ ts)
   reading σ (pbin o s t) = bin o (reading σ s) (reading σ t)
   reading σ (pnegate t) = negate (reading σ t)
 
@@ -72,6 +74,7 @@ module _ (F : Fold) (T : Tables) (ρ : Env) (σ : ℕ → Term) (r : Row) (h : (
     reading-ok (place n) = h n
     reading-ok (pfield i t) = ap (fieldOf i) (reading-ok t)
     reading-ok (prec ts) = ap Va.rec (readings-ok ts)
+    reading-ok (papp f ts) = ap (appV f) (readings-ok ts)
     reading-ok (pbin o s t) = ap₂ (binV o) (reading-ok s) (reading-ok t)
     reading-ok (pnegate t) = ap notV (reading-ok t)
 
@@ -98,6 +101,7 @@ module _ (σ : ℕ → Term) (e : (n : ℕ) → questions (σ n) ≡ 0) where
     none (place n) = e n
     none (pfield i t) = none t
     none (prec ts) = nones ts
+    none (papp f ts) = nones ts
     none (pbin o s t) = ap₂ _+_ (none s) (none t)
     none (pnegate t) = none t
 

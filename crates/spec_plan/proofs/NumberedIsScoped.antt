@@ -5,7 +5,7 @@ use Prim.Native.Nat.{ℕ, suc, _+_, _≤_}
 use native.Mathlib.Omega.{arith}
 use Rattle.spec_calculus.specs.Value.{Tables}
 use Rattle.spec_calculus.specs.Monoid.{Fold}
-use Rattle.spec_normal_form.specs.Form.{Form, Forms, Clauses, NormalForm, asForm, num, truth, row, cell, rec, bin, negate, comp, fnil, fcons, done, gen, cond, gens, gensF, gensC, normalValue}
+use Rattle.spec_normal_form.specs.Form.{Form, Forms, Clauses, NormalForm, asForm, num, truth, row, cell, rec, bin, negate, comp, fnil, fcons, done, gen, cond, gens, gensF, gensC, normalValue, app}
 use Rattle.spec_normal_form.proofs.GeneratorNumbers.{Numbered, NumberedF, NumberedC}
 use Rattle.spec_plan.specs.Operators.{planValue}
 use Rattle.spec_plan.specs.Planner.{mentions, mentionsF, mentionsC, gensOf, planOf}
@@ -23,6 +23,7 @@ module _ (x : ℕ) where
     unsaid (row g) i n h = eqb-off x g (λ e. omega arith)
     unsaid (cell j g) i n h = eqb-off x g (λ e. omega arith)
     unsaid (rec ts) i n h = unsaidF ts i n h
+    unsaid (app f ts) i n h = unsaidF ts i n h
     unsaid (bin o s t) i n h = ap₂ _||_ (unsaid s i (n .0) (omega arith)) (unsaid t (i + gens s) (n .1) (omega arith))
     unsaid (negate t) i n h = unsaid t i n h
     unsaid (comp m q u) i n h = ap₂ _||_ (unsaidC q i (n .0) (omega arith)) (unsaid u (i + gensC q) (n .1) (omega arith))
@@ -49,6 +50,7 @@ mutual
   scoped (row g) i n = tt
   scoped (cell j g) i n = tt
   scoped (rec ts) i n = scopedF ts i n
+  scoped (app f ts) i n = scopedF ts i n
   scoped (bin o s t) i n = (scoped s i (n .0), scoped t (i + gens s) (n .1))
   scoped (negate t) i n = scoped t i n
   scoped (comp m q h) i n = (scopedC q i (n .0), scoped h (i + gensC q) (n .1))

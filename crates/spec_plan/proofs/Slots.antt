@@ -8,12 +8,12 @@ use lib.Dec.{eqb}
 use lib.ListN.{length}
 use Rattle.spec_calculus.specs.Lists.{pick, upd}
 use Rattle.spec_calculus.specs.Syntax.{and}
-use Rattle.spec_calculus.specs.Value.{Value, vcons, asBool, fieldOf, binV, notV, Tables}
+use Rattle.spec_calculus.specs.Value.{Value, vcons, asBool, fieldOf, binV, notV, appV, Tables}
 use Rattle.spec_calculus.specs.Value as Va
 use Rattle.spec_calculus.specs.Monoid.{Fold}
 use Rattle.spec_calculus.specs.Meaning.{Env}
 use Rattle.spec_calculus.proofs.Lists.{All}
-use Rattle.spec_normal_form.specs.Form.{Form, Forms, num, truth, cell, rec, bin, negate, comp, fnil, fcons, value, values}
+use Rattle.spec_normal_form.specs.Form.{Form, Forms, num, truth, cell, rec, bin, negate, app, comp, fnil, fcons, value, values}
 use Rattle.spec_normal_form.specs.Form as Nf
 use Rattle.spec_plan.specs.Plan.{PTerm, place, pbin}
 use Rattle.spec_plan.specs.Operators.{Place, row, val, Row, valueOf, evalP, evalPs, meets, whole}
@@ -74,6 +74,7 @@ unfoldable mutual
   places F T b (Nf.row g) ρ = []
   places F T b (cell i g) ρ = []
   places F T b (rec ts) ρ = placesF F T b ts ρ
+  places F T b (app f ts) ρ = placesF F T b ts ρ
   places F T b (bin o s t) ρ = places F T b s ρ ++ places F T b t ρ
   places F T b (negate t) ρ = places F T b t ρ
   places F T b (comp m q h) ρ = val (pick b (value F T (comp m q h) ρ) (F m [])) ∷ []
@@ -106,6 +107,7 @@ module _ (F : Fold) (T : Tables) (b : Bool) (ρ : Env) where
     widens (Nf.row g) = widens-none
     widens (cell i g) = widens-none
     widens (rec ts) = widensF ts
+    widens (app f ts) = widensF ts
     widens (bin o s t) = widens-two (next s) (next t) (places F T b s ρ) (places F T b t ρ) (widens s) (widens t)
     widens (negate t) = widens t
     widens (comp m q h) = λ r. (length-snoc r (val (pick b (value F T (comp m q h) ρ) (F m []))), whole-val r (pick b (value F T (comp m q h) ρ) (F m [])))
@@ -128,6 +130,7 @@ mutual
   next-le (Nf.row g) k = omega arith
   next-le (cell i g) k = omega arith
   next-le (rec ts) k = nexts-le ts k
+  next-le (app f ts) k = nexts-le ts k
   next-le (bin o s t) k = let h : k ≤ next s k = next-le s k in let l : next s k ≤ next t (next s k) = next-le t (next s k) in omega arith
   next-le (negate t) k = next-le t k
   next-le (comp m q h) k = omega arith
@@ -151,6 +154,7 @@ mutual
   term-stable (Nf.row g) c k s r y h = s g r y h
   term-stable (cell i g) c k s r y h = ap (fieldOf i) (s g r y h)
   term-stable (rec ts) c k s r y h = ap Va.rec (terms-stable ts c k s r y h)
+  term-stable (app f ts) c k s r y h = ap (appV f) (terms-stable ts c k s r y h)
   term-stable (bin o t u) c k s r y h =
       let l : next t k ≤ next u (next t k) = next-le u (next t k) in
       ap₂ (binV o) (term-stable t c k s r y (omega arith)) (term-stable u c (next t k) (stable-up k (next t k) c (next-le t k) s) r y h)
@@ -174,6 +178,7 @@ module _ (F : Fold) (T : Tables) (c : Slots) (ρ : Env) where
     term-ok (Nf.row g) k s r w e = ap (evalP (c g)) (append-nil r) ∙ ap (λ σ. σ g) e
     term-ok (cell i g) k s r w e = ap (fieldOf i) (ap (evalP (c g)) (append-nil r) ∙ ap (λ σ. σ g) e)
     term-ok (rec ts) k s r w e = ap Va.rec (terms-ok ts k s r w e)
+    term-ok (app f ts) k s r w e = ap (appV f) (terms-ok ts k s r w e)
     term-ok (bin o t u) k s r w e =
         let x : Row = places F T true t ρ in
         let y : Row = places F T true u ρ in
@@ -233,6 +238,7 @@ module _ (F : Fold) (T : Tables) (c : Slots) (r : Row) where
     free-ok (Nf.row g) k e = refl
     free-ok (cell i g) k e = refl
     free-ok (rec ts) k e = ap Va.rec (frees-ok ts k e)
+    free-ok (app f ts) k e = ap (appV f) (frees-ok ts k e)
     free-ok (bin o s t) k e = let b = and-eq-true-iff (free s) (free t) .0 e in ap₂ (binV o) (free-ok s k (b .0)) (free-ok t (next s k) (b .1))
     free-ok (negate t) k e = ap notV (free-ok t k e)
     free-ok (comp m q h) k e = cc e

@@ -12,7 +12,7 @@ use Rattle.spec_calculus.specs.Value.{Value, junk, Tables}
 use Rattle.spec_calculus.specs.Monoid.{Fold}
 use Rattle.spec_calculus.specs.Meaning.{Env}
 use Rattle.spec_calculus.proofs.Lists.{bind-map, bind-one, map-map, map-bind, map-same, All, Some, all-bind, all-map, all-imp, all-zip, some-map, map-all, bind-all}
-use Rattle.spec_normal_form.specs.Form.{Form, Forms, Clauses, NormalForm, asForm, num, truth, row, cell, rec, bin, negate, comp, fnil, fcons, done, gen, cond, value, loops, normalValue}
+use Rattle.spec_normal_form.specs.Form.{Form, Forms, Clauses, NormalForm, asForm, num, truth, row, cell, rec, bin, negate, app, comp, fnil, fcons, done, gen, cond, value, loops, normalValue}
 use Rattle.spec_plan.specs.Plan.{PTerm, Op, join, outer, nest}
 use Rattle.spec_plan.specs.Operators.{Place, val, Row, Stream, evalP, whole, matches, matchesOrPad, heads, groups, close, apply, exec, one, planValue}
 use Rattle.spec_plan.specs.Planner.{free, Slots, next, term, nextL, termL, conj, planGens, condsOf, sift, early, late, slots, after, grows, ops, opsF, opsC, noSlots, planOf}
@@ -199,6 +199,7 @@ module _ (F : Fold) (T : Tables) where
     ops-ok (row g) k c st sc = adds-none k c
     ops-ok (cell i g) k c st sc = adds-none k c
     ops-ok (rec ts) k c st sc = opsF-ok ts k c st sc
+    ops-ok (app f ts) k c st sc = opsF-ok ts k c st sc
     ops-ok (bin o t u) k c st sc = adds-two (ops t k c) (ops u (next t k) c) k c (next t) (λ b ρ. places F T b t ρ) (λ b ρ. places F T b u ρ) st (λ b ρ. widens F T b ρ t) (ops-ok t k c st (sc .0)) (ops-ok u (next t k) c (stable-up k (next t k) c (next-le t k) st) (sc .1))
     ops-ok (negate t) k c st sc = ops-ok t k c st sc
     ops-ok (comp m q h) k c st sc = comp-ok q h k c st m (sc .0) (inner q h k c st

@@ -7,8 +7,8 @@ use Prim.Native.String.{String}
 use Prim.Native.String as S
 use lib.Dec.{ltb}
 use lib.IntN.{ℤ, pos, negsuc}
-use Rattle.spec_calculus.specs.Syntax.{list, bag, set, Monoid, of, sum, max, min, some, all, Bin, plus, minus, times, equal, less, and, or}
-use Rattle.spec_plan.specs.Plan.{PTerm, PTerms, pnum, ptruth, place, pfield, prec, pbin, pnegate, pnil, pcons, Source, table, unit, Op, join, outer, nest, Plan, plan}
+use Rattle.spec_calculus.specs.Syntax.{list, bag, set, Monoid, of, sum, max, min, some, all, Bin, plus, minus, times, equal, less, and, or, Fun, choice}
+use Rattle.spec_plan.specs.Plan.{PTerm, PTerms, pnum, ptruth, place, pfield, prec, pbin, pnegate, papp, pnil, pcons, Source, table, unit, Op, join, outer, nest, Plan, plan}
 
 unfoldable pub ascii : String → List ℕ
 ascii S.[] = []
@@ -46,6 +46,10 @@ binName less = "<"
 binName and = "and"
 binName or = "or"
 
+-- "it prints as (if c a b)" (document 02, E2)
+unfoldable pub funName : Fun → List ℕ
+funName choice = ascii "if"
+
 -- "truths true or false"
 unfoldable pub truthName : Bool → String
 truthName true = "true"
@@ -58,6 +62,7 @@ unfoldable mutual
   showTerm (place n) = ascii "$" ++ decimal n
   showTerm (pfield i t) = ascii "(. " ++ (decimal i ++ (ascii " " ++ (showTerm t ++ ascii ")")))
   showTerm (prec ts) = ascii "(rec" ++ (showTerms ts ++ ascii ")")
+  showTerm (papp f ts) = ascii "(" ++ (funName f ++ (showTerms ts ++ ascii ")"))
   showTerm (pbin o s t) = ascii "(" ++ (ascii (binName o) ++ (ascii " " ++ (showTerm s ++ (ascii " " ++ (showTerm t ++ ascii ")")))))
   showTerm (pnegate t) = ascii "(not " ++ (showTerm t ++ ascii ")")
 

@@ -4,7 +4,7 @@ use mathlib.Core.List.{List}
 use mathlib.Core.Bool.{Bool}
 use Prim.Native.Nat.{ℕ}
 use lib.IntN.{ℤ}
-use Rattle.spec_calculus.specs.Syntax.{Monoid, Bin}
+use Rattle.spec_calculus.specs.Syntax.{Monoid, Bin, Fun}
 
 -- terms over the places of a row
 mutual
@@ -16,6 +16,7 @@ mutual
     prec : PTerms → PTerm
     pbin : Bin → PTerm → PTerm → PTerm
     pnegate : PTerm → PTerm
+    papp : Fun → PTerms → PTerm
 
   pub data PTerms : Type 0 where
     pnil : PTerms

@@ -6,8 +6,8 @@ use lib.Dec.{eqb}
 use lib.IntN.{pos}
 use Rattle.spec_calculus.specs.Lists.{pick, upd}
 use Rattle.spec_calculus.specs.Syntax.{and}
-use Rattle.spec_normal_form.specs.Form.{Form, Forms, Clauses, NormalForm, num, truth, row, cell, rec, bin, negate, comp, fnil, fcons, done, gen, cond}
-use Rattle.spec_plan.specs.Plan.{PTerm, PTerms, pnum, ptruth, place, pfield, prec, pbin, pnegate, pnil, pcons, Source, table, unit, Op, join, outer, nest, Plan, plan}
+use Rattle.spec_normal_form.specs.Form.{Form, Forms, Clauses, NormalForm, num, truth, row, cell, rec, bin, negate, app, comp, fnil, fcons, done, gen, cond}
+use Rattle.spec_plan.specs.Plan.{PTerm, PTerms, pnum, ptruth, place, pfield, prec, pbin, pnegate, papp, pnil, pcons, Source, table, unit, Op, join, outer, nest, Plan, plan}
 
 -- "free of comprehensions"
 unfoldable mutual
@@ -17,6 +17,7 @@ unfoldable mutual
   free (row g) = true
   free (cell i g) = true
   free (rec ts) = frees ts
+  free (app f ts) = frees ts
   free (bin o s t) = free s && free t
   free (negate t) = free t
   free (comp m q h) = false
@@ -33,6 +34,7 @@ unfoldable mutual
   mentions x (row g) = eqb x g
   mentions x (cell i g) = eqb x g
   mentions x (rec ts) = mentionsF x ts
+  mentions x (app f ts) = mentionsF x ts
   mentions x (bin o s t) = mentions x s || mentions x t
   mentions x (negate t) = mentions x t
   mentions x (comp m q h) = mentionsC x q || mentions x h
@@ -58,6 +60,7 @@ unfoldable mutual
   next (row g) k = k
   next (cell i g) k = k
   next (rec ts) k = nexts ts k
+  next (app f ts) k = nexts ts k
   next (bin o s t) k = next t (next s k)
   next (negate t) k = next t k
   next (comp m q h) k = suc k
@@ -74,6 +77,7 @@ unfoldable mutual
   term (row g) c k = c g
   term (cell i g) c k = pfield i (c g)
   term (rec ts) c k = prec (terms ts c k)
+  term (app f ts) c k = papp f (terms ts c k)
   term (bin o s t) c k = pbin o (term s c k) (term t c (next s k))
   term (negate t) c k = pnegate (term t c k)
   term (comp m q h) c k = place k
@@ -183,6 +187,7 @@ unfoldable mutual
   ops (row g) n c = []
   ops (cell i g) n c = []
   ops (rec ts) n c = opsF ts n c
+  ops (app f ts) n c = opsF ts n c  -- "Comprehensions inside it are planned in written order" (document 02, E2)
   ops (bin o s t) n c = ops s n c ++ ops t (next s n) c
   ops (negate t) n c = ops t n c
   ops (comp m q h) n c =

@@ -1,0 +1,34 @@
+-- Kind 19 as bytes (document 02, E2): "three terms", in a content that "must be filled exactly".
+use mathlib.Core.Path.{_≡_, refl}
+use mathlib.Core.List.{[], _∷_, _++_}
+use mathlib.Core.Bool.{true}
+use Prim.Native.Nat.{ℕ, _+_}
+use lib.IntN.{pos}
+use Rattle.spec_calculus.specs.Lists.{pick}
+use Rattle.spec_calculus.specs.Syntax.{sum, choice, num, truth, app, tnil, tcons, qnil}
+use Rattle.spec_encoding.specs.Record.{Bytes, refused, got, andThen, require, signed, isWhole}
+use Rattle.spec_encoding.specs.Reader.{noMore, asTerm, oneTerm, filled, onPart, parts, comprehends, content, atRecord, readPart, readQuestion}
+
+abbrev number : ℕ → Bytes
+number n = 4 ∷ 0 ∷ 1 ∷ 0 ∷ n ∷ 0 ∷ 0 ∷ 0 ∷ []
+
+-- a sum without qualifiers whose head is of kind 19: a content of k bytes, first the truth true
+abbrev chosen : ℕ → Bytes → Bytes
+chosen k l = (5 + k) ∷ 0 ∷ 14 ∷ 0 ∷ 4 ∷ k ∷ 0 ∷ 19 ∷ 0 ∷ 1 ∷ 0 ∷ 2 ∷ 0 ∷ 1 ∷ l
+
+unfoldable reading : Unit {0}
+unfolding pick andThen require signed isWhole noMore asTerm oneTerm filled onPart parts comprehends content atRecord readPart readQuestion
+reading = tt
+
+three-terms : readQuestion (chosen 21 (number 5 ++ number 7)) ≡ got (record { monoid = sum; quals = qnil; head = app choice (tcons (truth true) (tcons (num (pos 5)) (tcons (num (pos 7)) tnil))) })
+unfolding reading
+three-terms = refl
+
+-- another count is 22
+two-terms : readQuestion (chosen 13 (number 5)) ≡ refused 22
+unfolding reading
+two-terms = refl
+
+four-terms : readQuestion (chosen 29 (number 5 ++ (number 7 ++ number 9))) ≡ refused 22
+unfolding reading
+four-terms = refl
