@@ -5,7 +5,7 @@ use Prim.Native.Nat.{ℕ, suc, _+_, _<_, _≤_, min}
 use native.Mathlib.Omega.{arith}
 use Rattle.spec_calculus.specs.Syntax.{Collection, Question, asTerm}
 use Rattle.spec_checks.specs.Scope.{namesHold}
-use Rattle.spec_normal_form.specs.Form.{Form, Forms, Clauses, num, truth, row, cell, rec, bin, negate, comp, fnil, fcons, done, gen, cond, gens, gensF, gensC, asForm}
+use Rattle.spec_normal_form.specs.Form.{Form, Forms, Clauses, num, truth, row, cell, rec, bin, negate, app, comp, fnil, fcons, done, gen, cond, gens, gensF, gensC, asForm}
 use Rattle.spec_normal_form.specs.Normal.{quote, normal}
 use Rattle.spec_normal_form.specs.Size.{nodes}
 use Rattle.spec_normal_form.proofs.GeneratorNumbers.{Numbered, NumberedF, NumberedC, normal-numbered}
@@ -29,6 +29,7 @@ unfoldable mutual
   Pos (row g) = 0 < g
   Pos (cell i g) = 0 < g
   Pos (rec ts) = PosF ts
+  Pos (app f ts) = PosF ts
   Pos (bin o s t) = Pos s × Pos t
   Pos (negate t) = Pos t
   Pos (comp m q h) = PosC q × Pos h
@@ -55,6 +56,7 @@ mutual
   back (row g) p = ap row (back-number g p)
   back (cell i g) p = ap (cell i) (back-number g p)
   back (rec ts) p = ap rec (backF ts p)
+  back (app f ts) p = ap (app f) (backF ts p)
   back (bin o s t) p = ap₂ (bin o) (back s (p .0)) (back t (p .1))
   back (negate t) p = ap negate (back t p)
   back (comp m q h) p = ap₂ (comp m) (backC q (p .0)) (back h (p .1))
@@ -82,6 +84,7 @@ mutual
   numbered-pos (row g) i a l = omega (arith, a, l)
   numbered-pos (cell f g) i a l = omega (arith, a, l)
   numbered-pos (rec ts) i a l = numbered-posF ts i a l
+  numbered-pos (app f ts) i a l = numbered-posF ts i a l
   numbered-pos (bin o s t) i a l = (numbered-pos s i (a .0) (omega (arith, l)), numbered-pos t (i + gens s) (a .1) (omega (arith, l)))
   numbered-pos (negate t) i a l = numbered-pos t i a l
   numbered-pos (comp m q h) i a l = (numbered-posC q i (a .0) (omega (arith, l)), numbered-pos h (i + gensC q) (a .1) (omega (arith, l)))

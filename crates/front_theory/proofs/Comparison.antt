@@ -9,15 +9,16 @@ use lib.Dec.{eqb, ltb, ltb→lt, eqb-refl, T-not}
 use lib.Dec as De
 use lib.IntN.{pos}
 use Rattle.spec_calculus.specs.Lists.{pick, upd}
-use Rattle.spec_calculus.specs.Syntax.{Collection, Monoid, of, Bin, plus, minus, times, equal, less, and, or}
+use Rattle.spec_calculus.specs.Syntax.{Collection, Monoid, of, Bin, plus, minus, times, equal, less, and, or, Fun}
 use Rattle.spec_normal_form.specs.Form.{Form, Clauses, fcons, done, _⊕_, gens, gensC}
 use Rattle.spec_normal_form.specs.Form as Nf
-use Rattle.spec_normal_form.specs.Normal.{Sem, Sems, row, fields, both, nested, plain, snil, scons, nothing, quote, quotes, idempotent, givesWay, one, condition, ranges, nth, part, pair, binary}
+use Rattle.spec_normal_form.specs.Normal.{Sem, Sems, row, fields, both, nested, plain, snil, scons, nothing, quote, quotes, idempotent, givesWay, one, condition, ranges, nth, part, pair, binary, applied}
 use Rattle.spec_normal_form.proofs.WriteOut.{condition-gives-way, condition-stays}
 use Rattle.front_theory.specs.NodeTable.{Node, Nodes, nnum, ntruth, nname, nfield, nrec, nbin, nnegate, ncomp, ntable, ngen, nbind, ncond, nbad, Below, Inside, PostOrder}
 use Rattle.front_theory.specs.NodeForms.{Env, enter, Offsets, At, boundOf, qualOf, clausesOf, semsOf, compOf, levels, semOf, semAt}
 use Rattle.front_theory.proofs.FormCounts.{Counts, counts, countsC}
 use Rattle.front_theory.proofs.Renumbering.{renumber, renumberF, renumberC, renumber-append, renumber-counts, renumber-countsC}
+use Rattle.front_theory.specs.NodeTable.{napp}
 
 -- What is seen of a generator number, and of the flag of a copy.
 pub record View : Type 0 where
@@ -183,6 +184,10 @@ module _ (U : View) where
   unfolding Near
   fields-near ds es s = (es, s, refl)
 
+  pub applied-near : (f : Fun) (ds es : Sems) → NearL U ds es → Near U (applied f ds) (applied f es)
+  unfolding renumber
+  applied-near f ds es s = plain-near (λ n. Nf.app f (quotes ds n)) (λ n. Nf.app f (quotes es n)) (λ n j c. ap (Nf.app f) (quotes-near ds es s n j c))
+
   pub nested-near : (m : Monoid) (q r : Bool → ℕ → Clauses) (h k : Bool → ℕ → Sem) → ((b : Bool) (n j : ℕ) → Close U n j → AlikeC U (q b n) (r b j))
       → ((b c : Bool) (n j : ℕ) → U .flag b ≡ U .flag c → Close U n j → Near U (h b n) (k c j)) → Near U (nested m q h) (nested m r k)
   unfolding Near
@@ -230,6 +235,7 @@ module _ (U : View) (off off′ : Offsets) (O : CloseO U off off′) where
   bound-near A B x d e e′ (nname y k) h E p = nothing-near U
   bound-near A B x d e e′ (nfield i c) h E p = nothing-near U
   bound-near A B x d e e′ (nrec cs) h E p = nothing-near U
+  bound-near A B x d e e′ (napp f cs) h E p = nothing-near U
   bound-near A B x d e e′ (nbin o a b) h E p = nothing-near U
   bound-near A B x d e e′ (nnegate c) h E p = nothing-near U
   bound-near A B x d e e′ (ncomp m cs k) h E p = nothing-near U
@@ -247,6 +253,7 @@ module _ (U : View) where
   qual-near A B x D e e′ v n j (nname y k) h E q p = refl
   qual-near A B x D e e′ v n j (nfield i c) h E q p = refl
   qual-near A B x D e e′ v n j (nrec cs) h E q p = refl
+  qual-near A B x D e e′ v n j (napp f cs) h E q p = refl
   qual-near A B x D e e′ v n j (nbin o a b) h E q p = refl
   qual-near A B x D e e′ v n j (nnegate c) h E q p = refl
   qual-near A B x D e e′ v n j (ncomp m cs k) h E q p = refl
@@ -291,6 +298,7 @@ module _ (K : ℕ → Collection) (N : Nodes) (P : PostOrder N) (U : View) (off 
       (λ t. bound-near U off off′ O A B x d e e′ (N x) (near-less U i x A B (omega (arith, p)) h) (λ a l. E a (omega (arith, l, ltb→lt d D t))) (P x))
   sem-near A B i h (nfield k c) p D e e′ E = part-near U k (A c D e) (B c D e′) (h c p D e e′ E)
   sem-near A B i h (nrec cs) p D e e′ E = fields-near U (semsOf A cs D e) (semsOf B cs D e′) (sems-near U A B i h cs p D e e′ E)
+  sem-near A B i h (napp f cs) p D e e′ E = applied-near U f (semsOf A cs D e) (semsOf B cs D e′) (sems-near U A B i h cs p D e e′ E)
   sem-near A B i h (nbin o a b) p D e e′ E = binary-near U o (A a D e) (A b D e) (B a D e′) (B b D e′) (h a (p .0) D e e′ E) (h b (p .1) D e e′ E)
   sem-near A B i h (nnegate c) p D e e′ E = negate-near U (A c D e) (B c D e′) (h c p D e e′ E)
   sem-near A B i h (ncomp m cs k) p D e e′ E = pick-near U (ltb D levels) (compOf N A m cs k D e) (compOf N B m cs k D e′) (λ t. comp-near A B i h m cs k (p .0) (p .1) D e e′ E)

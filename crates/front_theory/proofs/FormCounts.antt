@@ -4,7 +4,7 @@ use mathlib.Core.List.{_∷_, _++_, append-assoc}
 use Prim.Native.Nat.{ℕ, suc, _+_, _≤_}
 use native.Mathlib.Omega.{arith}
 use lib.ListN.{length, length-append}
-use Rattle.spec_normal_form.specs.Form.{Form, Forms, Clauses, num, truth, row, cell, rec, bin, negate, comp, fnil, fcons, done, gen, cond, _⊕_, gens, gensF, gensC}
+use Rattle.spec_normal_form.specs.Form.{Form, Forms, Clauses, num, truth, row, cell, rec, bin, negate, app, comp, fnil, fcons, done, gen, cond, _⊕_, gens, gensF, gensC}
 use Rattle.spec_normal_form.specs.Size.{nodes, nodesF, nodesC}
 use Rattle.front_theory.specs.FormWords.{word, wcond, wgen, words, wordsF, wordsC, flat, flatF, flatC}
 
@@ -63,6 +63,7 @@ mutual
   sizes (row g) = (omega arith, omega arith)
   sizes (cell i g) = (omega arith, omega arith)
   sizes (rec ts) = let a = sizesF ts in (omega (arith, a .0), omega (arith, a .1))
+  sizes (app f ts) = let a = sizesF ts in (omega (arith, a .0), omega (arith, a .1))
   sizes (bin o s t) = let a = sizes s in let b = sizes t in (omega (arith, a .0, b .0), omega (arith, a .1, b .1))
   sizes (negate t) = let a = sizes t in (omega (arith, a .0), omega (arith, a .1))
   sizes (comp m q h) = let a = sizesC q in let b = sizes h in (omega (arith, a .0, b .0), omega (arith, a .1, b .1))
@@ -86,6 +87,7 @@ mutual
   flat-length (row g) = refl
   flat-length (cell i g) = refl
   flat-length (rec ts) = ap suc (flat-lengthF ts)
+  flat-length (app f ts) = ap suc (flat-lengthF ts)
   flat-length (bin o s t) = ap suc (length-append (flat s) (flat t) ∙ ap₂ _+_ (flat-length s) (flat-length t))
   flat-length (negate t) = ap suc (flat-length t)
   flat-length (comp m q h) = ap suc (length-append (flatC q) (flat h) ∙ ap₂ _+_ (flat-lengthC q) (flat-length h))

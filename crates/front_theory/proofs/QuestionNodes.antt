@@ -7,7 +7,7 @@ use native.Mathlib.Omega.{arith}
 use lib.Dec.{eqb, ltb, lt→ltb}
 use lib.Dec as De
 use Rattle.spec_calculus.specs.Lists.{pick, upd}
-use Rattle.spec_calculus.specs.Syntax.{Collection, Term, Terms, Quals, num, truth, name, field, rec, bin, negate, comp, table, tnil, tcons, qnil, gen, bind, cond, Question, asTerm}
+use Rattle.spec_calculus.specs.Syntax.{Collection, Term, Terms, Quals, num, truth, name, field, rec, bin, negate, app, comp, table, tnil, tcons, qnil, gen, bind, cond, Question, asTerm}
 use Rattle.spec_normal_form.specs.Form.{Clauses, _⊕_, gens, gensC, asForm}
 use Rattle.spec_normal_form.specs.Form as Nf
 use Rattle.spec_normal_form.specs.Normal.{Sem, nothing, quote, idempotent, condition, ranges, before, SemEnv, norm, norms, walk, nowhere, normal}
@@ -20,6 +20,8 @@ use Rattle.front_theory.proofs.Renumbering.{renumber, renumberC}
 use Rattle.front_theory.proofs.Comparison.{View, seen, Close, AlikeC, Near, NearL, alike-counts, alike-countsC, afterC, append-near, quote-near, condition-near, ranges-clauses, ranges-head, plain-near, part-near, binary-near, negate-near, fields-near, nested-near, table-near}
 use Rattle.front_theory.proofs.Locality.{agree-enter, at-enter, bound-local}
 use Rattle.front_theory.proofs.StaticCounts.{qual-count}
+use Rattle.front_theory.specs.NodeTable.{napp}
+use Rattle.front_theory.proofs.Comparison.{applied-near}
 
 module _ (K : ℕ → Collection) (N : Nodes) (P : PostOrder N) (dep : ℕ → ℕ) (off : Offsets) (ρ : ℕ → ℕ) (more : (n j k : ℕ) → ρ n ≡ ρ j → ρ (n + k) ≡ ρ (j + k)) (O : Placed ρ K N dep off) where
   abbrev pub view : View
@@ -128,6 +130,8 @@ module _ (K : ℕ → Collection) (N : Nodes) (P : PostOrder N) (dep : ℕ → �
         part-near view k (semAt K N off f (H .0) D e) (norm K t δ) (norm-at t (H .0) D S (H .2) δ e F f (omega (arith, l, b))))
     norm-at (rec ts) i D S H δ e F = at-step i D e (norm K (rec ts) δ) (nrec (H .0)) (H .1) (λ f l.
         fields-near view (semsOf (upTo f) (H .0) D e) (norms K ts δ) (norms-at ts (H .0) D S (H .2) δ e F i (inside i (nrec (H .0)) (H .1)) f l))
+    norm-at (app f ts) i D S H δ e F = at-step i D e (norm K (app f ts) δ) (napp f (H .0)) (H .1) (λ g l.
+        applied-near view f (semsOf (upTo g) (H .0) D e) (norms K ts δ) (norms-at ts (H .0) D S (H .2) δ e F i (inside i (napp f (H .0)) (H .1)) g l))
     norm-at (bin o s t) i D S H δ e F = at-step i D e (norm K (bin o s t) δ) (nbin o (H .0) (H .1)) (H .2) (λ f l.
         let b : (H .0 < i) × (H .1 < i) = inside i (nbin o (H .0) (H .1)) (H .2) in
         binary-near view o (semAt K N off f (H .0) D e) (semAt K N off f (H .1) D e) (norm K s δ) (norm K t δ)

@@ -2,7 +2,7 @@
 -- changing the numbers of both to the same ones.
 use mathlib.Core.Path.{_≡_, refl, ap, ap₂}
 use Prim.Native.Nat.{ℕ}
-use Rattle.spec_normal_form.specs.Form.{Form, Forms, Clauses, num, truth, row, cell, rec, bin, negate, comp, fnil, fcons, done, gen, cond, _⊕_, gens}
+use Rattle.spec_normal_form.specs.Form.{Form, Forms, Clauses, num, truth, row, cell, rec, bin, negate, app, comp, fnil, fcons, done, gen, cond, _⊕_, gens}
 use Rattle.spec_normal_form.specs.Size.{nodes}
 use Rattle.front_theory.specs.FormWords.{words}
 use Rattle.front_theory.proofs.FormCounts.{counts, countsF, countsC, beside, above, generator}
@@ -15,6 +15,7 @@ unfoldable mutual
   renumber ρ (row g) = row (ρ g)
   renumber ρ (cell i g) = cell i (ρ g)
   renumber ρ (rec ts) = rec (renumberF ρ ts)
+  renumber ρ (app f ts) = app f (renumberF ρ ts)
   renumber ρ (bin o s t) = bin o (renumber ρ s) (renumber ρ t)
   renumber ρ (negate t) = negate (renumber ρ t)
   renumber ρ (comp m q h) = comp m (renumberC ρ q) (renumber ρ h)
@@ -44,6 +45,7 @@ mutual
   renumber-same (row g) = refl
   renumber-same (cell i g) = refl
   renumber-same (rec ts) = ap rec (renumber-sameF ts)
+  renumber-same (app f ts) = ap (app f) (renumber-sameF ts)
   renumber-same (bin o s t) = ap₂ (bin o) (renumber-same s) (renumber-same t)
   renumber-same (negate t) = ap negate (renumber-same t)
   renumber-same (comp m q h) = ap₂ (comp m) (renumber-sameC q) (renumber-same h)
@@ -67,6 +69,7 @@ mutual
   renumber-counts ρ (row g) = refl
   renumber-counts ρ (cell i g) = refl
   renumber-counts ρ (rec ts) = ap above (renumber-countsF ρ ts)
+  renumber-counts ρ (app f ts) = ap above (renumber-countsF ρ ts)
   renumber-counts ρ (bin o s t) = ap₂ (λ a b. above (beside a b)) (renumber-counts ρ s) (renumber-counts ρ t)
   renumber-counts ρ (negate t) = ap above (renumber-counts ρ t)
   renumber-counts ρ (comp m q h) = ap₂ (λ a b. above (beside a b)) (renumber-countsC ρ q) (renumber-counts ρ h)

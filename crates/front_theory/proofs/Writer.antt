@@ -5,10 +5,10 @@ use mathlib.Core.List.{List, [], _∷_, _++_}
 use Prim.Native.Nat.{ℕ, suc, _+_}
 use native.Mathlib.Omega.{arith}
 use lib.IntN.{ℤ}
-use Rattle.spec_calculus.specs.Syntax.{Collection, Monoid, of, Bin, plus, minus, times, equal, less, and, or}
+use Rattle.spec_calculus.specs.Syntax.{Collection, Monoid, of, Bin, plus, minus, times, equal, less, and, or, Fun}
 use Rattle.spec_normal_form.specs.Form.{Form, Forms, Clauses, fcons, done, _⊕_, gens, gensF, gensC}
 use Rattle.spec_normal_form.specs.Form as Nf
-use Rattle.spec_normal_form.specs.Normal.{Sem, Sems, row, fields, both, nested, plain, snil, scons, quote, quotes, idempotent, givesWay, one, condition, ranges, binary}
+use Rattle.spec_normal_form.specs.Normal.{Sem, Sems, row, fields, both, nested, plain, snil, scons, quote, quotes, idempotent, givesWay, one, condition, ranges, binary, applied}
 use Rattle.spec_normal_form.proofs.WriteOut.{gens-append, next-number, ⊕-assoc, condition-gives-way, condition-stays}
 use Rattle.spec_normal_form.specs.NoRule.{NotAnd}
 use Rattle.spec_normal_form.proofs.FixedPoint.{quote-binary}
@@ -17,6 +17,7 @@ use Rattle.front_theory.specs.NodeForms.{Env, enter, At, qualOf, clauses
 use Rattle.front_theory.specs.FormWords.{Word, word, wnum, wtruth, wrow, wcell, wrec, wnegate, wcond, wbin, wcomp, wgen, words, wordsF, wordsC, flat, flatF, flatC}
 use Rattle.front_theory.specs.Writer.{State, state, puts, mark, markGen, tell, tellF, tellC, Emits, EmitsF, EmitsC, EmitsG, EmitsN, EmitsQ}
 use Rattle.front_theory.proofs.FormCounts.{flat-append}
+use Rattle.front_theory.specs.FormWords.{wapp}
 
 -- What stays one condition: neither an "and" nor a comprehension that gives way.
 abbrev pub Whole : Sem → Bool → Type 0
@@ -152,6 +153,10 @@ module _ {B : Type 0} (put : Word → B → B) where
   pub emit-negate : (a : Sem) (s p r : State B) → p ≡ mark put (word wnegate (words (quote a (s .next)))) s → Emits put a p r → Emits put (plain (λ n. Nf.negate (quote a n))) s r
   unfolding quote flat puts gens
   emit-negate a s p r e f = f ∙ ap (λ x. tell put (quote a (x .next)) x) e
+
+  pub emit-app : (f : Fun) (ds : Sems) (s p r : State B) → p ≡ mark put (word (wapp f) (wordsF (quotes ds (s .next)))) s → EmitsF put ds p r → Emits put (applied f ds) s r
+  unfolding quote flat puts gens
+  emit-app f ds s p r e g = g ∙ ap (λ x. tellF put (quotes ds (x .next)) x) e
 
   -- a comprehension, then its clauses, then its head
   emit-nested : (m : Monoid) (q : Bool → ℕ → Clauses) (h : Bool → ℕ → Sem) (s p y r : State B)

@@ -4,8 +4,8 @@ use mathlib.Core.List.{List, [], _∷_, _++_}
 use mathlib.Core.Bool.{Bool}
 use Prim.Native.Nat.{ℕ, suc, _+_}
 use lib.IntN.{ℤ}
-use Rattle.spec_calculus.specs.Syntax.{Monoid, Bin}
-use Rattle.spec_normal_form.specs.Form.{Form, Forms, Clauses, num, truth, row, cell, rec, bin, negate, comp, fnil, fcons, done, gen, cond}
+use Rattle.spec_calculus.specs.Syntax.{Monoid, Bin, Fun}
+use Rattle.spec_normal_form.specs.Form.{Form, Forms, Clauses, num, truth, row, cell, rec, bin, negate, app, comp, fnil, fcons, done, gen, cond}
 
 -- what a word stands for
 pub data Label : Type 0 where
@@ -15,6 +15,7 @@ pub data Label : Type 0 where
   wcell : ℕ → ℕ → Label
   wrec wnegate wcond : Label
   wbin : Bin → Label
+  wapp : Fun → Label
   wcomp : Monoid → Label
   wgen : ℕ → ℕ → Label  -- generator g over table k
 
@@ -33,6 +34,7 @@ unfoldable mutual
   words (row g) = 1
   words (cell i g) = 1
   words (rec ts) = suc (wordsF ts)
+  words (app f ts) = suc (wordsF ts)
   words (bin o s t) = suc (words s + words t)
   words (negate t) = suc (words t)
   words (comp m q h) = suc (wordsC q + words h)
@@ -54,6 +56,7 @@ unfoldable mutual
   flat (row g) = word (wrow g) 0 ∷ []
   flat (cell i g) = word (wcell i g) 0 ∷ []
   flat (rec ts) = word wrec (wordsF ts) ∷ flatF ts
+  flat (app f ts) = word (wapp f) (wordsF ts) ∷ flatF ts
   flat (bin o s t) = word (wbin o) (words s + words t) ∷ (flat s ++ flat t)
   flat (negate t) = word wnegate (words t) ∷ flat t
   flat (comp m q h) = word (wcomp m) (wordsC q + words h) ∷ (flatC q ++ flat h)

@@ -9,8 +9,9 @@ use Rattle.spec_calculus.specs.Lists.{pick, upd}
 use Rattle.spec_calculus.specs.Syntax.{Collection, Monoid, of}
 use Rattle.spec_normal_form.specs.Form.{Clauses, done, _⊕_, gensC}
 use Rattle.spec_normal_form.specs.Form as Nf
-use Rattle.spec_normal_form.specs.Normal.{Sem, Sems, row, fields, nested, plain, snil, scons, nothing, quote, idempotent, condition, ranges, part, binary}
+use Rattle.spec_normal_form.specs.Normal.{Sem, Sems, row, fields, nested, plain, snil, scons, nothing, quote, idempotent, condition, ranges, part, binary, applied}
 use Rattle.front_theory.specs.NodeTable.{Node, Nodes, nnum, ntruth, nname, nfield, nrec, nbin, nnegate, ncomp, ntable, ngen, nbind, ncond, nbad}
+use Rattle.front_theory.specs.NodeTable.{napp}
 
 -- a copy of a comprehension: the first number of its generators, and whether "some" gives way in it
 pub record Entry : Type 0 where
@@ -45,6 +46,7 @@ boundOf off A x d e (ntruth b) = nothing
 boundOf off A x d e (nname y k) = nothing
 boundOf off A x d e (nfield i c) = nothing
 boundOf off A x d e (nrec cs) = nothing
+boundOf off A x d e (napp f cs) = nothing
 boundOf off A x d e (nbin o a b) = nothing
 boundOf off A x d e (nnegate c) = nothing
 boundOf off A x d e (ncomp m cs h) = nothing
@@ -62,6 +64,7 @@ qualOf A D e v n (ntruth b) = done
 qualOf A D e v n (nname y k) = done
 qualOf A D e v n (nfield i c) = done
 qualOf A D e v n (nrec cs) = done
+qualOf A D e v n (napp f cs) = done
 qualOf A D e v n (nbin o a b) = done
 qualOf A D e v n (nnegate c) = done
 qualOf A D e v n (ncomp m cs h) = done
@@ -94,6 +97,7 @@ semOf K N off A (ntruth b) D e = plain (λ n. Nf.truth b)
 semOf K N off A (nname x d) D e = pick (ltb d D) (boundOf off A x d e (N x)) nothing
 semOf K N off A (nfield i c) D e = part i (A c D e)
 semOf K N off A (nrec cs) D e = fields (semsOf A cs D e)
+semOf K N off A (napp f cs) D e = applied f (semsOf A cs D e)
 semOf K N off A (nbin o a b) D e = binary o (A a D e) (A b D e)
 semOf K N off A (nnegate c) D e = plain (λ n. Nf.negate (quote (A c D e) n))
 semOf K N off A (ncomp m cs h) D e = pick (ltb D levels) (compOf N A m cs h D e) nothing

@@ -3,7 +3,7 @@ use mathlib.Core.List.{List, [], _∷_}
 use mathlib.Core.Bool.{Bool}
 use Prim.Native.Nat.{ℕ, _<_}
 use lib.IntN.{ℤ}
-use Rattle.spec_calculus.specs.Syntax.{Monoid, Bin}
+use Rattle.spec_calculus.specs.Syntax.{Monoid, Bin, Fun}
 
 -- a decoded node; its children are node numbers
 pub data Node : Type 0 where
@@ -14,6 +14,7 @@ pub data Node : Type 0 where
   nrec : List ℕ → Node
   nbin : Bin → ℕ → ℕ → Node
   nnegate : ℕ → Node
+  napp : Fun → List ℕ → Node
   ncomp : Monoid → List ℕ → ℕ → Node  -- its qualifiers in order, and its head
   ntable : ℕ → Node
   ngen : ℕ → Node
@@ -37,6 +38,7 @@ Inside i (ntruth b) = Unit {0}
 Inside i (nname x d) = x < i
 Inside i (nfield k c) = c < i
 Inside i (nrec cs) = Below i cs
+Inside i (napp f cs) = Below i cs
 Inside i (nbin o a b) = (a < i) × (b < i)
 Inside i (nnegate c) = c < i
 Inside i (ncomp m cs h) = Below i cs × (h < i)
@@ -57,6 +59,7 @@ qualifiers (ntruth b) = []
 qualifiers (nname x d) = []
 qualifiers (nfield k c) = []
 qualifiers (nrec cs) = []
+qualifiers (napp f cs) = []
 qualifiers (nbin o a b) = []
 qualifiers (nnegate c) = []
 qualifiers (ncomp m cs h) = cs

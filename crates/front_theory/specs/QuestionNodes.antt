@@ -4,9 +4,10 @@ use mathlib.Core.List.{List, [], _∷_}
 use mathlib.Core.Bool.{Bool}
 use Prim.Native.Nat.{ℕ, suc, _+_, _<_}
 use Rattle.spec_calculus.specs.Lists.{upd}
-use Rattle.spec_calculus.specs.Syntax.{Collection, Term, Terms, Quals, num, truth, name, field, rec, bin, negate, comp, table, tnil, tcons, qnil, gen, bind, cond}
+use Rattle.spec_calculus.specs.Syntax.{Collection, Term, Terms, Quals, num, truth, name, field, rec, bin, negate, comp, table, tnil, tcons, qnil, gen, bind, cond, app}
 use Rattle.front_theory.specs.NodeTable.{Nodes, nnum, ntruth, nname, nfield, nrec, nbin, nnegate, ncomp, ntable, ngen, nbind, ncond, qualifiers}
 use Rattle.front_theory.specs.NodeForms.{Offsets, levels, countOf}
+use Rattle.front_theory.specs.NodeTable.{napp}
 
 -- where a name is bound: the qualifier, and one more than its comprehension's depth; level 0 where the name does not hold
 pub record Slot : Type 0 where
@@ -45,6 +46,7 @@ unfoldable mutual
   Holds N dep (name x) i D S = (d : ℕ) × (N i ≡ nname (S x .by) d) × (S x .level ≡ suc d)
   Holds N dep (field k t) i D S = (c : ℕ) × (N i ≡ nfield k c) × Holds N dep t c D S
   Holds N dep (rec ts) i D S = (cs : List ℕ) × (N i ≡ nrec cs) × HoldsL N dep ts cs D S
+  Holds N dep (app f ts) i D S = (cs : List ℕ) × (N i ≡ napp f cs) × HoldsL N dep ts cs D S
   Holds N dep (bin o s t) i D S = (a : ℕ) × (b : ℕ) × (N i ≡ nbin o a b) × Holds N dep s a D S × Holds N dep t b D S
   Holds N dep (negate t) i D S = (c : ℕ) × (N i ≡ nnegate c) × Holds N dep t c D S
   Holds N dep (comp m qs h) i D S = (cs : List ℕ) × (k : ℕ) × (N i ≡ ncomp m cs k) × (D < levels) × HoldsQ N dep qs cs D S × Holds N dep h k (suc D) (behind qs cs D S)

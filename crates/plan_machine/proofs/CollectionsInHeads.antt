@@ -5,16 +5,17 @@ use mathlib.Core.Bool.{Bool, true, false, _||_}
 use Prim.Native.Nat.{ℕ, zero, suc, _+_}
 use lib.Dec.{eqb}
 use Rattle.spec_calculus.specs.Lists.{upd}
-use Rattle.spec_calculus.specs.Syntax.{Monoid, of, sum, max, min, some, all, Bin, plus, minus, times, equal, less, and, or, Term, Terms, Quals, name, field, table, tnil, tcons, qnil, bind, Question, asTerm}
+use Rattle.spec_calculus.specs.Syntax.{Monoid, of, sum, max, min, some, all, Bin, plus, minus, times, equal, less, and, or, Fun, Term, Terms, Quals, name, field, table, tnil, tcons, qnil, bind, Question, asTerm}
 use Rattle.spec_calculus.specs.Syntax as Sy
 use Rattle.spec_calculus.specs.Value.{Tables, kindOf, columnsOf}
 use Rattle.spec_checks.specs.Types.{Ty, Tys, number, record′, coll, ynil, ycons, wrong, has, cells, typeAt, Context, generatorsFit}
 use Rattle.spec_checks.specs.Types as Ty
-use Rattle.spec_checks.proofs.Judgement.{operand, result, Gathers, Has, HasL, HasQ, untyped, same-type, question-typed}
-use Rattle.spec_normal_form.specs.Form.{Form, Forms, Clauses, asForm, num, truth, row, cell, rec, bin, negate, comp, fnil, fcons, done, gen, cond, _⊕_, gens, gensC}
-use Rattle.spec_normal_form.specs.Normal.{Sem, Sems, fields, nested, plain, snil, scons, quote, quotes, idempotent, givesWay, condition, ranges, nth, part, binary, before, SemEnv, norm, norms, walk, nowhere, normal}
+use Rattle.spec_checks.proofs.Judgement.{operand, result, Takes, Gathers, Has, HasL, HasQ, untyped, same-type, question-typed}
+use Rattle.spec_normal_form.specs.Form.{Form, Forms, Clauses, asForm, num, truth, row, cell, rec, bin, negate, app, comp, fnil, fcons, done, gen, cond, _⊕_, gens, gensC}
+use Rattle.spec_normal_form.specs.Normal.{Sem, Sems, fields, nested, plain, snil, scons, quote, quotes, idempotent, givesWay, condition, ranges, nth, part, binary, applied, before, SemEnv, norm, norms, walk, nowhere, normal}
 use Rattle.spec_normal_form.specs.Normal as Nm
 use Rattle.plan_machine.specs.AnswerText.{collects}
+use Rattle.spec_checks.proofs.Judgement as Jd
 
 -- a term of one word, all the way down
 abbrev mutual
@@ -24,9 +25,14 @@ abbrev mutual
   Scalar (row g) = ⊥
   Scalar (cell i g) = Unit {0}
   Scalar (rec ts) = ⊥
+  Scalar (app f ts) = ScalarF ts
   Scalar (bin o s t) = Scalar s × Scalar t
   Scalar (negate t) = Scalar t
   Scalar (comp m q h) = (collects m ≡ false) × ScalarC q × Scalar h
+
+  pub ScalarF : Forms → Type 0
+  ScalarF fnil = Unit {0}
+  ScalarF (fcons t ts) = Scalar t × ScalarF ts
 
   pub ScalarC : Clauses → Type 0
   ScalarC done = Unit {0}
@@ -45,6 +51,7 @@ abbrev mutual
   Fitting (row g) = Unit {0}
   Fitting (cell i g) = Unit {0}
   Fitting (rec ts) = FittingF ts
+  Fitting (app f ts) = ScalarF ts
   Fitting (bin o s t) = Scalar s × Scalar t
   Fitting (negate t) = Scalar t
   Fitting (comp m q h) = ScalarC q × Either (collects m) (Fitting h) (Scalar h)
@@ -59,6 +66,7 @@ scalar-fitting (truth b) h = tt
 scalar-fitting (row g) h = tt
 scalar-fitting (cell i g) h = tt
 scalar-fitting (rec ts) h = absurd h
+scalar-fitting (app f ts) h = h
 scalar-fitting (bin o s t) h = h
 scalar-fitting (negate t) h = h
 scalar-fitting (comp m q u) h = (h .1, subst (λ b. Either b (Fitting u) (Scalar u)) (sym (h .0)) (h .2))
@@ -124,6 +132,63 @@ good-binary less a b g h = good-truth (pairOf less a b) (good-pair less a b g h)
 good-binary and a b g h = (good-pair and a b g h, (λ c n. clauses-append (condition a c n) (condition b c (n + gensC (condition a c n))) (g .1 c n) (h .1 c (n + gensC (condition a c n)))))
 good-binary or a b g h = good-truth (pairOf or a b) (good-pair or a b g h)
 
+-- operands, one for one
+abbrev GoodL : Tys → Sems → Type 0
+GoodL ynil snil = Unit {0}
+GoodL ynil (scons d ds) = ⊥
+GoodL (ycons τ us) snil = ⊥
+GoodL (ycons τ us) (scons d ds) = Good τ d × GoodL us ds
+
+goods-of : (us : Tys) (ds : Sems) → GoodL us ds → Goods us (λ i. nth i ds)
+unfolding nth
+goods-of ynil ds g = tt
+goods-of (ycons τ us) snil g = absurd g
+goods-of (ycons τ us) (scons d ds) g = (g .0, goods-of us ds (g .1))
+
+fit-of : (us : Tys) (ds : Sems) → GoodL us ds → (n : ℕ) → FittingF (quotes ds n)
+unfolding quote
+fit-of ynil snil g n = tt
+fit-of ynil (scons d ds) g n = absurd g
+fit-of (ycons τ us) snil g n = absurd g
+fit-of (ycons τ us) (scons d ds) g n = (good-fits τ d (g .0) n, fit-of us ds (g .1) (n + gens (quote d n)))
+
+-- an operator's operands are numbers or truths
+abbrev Plain : Tys → Type 0
+Plain ynil = Unit {0}
+Plain (ycons number us) = Plain us
+Plain (ycons Ty.truth us) = Plain us
+Plain (ycons (record′ ts) us) = ⊥
+Plain (ycons (coll c τ) us) = ⊥
+
+choice-plain : (τ : Ty) → Jd.Scalar τ → Plain (ycons Ty.truth (ycons τ (ycons τ ynil)))
+choice-plain number s = tt
+choice-plain Ty.truth s = tt
+choice-plain (record′ ts) s = absurd s
+choice-plain (coll c τ) s = absurd s
+
+takes-plain : (f : Fun) (us : Tys) (τ : Ty) → Takes f us τ → Plain us
+takes-plain Sy.choice us τ h = subst Plain (sym (h .1)) (choice-plain τ (h .0))
+
+scalars : (us : Tys) (ds : Sems) → Plain us → GoodL us ds → (n : ℕ) → ScalarF (quotes ds n)
+unfolding quote
+scalars ynil snil p g n = tt
+scalars ynil (scons d ds) p g n = absurd g
+scalars (ycons τ us) snil p g n = absurd g
+scalars (ycons number us) (scons d ds) p g n = (g .0 n, scalars us ds p (g .1) (n + gens (quote d n)))
+scalars (ycons Ty.truth us) (scons d ds) p g n = (g .0 .0 n, scalars us ds p (g .1) (n + gens (quote d n)))
+scalars (ycons (record′ ts) us) (scons d ds) p g n = absurd p
+scalars (ycons (coll c τ) us) (scons d ds) p g n = absurd p
+
+good-choice : (τ : Ty) (ds : Sems) → Jd.Scalar τ → ((n : ℕ) → ScalarF (quotes ds n)) → Good τ (applied Sy.choice ds)
+unfolding quote
+good-choice number ds s h = h
+good-choice Ty.truth ds s h = good-truth (λ n. app Sy.choice (quotes ds n)) h
+good-choice (record′ ts) ds s h = absurd s
+good-choice (coll c τ) ds s h = absurd s
+
+good-app : (f : Fun) (us : Tys) (τ : Ty) (ds : Sems) → Takes f us τ → GoodL us ds → Good τ (applied f ds)
+good-app Sy.choice us τ ds h g = good-choice τ ds (h .0) (scalars us ds (takes-plain Sy.choice us τ h) g)
+
 -- the row of a generator
 cells-good : (g c : ℕ) (f : ℕ → ℕ) → Goods (cells c) (λ i. plain (λ n. cell (f i) g))
 unfolding cells quote
@@ -158,14 +223,6 @@ module _ (q : Bool → ℕ → Clauses) (h : Bool → ℕ → Sem) where
 negate-good : (d : Sem) (τ : Ty) → τ ≡ Ty.truth → Good Ty.truth d → Good τ (plain (λ n. negate (quote d n)))
 negate-good d τ e g = subst (λ x. Good x (plain (λ n. negate (quote d n)))) (sym e) (good-truth (λ n. negate (quote d n)) (λ n. g .0 n))
 
-nil-good : (us : Tys) → us ≡ ynil → Goods us (λ i. nth i snil) × ((n : ℕ) → FittingF (quotes snil n))
-unfolding quote
-nil-good us e = subst (λ x. Goods x (λ i. nth i snil) × ((n : ℕ) → FittingF (quotes snil n))) (sym e) (tt, (λ n. tt))
-
-cons-good : (d : Sem) (ds : Sems) (σ : Ty) (ws us : Tys) → us ≡ ycons σ ws → Good σ d → Goods ws (λ i. nth i ds) × ((n : ℕ) → FittingF (quotes ds n)) → Goods us (λ i. nth i (scons d ds)) × ((n : ℕ) → FittingF (quotes (scons d ds) n))
-unfolding quote nth
-cons-good d ds σ ws us e g h = subst (λ x. Goods x (λ i. nth i (scons d ds)) × ((n : ℕ) → FittingF (quotes (scons d ds) n))) (sym e) ((g, h .0), (λ n. (good-fits σ d g n, h .1 (n + gens (quote d n)))))
-
 -- what names come to
 abbrev GoodEnv : Context → SemEnv → Type 0
 GoodEnv Γ δ = (x : ℕ) (τ : Ty) → Γ x ≡ has τ → Good τ (δ x)
@@ -193,17 +250,18 @@ module _ (T : Tables) where
     norm-good (name x) Γ δ e τ h = e x τ h
     norm-good (field i t) Γ δ e τ h = goods-at i (h .0) (λ j. part j (norm (kindOf T) t δ)) τ (h .2) (norm-good t Γ δ e (record′ (h .0)) (h .1) .0)
     norm-good (Sy.rec ts) Γ δ e τ h =
-        let g : Goods (h .0) (λ i. nth i (norms (kindOf T) ts δ)) × ((n : ℕ) → FittingF (quotes (norms (kindOf T) ts δ) n)) = norms-good ts Γ δ e (h .0) (h .1) in
-        subst (λ x. Good x (fields (norms (kindOf T) ts δ))) (sym (h .2)) g
+        let g = norms-good ts Γ δ e (h .0) (h .1) in
+        subst (λ x. Good x (fields (norms (kindOf T) ts δ))) (sym (h .2)) (goods-of (h .0) (norms (kindOf T) ts δ) g, fit-of (h .0) (norms (kindOf T) ts δ) g)
+    norm-good (Sy.app f ts) Γ δ e τ h = good-app f (h .0) τ (norms (kindOf T) ts δ) (h .2) (norms-good ts Γ δ e (h .0) (h .1))
     norm-good (Sy.bin o s t) Γ δ e τ h = subst (λ x. Good x (binary o (norm (kindOf T) s δ) (norm (kindOf T) t δ))) (sym (h .2)) (good-binary o (norm (kindOf T) s δ) (norm (kindOf T) t δ) (norm-good s Γ δ e (operand o) (h .0)) (norm-good t Γ δ e (operand o) (h .1)))
     norm-good (Sy.negate t) Γ δ e τ h = negate-good (norm (kindOf T) t δ) τ (h .1) (norm-good t Γ δ e Ty.truth (h .0))
     norm-good (Sy.comp m qs u) Γ δ e τ h =
         nested-good _ _ m (h .1) τ (λ b n. walk-good qs m Γ (h .0) δ e (h .2) (h .1) (b || idempotent m) (λ ε. norm (kindOf T) u ε) (λ ε g. norm-good u (h .0) ε g (h .1) (h .3)) n) (h .4)
     norm-good (table k) Γ δ e τ h = nested-good (λ b n. gen n k done) (λ b n. Nm.row n) (of (kindOf T k)) (record′ (cells (columnsOf T k))) τ (λ b n. (tt, row-good n (columnsOf T k))) (h .1)
 
-    norms-good : (ts : Terms) (Γ : Context) (δ : SemEnv) → GoodEnv Γ δ → (us : Tys) → HasL T Γ ts us → Goods us (λ i. nth i (norms (kindOf T) ts δ)) × ((n : ℕ) → FittingF (quotes (norms (kindOf T) ts δ) n))
-    norms-good tnil Γ δ e us h = nil-good us h
-    norms-good (tcons t ts) Γ δ e us h = cons-good (norm (kindOf T) t δ) (norms (kindOf T) ts δ) (h .0) (h .1) us (h .4) (norm-good t Γ δ e (h .0) (h .2)) (norms-good ts Γ δ e (h .1) (h .3))
+    norms-good : (ts : Terms) (Γ : Context) (δ : SemEnv) → GoodEnv Γ δ → (us : Tys) → HasL T Γ ts us → GoodL us (norms (kindOf T) ts δ)
+    norms-good tnil Γ δ e us h = rw h tt
+    norms-good (tcons t ts) Γ δ e us h = rw (h .4) (norm-good t Γ δ e (h .0) (h .2), norms-good ts Γ δ e (h .1) (h .3))
 
     walk-good : (qs : Quals) (m : Monoid) (Γ Δ : Context) (δ : SemEnv) → GoodEnv Γ δ → HasQ T m Γ qs Δ → (σ : Ty) (b : Bool) (h : SemEnv → Sem) → ((ε : SemEnv) → GoodEnv Δ ε → Good σ (h ε)) → (n : ℕ)
         → ScalarC (walk (kindOf T) qs b h δ n .clauses) × Good σ (walk (kindOf T) qs b h δ n .head)

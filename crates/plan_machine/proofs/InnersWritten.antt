@@ -5,7 +5,7 @@ use mathlib.Core.Bool.{Bool, true, false, not, _&&_, _||_, and-true, and-false, 
 use Prim.Native.Nat.{ℕ, suc}
 use Rattle.spec_calculus.specs.Lists.{pick}
 use Rattle.spec_calculus.specs.Syntax.{Monoid}
-use Rattle.spec_normal_form.specs.Form.{Form, Forms, Clauses, NormalForm, asForm, num, truth, row, cell, rec, bin, negate, comp, fnil, fcons, done, gen, cond}
+use Rattle.spec_normal_form.specs.Form.{Form, Forms, Clauses, NormalForm, asForm, num, truth, row, cell, rec, bin, negate, app, comp, fnil, fcons, done, gen, cond}
 use Rattle.spec_plan.specs.Plan.{PTerm, place}
 use Rattle.spec_plan.specs.Planner.{free, Slots, next, nexts, term, terms, nextL, Gen, planGens, condsOf, sift, late, slot, slots, after, noSlots}
 use Rattle.spec_plan.proofs.StreamRows.{eqb-self}
@@ -18,6 +18,7 @@ use Rattle.plan_machine.specs.AnswerText.{parts, partsL, isPlace, among,
 use Rattle.plan_machine.proofs.ProgramIsPlan.{innersF-end, program-end}
 use Rattle.plan_machine.proofs.HeadOrder.{opens}
 use Rattle.plan_machine.proofs.CollectionsInHeads.{Scalar, ScalarC, Either, Fitting, FittingF, normal-fitting}
+use Rattle.plan_machine.proofs.CollectionsInHeads.{ScalarF}
 
 -- each inner comprehension that collects is written
 abbrev pub Straight : ℕ → Bool → Program → Type 0
@@ -72,11 +73,16 @@ mutual
   scalar-straight (row g) h k c p b s = absurd h
   scalar-straight (cell i g) h k c p b s = s
   scalar-straight (rec ts) h k c p b s = absurd h
+  scalar-straight (app f ts) h k c p b s = scalars-straight ts h k c p b s
   scalar-straight (bin o t u) h k c p b s = scalar-straight t (h .0) k c (inners u (next t k) c p) b (scalar-straight u (h .1) (next t k) c p b s)
   scalar-straight (negate t) h k c p b s = scalar-straight t h k c p b s
   scalar-straight (comp m q u) h k c p b s = inner-scalar (programAt m q u k c) p k b (program-collects m q u k c ∙ h .0)
       (λ d. program-straight m q u k c d (λ x y. clauses-straight q (h .1) (after (planGens q) k) (slots (planGens q) k c) x d y)
       (scalar-straight u (h .2) (nextL (late q) (after (planGens q) k)) (slots (planGens q) k c) (end (endAt m q u k c)) d tt)) s
+
+  scalars-straight : (ts : Forms) → ScalarF ts → (k : ℕ) (c : Slots) (p : Program) (b : Bool) → Straight (nexts ts k) b p → Straight k b (innersF ts k c p)
+  scalars-straight fnil h k c p b s = s
+  scalars-straight (fcons t ts) h k c p b s = scalar-straight t (h .0) k c (innersF ts (next t k) c p) b (scalars-straight ts (h .1) (next t k) c p b s)
 
   clauses-straight : (q : Clauses) → ScalarC q → (k : ℕ) (c : Slots) (p : Program) (b : Bool) → Straight (nextL (late q) k) b p → Straight k b (innersC q k c p)
   clauses-straight done h k c p b s = s
@@ -123,6 +129,7 @@ mutual
   heads-fit (row g) h k c = λ p hs more e s. s
   heads-fit (cell i g) h k c = λ p hs more e s. s
   heads-fit (rec ts) h k c = headsF-fit ts h k c
+  heads-fit (app f ts) h k c = λ p hs more e s. scalar-straight (app f ts) h k c p true s
   heads-fit (bin o t u) h k c = λ p hs more e s. scalar-straight (bin o t u) h k c p true s
   heads-fit (negate t) h k c = λ p hs more e s. scalar-straight (negate t) h k c p true s
   heads-fit (comp m q u) h k c = heads-place (programAt m q u k c) k (subst (λ b. Straight k b (programAt m q u k c)) (sym (program-collects m q u k c))

@@ -7,7 +7,7 @@ use Prim.Native.Nat.{ℕ, suc, _+_, _*_, _≤_}
 use lib.ListN.{length}
 use Rattle.spec_calculus.specs.Lists.{pick}
 use Rattle.spec_calculus.specs.Syntax.{Monoid}
-use Rattle.spec_normal_form.specs.Form.{Form, Forms, Clauses, NormalForm, asForm, num, truth, row, cell, rec, bin, negate, comp, fnil, fcons, done, gen, cond}
+use Rattle.spec_normal_form.specs.Form.{Form, Forms, Clauses, NormalForm, asForm, num, truth, row, cell, rec, bin, negate, app, comp, fnil, fcons, done, gen, cond}
 use Rattle.spec_normal_form.specs.Size.{nodes, nodesF, nodesC}
 use Rattle.spec_plan.specs.Planner.{free, Slots, next, nextL, Gen, gensOf, planGens, early, late, slot, slots, after, noSlots}
 use Rattle.spec_plan.proofs.Slots.{unit-length}
@@ -50,6 +50,7 @@ mutual
   inners-before (row g) k c p = omega arith
   inners-before (cell i g) k c p = omega arith
   inners-before (rec ts) k c p = omega (arith, innersF-before ts k c p)
+  inners-before (app f ts) k c p = omega (arith, innersF-before ts k c p)
   inners-before (bin o s t) k c p = omega (arith, inners-before s k c (inners t (next s k) c p), inners-before t (next s k) c p)
   inners-before (negate t) k c p = omega (arith, inners-before t k c p)
   inners-before (comp m q h) k c p = omega (arith, program-before m q h k c (λ x. innersC-before q (after (planGens q) k) (slots (planGens q) k c) x) (λ x. inners-before h (nextL (late q) (after (planGens q) k)) (slots (planGens q) k c) x))

@@ -5,7 +5,7 @@ use mathlib.Core.Bool.{Bool, true, false, not}
 use Prim.Native.Nat.{ℕ, suc}
 use Rattle.spec_calculus.specs.Lists.{pick}
 use Rattle.spec_calculus.specs.Syntax.{Monoid}
-use Rattle.spec_normal_form.specs.Form.{Form, Forms, Clauses, NormalForm, num, truth, row, cell, rec, bin, negate, comp, fnil, fcons, done, gen, cond}
+use Rattle.spec_normal_form.specs.Form.{Form, Forms, Clauses, NormalForm, num, truth, row, cell, rec, bin, negate, app, comp, fnil, fcons, done, gen, cond}
 use Rattle.spec_plan.specs.Plan.{PTerm, Source, Op, join, outer, plan}
 use Rattle.spec_plan.specs.Planner.{free, Slots, next, nexts, nextL, termL, conj, Gen, source, planGens, condsOf, sift, early, late, slot, slots, after, growsAt, grows, ops, opsF, opsC, noSlots, planOf}
 use Rattle.plan_machine.specs.Program.{End, Program, end, inner, endOf, nestAt, operators, loopsAt, loops, endAt, inners, innersF, innersC, programAt, programOf, planFrom}
@@ -30,6 +30,7 @@ mutual
   inners-end (row g) k c p = refl
   inners-end (cell i g) k c p = refl
   inners-end (rec ts) k c p = innersF-end ts k c p
+  inners-end (app f ts) k c p = innersF-end ts k c p
   inners-end (bin o s t) k c p = inners-end s k c (inners t (next s k) c p) ∙ inners-end t (next s k) c p
   inners-end (negate t) k c p = inners-end t k c p
   inners-end (comp m q h) k c p = refl
@@ -115,6 +116,7 @@ mutual
   inners-list (row g) k c = λ o p. refl
   inners-list (cell i g) k c = λ o p. refl
   inners-list (rec ts) k c = innersF-list ts k c
+  inners-list (app f ts) k c = innersF-list ts k c
   inners-list (bin b s t) k c = lists-two (inners s k c) (inners t (next s k) c) (ops s k c) (ops t (next s k) c) k (next s k) (next t (next s k)) (inners-list s k c) (inners-list t (next s k) c)
   inners-list (negate t) k c = inners-list t k c
   inners-list (comp m q h) k c = comp-list m q h k c (innersC-list q (after (planGens q) k) (slots (planGens q) k c)) (inners-list h (nextL (late q) (after (planGens q) k)) (slots (planGens q) k c))
