@@ -3,12 +3,14 @@ use mathlib.Core.Path.{_≡_, refl, sym}
 use Prim.Native.Nat.{ℕ, zero, suc}
 use native.Mathlib.Omega.{arith}
 use lib.ListN.{List·getD-eq-default}
-use Rattle.spec_calculus.specs.Syntax.{list, bag, set, of, sum, max, min, some, all, Bin, plus, minus, times, equal, less, and, or}
+use Rattle.spec_calculus.specs.Syntax.{list, bag, set, of, sum, max, min, some, all, Bin, plus, minus, times, equal, less, and, or, choice}
 use Rattle.spec_calculus.specs.Syntax as Sy
 use Rattle.base_syntax.specs.declared.Op.the-variants.{Plus}
+use Rattle.base_syntax.specs.declared.Fun.{Fun}
+use Rattle.base_syntax.specs.declared.Fun.the-variants.{Choice}
 use Rattle.base_syntax.specs.declared.Monoid.the-variants as Mo
 use Rattle.base_syntax.specs.MonoidWord.{monoidOf}
-use Rattle.base_syntax.specs.Numbers.{binOf, opArg, operators, opAt, monoidNumber, monoids, monoidNumbered, monoidArg, monoidAt}
+use Rattle.base_syntax.specs.Numbers.{binOf, opArg, operators, opAt, funOf, funArg, funAt, monoidNumber, monoids, monoidNumbered, monoidArg, monoidAt}
 
 pub op-back : (o : Bin) → binOf (opAt (opArg o)) ≡ o
 op-back plus = refl
@@ -18,6 +20,9 @@ op-back equal = refl
 op-back less = refl
 op-back and = refl
 op-back or = refl
+
+pub fun-back : (f : Sy.Fun) → funOf (funAt (funArg f)) ≡ f
+fun-back choice = refl
 
 pub number-back : (m : Sy.Monoid) → monoidOf (monoidNumbered (monoidNumber m)) ≡ m
 number-back (of list) = refl
@@ -39,10 +44,18 @@ monoid-back min = refl
 monoid-back some = refl
 monoid-back all = refl
 
+-- of the enum's one case
+pub fun-first : (f : Fun) → 0 ≡ funArg (funOf f)
+fun-first Choice = refl
+
 -- numbers that a match leaves
 pub op-rest : (a : ℕ) → (a ≡ 1 → ⊥) → (a ≡ 2 → ⊥) → (a ≡ 3 → ⊥) → (a ≡ 4 → ⊥) → (a ≡ 5 → ⊥) → (a ≡ 6 → ⊥) → Plus ≡ opAt a
 op-rest zero n1 n2 n3 n4 n5 n6 = refl
 op-rest (suc a) n1 n2 n3 n4 n5 n6 = sym (List·getD-eq-default operators Plus {n = suc a} (omega arith))
+
+pub fun-rest : (a : ℕ) → Choice ≡ funAt a
+fun-rest zero = refl
+fun-rest (suc a) = refl
 
 pub monoid-rest : (a : ℕ) → (a ≡ 2 → ⊥) → (a ≡ 3 → ⊥) → (a ≡ 4 → ⊥) → (a ≡ 5 → ⊥) → (a ≡ 6 → ⊥) → (a ≡ 7 → ⊥) → (a ≡ 8 → ⊥) → Mo.List ≡ monoidNumbered a
 monoid-rest zero n2 n3 n4 n5 n6 n7 n8 = refl

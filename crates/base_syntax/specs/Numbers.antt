@@ -3,10 +3,12 @@
 use mathlib.Core.List.{List, [], _∷_}
 use Prim.Native.Nat.{ℕ, zero, suc, _%_}
 use lib.ListN.{getD}
-use Rattle.spec_calculus.specs.Syntax.{list, bag, set, of, sum, max, min, some, all, Bin, plus, minus, times, equal, less, and, or}
+use Rattle.spec_calculus.specs.Syntax.{list, bag, set, of, sum, max, min, some, all, Bin, plus, minus, times, equal, less, and, or, choice}
 use Rattle.spec_calculus.specs.Syntax as Sy
 use Rattle.base_syntax.specs.declared.Op.{Op}
 use Rattle.base_syntax.specs.declared.Op.the-variants.{Plus, Minus, Times, Equal, Less, And, Or}
+use Rattle.base_syntax.specs.declared.Fun.{Fun}
+use Rattle.base_syntax.specs.declared.Fun.the-variants.{Choice}
 use Rattle.base_syntax.specs.declared.Monoid.{Monoid}
 use Rattle.base_syntax.specs.declared.Monoid.the-variants as Mo
 use Rattle.base_syntax.specs.MonoidWord.{monoidOf}
@@ -35,6 +37,19 @@ operators = Plus ∷ Minus ∷ Times ∷ Equal ∷ Less ∷ And ∷ Or ∷ []
 
 abbrev pub opAt : ℕ → Op
 opAt a = getD operators a Plus
+
+-- document 02's operators
+abbrev pub funOf : Fun → Sy.Fun
+funOf Choice = choice
+
+abbrev pub funArg : Sy.Fun → ℕ
+funArg choice = 0
+
+abbrev pub funs : List Fun
+funs = Choice ∷ []
+
+abbrev pub funAt : ℕ → Fun
+funAt a = getD funs a Choice
 
 -- "1 list, 2 bag, 3 set ..; 4 sum ..; 5 max ..; 6 some ..; 7 all"; "monoid 8, min" (document 02, E1)
 abbrev pub monoidNumber : Sy.Monoid → ℕ

@@ -4,7 +4,7 @@ ghost use mathlib.Core.Path.{_≡_};
 ghost use Prim.Native.Nat.{_<_, _%_, _^_};
 ghost use lib.Signed.{mag};
 ghost use Rattle.base_syntax.specs.MonoidWord.{monoidOf, zeroWord, chosen, mergeWord, finishWord, oneMore};
-ghost use Rattle.base_syntax.specs.Numbers.{binOf, opArg, opAt, numberOf, monoidNumbered, monoidArg, monoidAt};
+ghost use Rattle.base_syntax.specs.Numbers.{binOf, opArg, opAt, funOf, funArg, funAt, numberOf, monoidNumbered, monoidArg, monoidAt};
 use base_signed::COUNT_LIMIT;
 use base_signed::NUMBER_MOST;
 
@@ -48,6 +48,9 @@ pub const KIND_BINDING: u64 = 17;
 
 pub const KIND_CONDITION: u64 = 18;
 
+// Document 02's: a choice (E2).
+pub const KIND_CHOICE: u64 = 19;
+
 // The kind of the data's records: a table with its rows.
 pub const KIND_ROWS: usize = 20;
 
@@ -67,6 +70,11 @@ pub enum Op {
     Less,
     And,
     Or,
+}
+
+// Document 02's operators, each over a list of terms.
+pub enum Fun {
+    Choice,
 }
 
 pub enum Monoid {
@@ -234,6 +242,25 @@ impl Op {
             5 => Op::And,
             6 => Op::Or,
             _ => Op::Plus,
+        }
+    }
+}
+
+impl Fun {
+    // The number in a form word.
+    pub fn number(self) -> u64
+        ensures { λ r. ⌜ (r ≡ funArg (funOf self)) × (r < 8) ⌝ }
+    {
+        match self {
+            Fun::Choice => 0,
+        }
+    }
+
+    pub fn from_number(n: u64) -> Fun
+        ensures { λ r. ⌜ r ≡ funAt n ⌝ }
+    {
+        match n {
+            _ => Fun::Choice,
         }
     }
 }

@@ -4,16 +4,19 @@ ghost use Prim.Native.Nat.{_≤_, _^_};
 ghost use lib.IntN.{natAbs};
 ghost use Rattle.base_syntax.specs.MonoidWord.{monoidOf};
 ghost use Rattle.base_syntax.specs.Numbers.{binOf};
-ghost use Rattle.form_arith.specs.WordSorts.{codeOf, readWord, sortOf, operandSort, resultSort, truthWord, negateWord, operateWord, operateBound};
+ghost use Rattle.form_arith.specs.WordSorts.{codeOf, isSame, readWord, sortOf, operandSort, resultSort, truthWord, negateWord, operateWord, operateBound};
 use base_syntax::Monoid;
 use base_syntax::Op;
 
-// How a value is read as a word: as a number, as a truth, or not at all.
+// How a value is read as a word: as a number, as a truth, as what it is of the two, or not at all.
 pub enum Sort {
     Number,
     Truth,
     Other,
+    Either,
 }
+
+const EITHER: u64 = 3;
 
 fn code(k: Sort) -> u64
     ensures { λ r. ⌜ r ≡ codeOf k ⌝ }
@@ -22,14 +25,25 @@ fn code(k: Sort) -> u64
         Sort::Number => 0,
         Sort::Truth => 1,
         Sort::Other => 2,
+        Sort::Either => EITHER,
     }
+}
+
+pub fn same(k: Sort, l: Sort) -> bool
+    ensures { λ r. ⌜ r ≡ isSame k l ⌝ }
+{
+    code(k) == code(l)
 }
 
 // The word x of a value of one sort, read as another.
 pub fn read_as(want: Sort, have: Sort, x: i64) -> i64
     ensures { λ r. ⌜ r ≡ readWord want have x ⌝ }
 {
-    if code(want) == code(have) { x } else { 0 }
+    let c = code(want);
+    if c == code(have) {
+        return x;
+    }
+    if c == EITHER { x } else { 0 }
 }
 
 // The sort of a monoid's heads, and of its value.

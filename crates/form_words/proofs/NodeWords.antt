@@ -17,9 +17,10 @@ use Rattle.spec_normal_form.specs.Form.{Form, Clauses, fnil, fcons}
 use Rattle.base_syntax.specs.declared.Monoid.{Monoid}
 use Rattle.base_signed.proofs.SignedWords.{fits, up, mag-sub}
 use Rattle.base_syntax.specs.declared.Op.{Op}
-use Rattle.base_syntax.specs.Numbers.{opAt, monoidAt}
+use Rattle.base_syntax.specs.declared.Fun.{Fun}
+use Rattle.base_syntax.specs.Numbers.{opAt, funAt, monoidAt}
 use Rattle.form_words.specs.declared.FormNode.{FormNode}
-use Rattle.form_words.specs.declared.FormNode.the-variants.{Number, Truth, Row, Cell, Record, Binary, Negation, Comprehension, Generator, Condition, Nothing}
+use Rattle.form_words.specs.declared.FormNode.the-variants.{Number, Truth, Row, Cell, Record, Binary, Negation, Operator, Comprehension, Generator, Condition, Nothing}
 use Rattle.form_words.specs.declared.Leaf.{Leaf}
 use Rattle.form_words.specs.declared.Leaf.the-variants as Le
 use Rattle.form_words.specs.declared.Clause.{Clause}
@@ -97,19 +98,19 @@ each-at P [] k i j e z h = z
 each-at P (n ∷ l) k zero j e z h = h .0 (omega arith)
 each-at P (n ∷ l) k (suc i) j e z h = each-at P l k i (suc j) (omega arith) z (h .1)
 
--- what holds of nothing, and of the node of each of the ten kinds that the word w at a place may have
+-- what holds of nothing, and of the node of each of the eleven kinds that the word w at a place may have
 pub node-by : (P : FormNode → Type 0) (s : List ℕ) (i : ℕ) {w : ℕ} → w ≡ wordAt s i → P Nothing →
     (kindOf w ≡ 1 → P (Number (numberOf (argOf w)))) → (kindOf w ≡ 2 → P (Truth (eqb (argOf w) 1))) → (kindOf w ≡ 3 → P (Row (argOf w % 1024))) →
     (kindOf w ≡ 4 → P (Cell (argOf w / 1024 % 1024) (argOf w % 1024))) → (kindOf w ≡ 5 → P (Record (next s i))) →
     (kindOf w ≡ 6 → P (Binary (opAt (argOf w)) (next s (i + 1)))) → (kindOf w ≡ 7 → P Negation) →
     (kindOf w ≡ 8 → P (Comprehension (monoidAt (argOf w % 8)))) → (kindOf w ≡ 9 → P (Generator (argOf w / 1024 % 1024) (argOf w % 1024))) →
-    (kindOf w ≡ 10 → P (Condition (next s i))) → P (nodeAt s i)
+    (kindOf w ≡ 10 → P (Condition (next s i))) → (kindOf w ≡ 11 → P (Operator (funAt (argOf w)) (next s i))) → P (nodeAt s i)
 unfolding nodeAt nodeOf pick
-node-by P s i {w} e z h1 h2 h3 h4 h5 h6 h7 h8 h9 h10 = subst (λ x. P (pick (leb places i) Nothing (nodeOf s i (kindOf x) (argOf x)))) e (go (leb places i))
+node-by P s i {w} e z h1 h2 h3 h4 h5 h6 h7 h8 h9 h10 h11 = subst (λ x. P (pick (leb places i) Nothing (nodeOf s i (kindOf x) (argOf x)))) e (go (leb places i))
   where
     go : (b : Bool) → P (pick b Nothing (nodeOf s i (kindOf w) (argOf w)))
     go true = z
-    go false = each-at P (kinds s i (argOf w)) (kindOf w) (kindOf w) 0 (omega arith) z ((λ q. z), (h1, (h2, (h3, (h4, (h5, (h6, (h7, (h8, (h9, (h10, tt)))))))))))
+    go false = each-at P (kinds s i (argOf w)) (kindOf w) (kindOf w) 0 (omega arith) z ((λ q. z), (h1, (h2, (h3, (h4, (h5, (h6, (h7, (h8, (h9, (h10, (h11, tt))))))))))))
 
 pub look-out : {s : List ℕ} {i : ℕ} → places ≤ i → Looks s i Nothing
 unfolding nodeAt pick
@@ -161,18 +162,22 @@ module _ {s : List ℕ} {i w a k : ℕ} (p : i < places) (e : w ≡ wordAt s i) 
   unfolding nodeOf
   look-condition l q = look-by (rw q (next-past s i p), rw q (next-most s i)) (rw (l, q))
 
--- a kind that is none of the ten
+  pub look-operator : {f : Fun} {j : ℕ} → k ≡ 11 → f ≡ funAt (a) → j ≡ next s i → Looks s i (Operator f j)
+  unfolding nodeOf
+  look-operator l q r = look-by (rw r (next-past s i p), rw r (next-most s i)) (rw (l, q, r))
+
+-- a kind that is none of the eleven
 pub look-rest : {s : List ℕ} {i w k : ℕ} → w ≡ wordAt s i → k ≡ kindOf w →
     (k ≡ 1 → ⊥) → (k ≡ 2 → ⊥) → (k ≡ 3 → ⊥) → (k ≡ 4 → ⊥) → (k ≡ 5 → ⊥) → (k ≡ 6 → ⊥) →
-    (k ≡ 7 → ⊥) → (k ≡ 8 → ⊥) → (k ≡ 9 → ⊥) → (k ≡ 10 → ⊥) → Looks s i Nothing
-look-rest {s} {i} e K n1 n2 n3 n4 n5 n6 n7 n8 n9 n10 = record {
-  is = node-by (λ n. Nothing ≡ n) s i e refl (λ q. absurd (n1 (K ∙ q))) (λ q. absurd (n2 (K ∙ q))) (λ q. absurd (n3 (K ∙ q))) (λ q. absurd (n4 (K ∙ q))) (λ q. absurd (n5 (K ∙ q))) (λ q. absurd (n6 (K ∙ q))) (λ q. absurd (n7 (K ∙ q))) (λ q. absurd (n8 (K ∙ q))) (λ q. absurd (n9 (K ∙ q))) (λ q. absurd (n10 (K ∙ q)));
+    (k ≡ 7 → ⊥) → (k ≡ 8 → ⊥) → (k ≡ 9 → ⊥) → (k ≡ 10 → ⊥) → (k ≡ 11 → ⊥) → Looks s i Nothing
+look-rest {s} {i} e K n1 n2 n3 n4 n5 n6 n7 n8 n9 n10 n11 = record {
+  is = node-by (λ n. Nothing ≡ n) s i e refl (λ q. absurd (n1 (K ∙ q))) (λ q. absurd (n2 (K ∙ q))) (λ q. absurd (n3 (K ∙ q))) (λ q. absurd (n4 (K ∙ q))) (λ q. absurd (n5 (K ∙ q))) (λ q. absurd (n6 (K ∙ q))) (λ q. absurd (n7 (K ∙ q))) (λ q. absurd (n8 (K ∙ q))) (λ q. absurd (n9 (K ∙ q))) (λ q. absurd (n10 (K ∙ q))) (λ q. absurd (n11 (K ∙ q)));
   inside = tt;
 }
 
 -- the monoid of a comprehension, read off its word
 pub monoid-word : (s : List ℕ) (i : ℕ) {w : ℕ} {m : Monoid} → w ≡ wordAt s i → nodeAt s i ≡ Comprehension m → monoidAt (argOf w % 8) ≡ m
-monoid-word s i {w} {m} e = node-by (λ n. n ≡ Comprehension m → monoidAt (argOf w % 8) ≡ m) s i e (λ q. cc q) (λ _ q. cc q) (λ _ q. cc q) (λ _ q. cc q) (λ _ q. cc q) (λ _ q. cc q) (λ _ q. cc q) (λ _ q. cc q) (λ _ q. cc q) (λ _ q. cc q) (λ _ q. cc q)
+monoid-word s i {w} {m} e = node-by (λ n. n ≡ Comprehension m → monoidAt (argOf w % 8) ≡ m) s i e (λ q. cc q) (λ _ q. cc q) (λ _ q. cc q) (λ _ q. cc q) (λ _ q. cc q) (λ _ q. cc q) (λ _ q. cc q) (λ _ q. cc q) (λ _ q. cc q) (λ _ q. cc q) (λ _ q. cc q) (λ _ q. cc q)
 
 -- ---- leaves
 pub leaf-out : {s : List ℕ} {i : ℕ} → places ≤ i → LeafAtPost s i Le.Other
@@ -188,7 +193,7 @@ module _ {s : List ℕ} {i w a k : ℕ} (p : i < places) (e : w ≡ wordAt s i) 
 -- a kind that is neither a number's nor a cell's
 pub leaf-rest : {s : List ℕ} {i w k : ℕ} → w ≡ wordAt s i → k ≡ kindOf w → (k ≡ 1 → ⊥) → (k ≡ 4 → ⊥) → LeafAtPost s i Le.Other
 leaf-rest {s} {i} e K n1 n4 = record {
-  is = node-by (λ n. Le.Other ≡ leafOf n) s i e refl (λ q. absurd (n1 (K ∙ q))) (λ q. refl) (λ q. refl) (λ q. absurd (n4 (K ∙ q))) (λ q. refl) (λ q. refl) (λ q. refl) (λ q. refl) (λ q. refl) (λ q. refl);
+  is = node-by (λ n. Le.Other ≡ leafOf n) s i e refl (λ q. absurd (n1 (K ∙ q))) (λ q. refl) (λ q. refl) (λ q. absurd (n4 (K ∙ q))) (λ q. refl) (λ q. refl) (λ q. refl) (λ q. refl) (λ q. refl) (λ q. refl) (λ q. refl);
 }
 
 -- the node that a leaf was read from
@@ -208,6 +213,7 @@ leaf-node (Cell c g) = refl
 leaf-node (Record e) = tt
 leaf-node (Binary o j) = tt
 leaf-node Negation = tt
+leaf-node (Operator f e) = tt
 leaf-node (Comprehension m) = tt
 leaf-node (Generator g k) = tt
 leaf-node (Condition j) = tt
@@ -231,7 +237,7 @@ module _ {s : List ℕ} {i w a k : ℕ} (p : i < places) (e : w ≡ wordAt s i) 
 -- a kind that is neither a generator's nor a condition's
 pub clause-head : {s : List ℕ} {i w k : ℕ} → w ≡ wordAt s i → k ≡ kindOf w → (k ≡ 9 → ⊥) → (k ≡ 10 → ⊥) → LooksC s i Cl.Head
 clause-head {s} {i} e K n9 n10 = record {
-  is = node-by (λ n. Cl.Head ≡ clauseOf n) s i e refl (λ q. refl) (λ q. refl) (λ q. refl) (λ q. refl) (λ q. refl) (λ q. refl) (λ q. refl) (λ q. refl) (λ q. absurd (n9 (K ∙ q))) (λ q. absurd (n10 (K ∙ q)));
+  is = node-by (λ n. Cl.Head ≡ clauseOf n) s i e refl (λ q. refl) (λ q. refl) (λ q. refl) (λ q. refl) (λ q. refl) (λ q. refl) (λ q. refl) (λ q. refl) (λ q. absurd (n9 (K ∙ q))) (λ q. absurd (n10 (K ∙ q))) (λ q. refl);
   inside = tt;
 }
 

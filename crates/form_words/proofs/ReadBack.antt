@@ -12,13 +12,13 @@ use lib.IntN.{ℤ, pos, negsuc}
 use lib.Signed.{mag}
 use Rattle.spec_calculus.specs.Lists.{pick}
 use Rattle.spec_calculus.specs.Syntax as Sy
-use Rattle.spec_calculus.specs.Syntax.{list, bag, set, Monoid, of, sum, max, some, all, Bin, plus, minus, times, equal, less, and, or}
-use Rattle.spec_normal_form.specs.Form.{Form, Forms, Clauses, num, truth, row, cell, rec, bin, negate, comp, fnil, fcons, done, gen, cond}
+use Rattle.spec_calculus.specs.Syntax.{list, bag, set, Monoid, of, sum, max, some, all, Bin, plus, minus, times, equal, less, and, or, Fun}
+use Rattle.spec_normal_form.specs.Form.{Form, Forms, Clauses, num, truth, row, cell, rec, bin, negate, app, comp, fnil, fcons, done, gen, cond}
 use Rattle.spec_normal_form.specs.Size.{nodes, nodesF, nodesC}
-use Rattle.base_syntax.proofs.Numbers.{op-back, monoid-back}
-use Rattle.base_syntax.specs.Numbers.{binOf, opArg, opAt, monoidArg, monoidAt}
+use Rattle.base_syntax.proofs.Numbers.{op-back, fun-back, monoid-back}
+use Rattle.base_syntax.specs.Numbers.{binOf, opArg, opAt, funArg, funAt, monoidArg, monoidAt}
 use Rattle.form_words.specs.declared.FormNode.{FormNode}
-use Rattle.form_words.specs.declared.FormNode.the-variants.{Number, Truth, Row, Cell, Record, Binary, Negation, Comprehension, Generator, Condition}
+use Rattle.form_words.specs.declared.FormNode.the-variants.{Number, Truth, Row, Cell, Record, Binary, Negation, Operator, Comprehension, Generator, Condition}
 use Rattle.form_words.specs.declared.Clause.the-variants as Cl
 use Rattle.form_words.specs.NodeWord.{wordAt, kindOf, belowOf, argOf, pack, next, numberOf, nodeOf, nodeAt}
 use Rattle.form_words.specs.FormTree.{clauseOf, formTree, formsTree, clausesTree, headTree, left}
@@ -38,6 +38,7 @@ mutual
   length-flat (rec ts) = ap suc (length-flatF ts)
   length-flat (bin o s t) = ap suc (length-append (flat s) (flat t) ∙ ap₂ _+_ (length-flat s) (length-flat t))
   length-flat (negate t) = ap suc (length-flat t)
+  length-flat (app f ts) = ap suc (length-flatF ts)
   length-flat (comp m q h) = ap suc (length-append (flatC q) (flat h) ∙ ap₂ _+_ (length-flatC q) (length-flat h))
 
   pub length-flatF : (ts : Forms) → length (flatF ts) ≡ sizeF ts
@@ -60,6 +61,7 @@ mutual
   size-nodes (rec ts) = omega (arith, size-nodesF ts)
   size-nodes (bin o s t) = omega (arith, size-nodes s, size-nodes t)
   size-nodes (negate t) = omega (arith, size-nodes t)
+  size-nodes (app f ts) = omega (arith, size-nodesF ts)
   size-nodes (comp m q h) = omega (arith, size-nodesC q, size-nodes h)
 
   size-nodesF : (ts : Forms) → sizeF ts ≤ nodesF ts
@@ -84,6 +86,7 @@ size-some (cell c g) = omega arith
 size-some (rec ts) = omega arith
 size-some (bin o s t) = omega arith
 size-some (negate t) = omega arith
+size-some (app f ts) = omega arith
 size-some (comp m q h) = omega arith
 
 -- ---- words held
@@ -128,6 +131,7 @@ node s i (cell c g) = Cell c g
 node s i (rec ts) = Record (next s i)
 node s i (bin o t u) = Binary (opAt (opArg o)) (next s (i + 1))
 node s i (negate t) = Negation
+node s i (app f ts) = Operator (funAt (funArg f)) (next s i)
 node s i (comp m q h) = Comprehension (monoidAt (monoidArg m))
 
 module _ (s : List ℕ) where
@@ -149,6 +153,7 @@ module _ (s : List ℕ) where
   node-is (rec ts) i w l h = node-found i 5 (sizeF ts) 0 (h .0) (omega arith) (omega arith)
   node-is (bin o t u) i w l h = node-found i 6 (size t + size u) (opArg o) (h .0) (omega arith) (omega arith)
   node-is (negate t) i w l h = node-found i 7 (size t) 0 (h .0) (omega arith) (omega arith)
+  node-is (app f ts) i w l h = node-found i 11 (sizeF ts) (funArg f) (h .0) (omega arith) (omega arith)
   node-is (comp m q u) i w l h = node-found i 8 (sizeC q + size u) (monoidArg m) (h .0) (omega arith) (omega arith) ∙ ap (λ a. Comprehension (monoidAt a)) (monoid-low m)
 
   pub next-is : (t : Form) (i : ℕ) → i + size t ≤ places → Holds s i (flat t) → next s i ≡ i + size t
@@ -160,6 +165,7 @@ module _ (s : List ℕ) where
   next-is (rec ts) i l h = next-found i 5 (sizeF ts) 0 (h .0) (omega arith) (omega arith)
   next-is (bin o t u) i l h = next-found i 6 (size t + size u) (opArg o) (h .0) (omega arith) (omega arith)
   next-is (negate t) i l h = next-found i 7 (size t) 0 (h .0) (omega arith) (omega arith)
+  next-is (app f ts) i l h = next-found i 11 (sizeF ts) (funArg f) (h .0) (omega arith) (omega arith)
   next-is (comp m q u) i l h = next-found i 8 (sizeC q + size u) (monoidArg m) (h .0) (omega arith) (omega arith)
 
   -- a generator's node; a condition's, and where it ends
@@ -185,6 +191,7 @@ module _ (s : List ℕ) where
   head-node (rec ts) i = refl
   head-node (bin o t u) i = refl
   head-node (negate t) i = refl
+  head-node (app f ts) i = refl
   head-node (comp m q u) i = refl
 
   -- ---- trees, one step
@@ -246,6 +253,10 @@ module _ (s : List ℕ) where
         ∙ ap₂ (bin o) (read t (pred f) (i + 1) (w .0) (omega arith) h₁ (omega arith))
         (read u (pred f) (next s (i + 1)) (w .1) (omega arith) (holds-second s (flat t) (flat u) (i + 1) (next s (i + 1)) (omega (arith, length-flat t)) (h .1)) (omega arith))
     read (negate t) f i w l h m = opened (negate t) f i w l h (omega arith) ∙ ap negate (read t (pred f) (i + 1) w (omega arith) (h .1) (omega arith))
+    read (app g ts) f i w l h m =
+        opened (app g ts) f i w l h (omega arith)
+        ∙ ap (λ (x : Fun). app x (formsTree (pred f) s (i + 1) (next s i))) (fun-back g)
+        ∙ ap (app g) (readF ts (pred f) (i + 1) (next s i) w (omega arith) (h .1) (omega arith) (next-is (app g ts) i l h ∙ omega arith))
     read (comp m q u) f i w l h n =
         let h₁ = holds-first s (flatC q) (flat u) (i + 1) (h .1) in
         let h₂ = holds-second s (flatC q) (flat u) (i + 1) (i + 1 + sizeC q) (omega (arith, length-flatC q)) (h .1) in

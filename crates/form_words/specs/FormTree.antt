@@ -4,11 +4,11 @@ use Prim.Native.Nat.{ℕ, zero, suc, _+_, _-_, _*_}
 use lib.Dec.{leb}
 use lib.IntN.{pos}
 use Rattle.spec_calculus.specs.Lists.{pick}
-use Rattle.spec_normal_form.specs.Form.{Form, Forms, Clauses, num, truth, row, cell, rec, bin, negate, comp, fnil, fcons, done, gen, cond}
+use Rattle.spec_normal_form.specs.Form.{Form, Forms, Clauses, num, truth, row, cell, rec, bin, negate, app, comp, fnil, fcons, done, gen, cond}
 use Rattle.base_syntax.specs.MonoidWord.{monoidOf}
-use Rattle.base_syntax.specs.Numbers.{binOf}
+use Rattle.base_syntax.specs.Numbers.{binOf, funOf}
 use Rattle.form_words.specs.declared.FormNode.{FormNode}
-use Rattle.form_words.specs.declared.FormNode.the-variants.{Number, Truth, Row, Cell, Record, Binary, Negation, Comprehension, Generator, Condition, Nothing}
+use Rattle.form_words.specs.declared.FormNode.the-variants.{Number, Truth, Row, Cell, Record, Binary, Negation, Operator, Comprehension, Generator, Condition, Nothing}
 use Rattle.form_words.specs.declared.Clause.{Clause}
 use Rattle.form_words.specs.declared.Clause.the-variants as Cl
 use Rattle.base_scratch.specs.Map.{places}
@@ -24,6 +24,7 @@ formBy X L Q H i (Cell c g) = cell c g
 formBy X L Q H i (Record e) = rec (L (i + 1) e)
 formBy X L Q H i (Binary o j) = bin (binOf o) (X (i + 1)) (X j)
 formBy X L Q H i Negation = negate (X (i + 1))
+formBy X L Q H i (Operator f e) = app (funOf f) (L (i + 1) e)
 formBy X L Q H i (Comprehension m) = comp (monoidOf m) (Q (i + 1)) (H (i + 1))
 formBy X L Q H i (Generator g k) = num (pos 0)
 formBy X L Q H i (Condition j) = num (pos 0)
@@ -38,6 +39,7 @@ clauseOf (Cell c g) = Cl.Head
 clauseOf (Record e) = Cl.Head
 clauseOf (Binary o j) = Cl.Head
 clauseOf Negation = Cl.Head
+clauseOf (Operator f e) = Cl.Head
 clauseOf (Comprehension m) = Cl.Head
 clauseOf (Generator g k) = Cl.Generator g k
 clauseOf (Condition j) = Cl.Condition j

@@ -6,8 +6,8 @@ use Prim.Native.Nat.{ℕ, suc, _+_, _-_, _*_, _^_, _<_}
 use lib.IntN.{ℤ, pos, negsuc}
 use lib.Signed.{mag}
 use Rattle.spec_calculus.specs.Lists.{pick}
-use Rattle.spec_normal_form.specs.Form.{Form, Forms, Clauses, num, truth, row, cell, rec, bin, negate, comp, fnil, fcons, done, gen, cond}
-use Rattle.base_syntax.specs.Numbers.{opArg, monoidArg}
+use Rattle.spec_normal_form.specs.Form.{Form, Forms, Clauses, num, truth, row, cell, rec, bin, negate, app, comp, fnil, fcons, done, gen, cond}
+use Rattle.base_syntax.specs.Numbers.{opArg, funArg, monoidArg}
 use Rattle.form_words.specs.NodeWord.{wordAt, pack}
 
 -- how many words it has
@@ -20,6 +20,7 @@ unfoldable mutual
   size (rec ts) = suc (sizeF ts)
   size (bin o s t) = suc (size s + size t)
   size (negate t) = suc (size t)
+  size (app f ts) = suc (sizeF ts)
   size (comp m q h) = suc (sizeC q + size h)
 
   pub sizeF : Forms → ℕ
@@ -45,6 +46,7 @@ unfoldable mutual
   flat (rec ts) = pack 5 (sizeF ts) 0 ∷ flatF ts
   flat (bin o s t) = pack 6 (size s + size t) (opArg o) ∷ (flat s ++ flat t)
   flat (negate t) = pack 7 (size t) 0 ∷ flat t
+  flat (app f ts) = pack 11 (sizeF ts) (funArg f) ∷ flatF ts
   flat (comp m q h) = pack 8 (sizeC q + size h) (monoidArg m) ∷ (flatC q ++ flat h)
 
   pub flatF : Forms → List ℕ
@@ -67,6 +69,7 @@ abbrev mutual
   Fits (rec ts) = FitsF ts
   Fits (bin o s t) = Fits s × Fits t
   Fits (negate t) = Fits t
+  Fits (app f ts) = FitsF ts
   Fits (comp m q h) = FitsC q × Fits h
 
   pub FitsF : Forms → Type 0

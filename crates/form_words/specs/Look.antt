@@ -5,7 +5,7 @@ use mathlib.Core.List.{List}
 use Prim.Native.Nat.{ℕ, _^_, _<_, _≤_}
 use lib.IntN.{natAbs}
 use Rattle.form_words.specs.declared.FormNode.{FormNode}
-use Rattle.form_words.specs.declared.FormNode.the-variants.{Number, Truth, Row, Cell, Record, Binary, Negation, Comprehension, Generator, Condition, Nothing}
+use Rattle.form_words.specs.declared.FormNode.the-variants.{Number, Truth, Row, Cell, Record, Binary, Negation, Operator, Comprehension, Generator, Condition, Nothing}
 use Rattle.form_words.specs.declared.Leaf.{Leaf}
 use Rattle.form_words.specs.declared.Leaf.the-variants as Le
 use Rattle.form_words.specs.declared.Clause.{Clause}
@@ -22,6 +22,7 @@ Inside i (Cell c g) = (c < 1024) × (g < 1024)
 Inside i (Record e) = (i < e) × (e ≤ places)
 Inside i (Binary o j) = (i < j) × (j ≤ places)
 Inside i Negation = i < places
+Inside i (Operator f e) = (i < e) × (e ≤ places)
 Inside i (Comprehension m) = i < places
 Inside i (Generator g k) = (i < places) × (g < 1024) × (k < 1024)
 Inside i (Condition j) = (i < j) × (j ≤ places)
@@ -40,6 +41,7 @@ leafOf (Cell c g) = Le.Cell c g
 leafOf (Record e) = Le.Other
 leafOf (Binary o j) = Le.Other
 leafOf Negation = Le.Other
+leafOf (Operator f e) = Le.Other
 leafOf (Comprehension m) = Le.Other
 leafOf (Generator g k) = Le.Other
 leafOf (Condition j) = Le.Other

@@ -3,13 +3,14 @@
 ghost use mathlib.Core.Path.{_≡_};
 ghost use Prim.Native.Nat.{_+_, _%_, _<_, _^_};
 ghost use lib.ListN.{set};
-ghost use Rattle.form_words.specs.NodeWord.{wordAt, kindOf, belowOf, argOf, pack, next, numberOf};
+ghost use Rattle.form_words.specs.NodeWord.{wordAt, kindOf, belowOf, argOf, pack, next, uptoPlace, branchPlace, numberOf};
 ghost use Rattle.base_scratch.specs.Map.{formAt};
 ghost use Rattle.form_words.specs.Look.{Looks, LeafAtPost, LooksC};
 use base_scratch::FORM;
 use base_scratch::FORM_WORDS;
 use base_scratch::load_at;
 use base_scratch::store_at;
+use base_syntax::Fun;
 use base_syntax::Monoid;
 use base_syntax::OFFSET;
 use base_syntax::Op;
@@ -35,6 +36,8 @@ pub const GENERATOR: u64 = 9;
 
 pub const CONDITION: u64 = 10;
 
+pub const OPERATOR: u64 = 11;
+
 // A word is its kind in four bits, how many words are below it in ten, and its argument in fifty.
 const KINDS: u64 = 16;
 
@@ -43,7 +46,7 @@ const BELOWS: u64 = 1024;
 // An argument that is two numbers has the second in its low ten bits.
 pub const PAIR: u64 = 1024;
 
-// A node, with the places that are not the one behind it: the end of a record, the second operand, the end of a condition.
+// A node, with the places that are not the one behind it: the end of a record or an operator, the second operand, the end of a condition.
 // A cell is column and generator, a generator its number and its table.
 pub enum FormNode {
     Number(i64),
@@ -53,6 +56,7 @@ pub enum FormNode {
     Record(usize),
     Binary(Op, usize),
     Negation,
+    Operator(Fun, usize),
     Comprehension(Monoid),
     Generator(usize, usize),
     Condition(usize),
@@ -119,6 +123,25 @@ pub fn next(s: &[u64], i: usize) -> usize
     if e < FORM_WORDS { e } else { FORM_WORDS }
 }
 
+// The place i where it lies before e; behind all words, where nothing stands, if it does not.
+pub fn upto(i: usize, e: usize) -> usize
+    ensures { λ r. ⌜ r ≡ uptoPlace i e ⌝ }
+{
+    if i < e { i } else { FORM_WORDS }
+}
+
+// Where the branches of a choice stand behind its truth at i, before e: the first, or the other.
+pub fn branch(s: &[u64], i: usize, e: usize, other: bool) -> usize
+    ensures { λ r. ⌜ r ≡ branchPlace (now (s .entry)) i e other ⌝ }
+{
+    let j = next(s, i);
+    if other {
+        upto(next(s, j), e)
+    } else {
+        upto(j, e)
+    }
+}
+
 pub fn number(a: u64) -> i64
     requires { ⌜ a < 2 ^ 50 ⌝ }
     ensures { λ r. ⌜ r ≡ numberOf a ⌝ }
@@ -152,6 +175,7 @@ pub fn look(s: &[u64], i: usize) -> FormNode
         COMPREHENSION => FormNode::Comprehension(Monoid::from_bits(a)),
         GENERATOR => FormNode::Generator(low(a / PAIR), low(a)),
         CONDITION => FormNode::Condition(next(s, i)),
+        OPERATOR => FormNode::Operator(Fun::from_number(a), next(s, i)),
         _ => FormNode::Nothing,
     }
 }

@@ -4,7 +4,7 @@ use mathlib.Core.Path.{refl, _∙_}
 use native.Mathlib.Omega.{arith}
 use mir.Facts.{toZ-ofZ}
 use Rattle.base_signed.proofs.SignedWords.{fits}
-use Rattle.form_words.proofs.NodeWords.{look-out, look-number, look-truth, look-row, look-cell, look-record, look-binary, look-negation, look-comprehension, look-generator, look-condition, look-rest}
+use Rattle.form_words.proofs.NodeWords.{look-out, look-number, look-truth, look-row, look-cell, look-record, look-binary, look-negation, look-comprehension, look-generator, look-condition, look-operator, look-rest}
 use Rattle.form_words.proofs.look.Statement.{statement}
 use Rattle.form_words.proofs.look.Tie as tie
 
@@ -28,6 +28,8 @@ look-spec =
     (λ c κs. search needs)
     (λ c κs. search needs)
     (λ c κs. search needs)
+    (λ c κs. search needs)
+    (λ c κs. search needs)
     (λ c. look-number (c .before .before .before .before .before .if1 .left) (c .before .before .before .before .word .ensures) (c .before .before .before .arg .ensures) (c .before .before .kind .ensures) (c .before .match .keys1) (toZ-ofZ (fits (c .number .ok)) ∙ c .number .ensures))
     (λ c. look-truth (c .before .before .before .before .if1 .left) (c .before .before .before .word .ensures) (c .before .before .arg .ensures) (c .before .kind .ensures) (c .match .keys2) refl)
     (λ c. look-row (c .before .before .before .before .before .if1 .left) (c .before .before .before .before .word .ensures) (c .before .before .before .arg .ensures) (c .before .before .kind .ensures) (c .before .match .keys3) (c .low .ensures))
@@ -38,4 +40,5 @@ look-spec =
     (λ c. look-comprehension (c .before .before .before .before .before .if1 .left) (c .before .before .before .before .word .ensures) (c .before .before .before .arg .ensures) (c .before .before .kind .ensures) (c .before .match .keys8) (c .from-bits .ensures))
     (λ c. look-generator (c .before .before .before .before .before .before .if1 .left) (c .before .before .before .before .before .word .ensures) (c .before .before .before .before .arg .ensures) (c .before .before .before .kind .ensures) (c .before .before .match .keys9) (c .before .low4 .ensures) (c .low5 .ensures))
     (λ c. look-condition (c .before .before .before .before .before .if1 .left) (c .before .before .before .before .word .ensures) (c .before .before .before .arg .ensures) (c .before .before .kind .ensures) (c .before .match .keys10) (c .next3 .ensures))
-    (λ c. let m = c .match .rest in look-rest (c .before .before .before .word .ensures) (c .before .kind .ensures) (m .0 .0 .0 .0 .0 .0 .0 .0 .0 .1) (m .0 .0 .0 .0 .0 .0 .0 .0 .1) (m .0 .0 .0 .0 .0 .0 .0 .1) (m .0 .0 .0 .0 .0 .0 .1) (m .0 .0 .0 .0 .0 .1) (m .0 .0 .0 .0 .1) (m .0 .0 .0 .1) (m .0 .0 .1) (m .0 .1) (m .1)))
+    (λ c. look-operator (c .before .before .before .before .before .before .if1 .left) (c .before .before .before .before .before .word .ensures) (c .before .before .before .before .arg .ensures) (c .before .before .before .kind .ensures) (c .before .before .match .keys11) (c .before .from-number2 .ensures) (c .next4 .ensures))
+    (λ c. let m = c .match .rest in look-rest (c .before .before .before .word .ensures) (c .before .kind .ensures) (m .0 .0 .0 .0 .0 .0 .0 .0 .0 .0 .1) (m .0 .0 .0 .0 .0 .0 .0 .0 .0 .1) (m .0 .0 .0 .0 .0 .0 .0 .0 .1) (m .0 .0 .0 .0 .0 .0 .0 .1) (m .0 .0 .0 .0 .0 .0 .1) (m .0 .0 .0 .0 .0 .1) (m .0 .0 .0 .0 .1) (m .0 .0 .0 .1) (m .0 .0 .1) (m .0 .1) (m .1)))
