@@ -2,26 +2,28 @@
 -- and the size of a form by its node.
 use mathlib.Core.Path.{_≡_, refl, sym, ap, ap₂, subst, _∙_}
 use mathlib.Core.Bool.{Bool, true, _&&_, and-true, and-assoc}
-use mathlib.Core.List.{List}
+use mathlib.Core.List.{List, [], _∷_}
 use Prim.Native.Nat.{ℕ, zero, suc, _+_, _*_, _/_, _^_, _≤_, _<_}
 use native.Mathlib.Nat.{mul-le-mul-left, mul-le-mul, mul-assoc, mul-comm, pow-suc, zero-mul}
 use native.Mathlib.Omega.{arith, div-fact, mod-fact}
 use borrow.Author.Tests.{leb-true, leb-false, le-leb, lt-leb}
 use lib.Dec.{T, leb}
-use lib.ListN.{length}
+use lib.ListN.{length, getD}
 use lib.IntN.{ℤ, natAbs}
 use mir.Val.{Fits}
-use Rattle.spec_calculus.specs.Syntax.{of, sum, max, some, all, Bin, plus, minus, times, equal, less, and, or}
+use Rattle.spec_calculus.specs.Lists.{pick}
+use Rattle.spec_calculus.specs.Syntax.{of, sum, max, some, all, Bin, plus, minus, times, equal, less, and, or, choice}
 use Rattle.spec_calculus.specs.Syntax as Sy
-use Rattle.spec_normal_form.specs.Form.{Form, Clauses, NormalForm, asForm}
-use Rattle.spec_normal_form.specs.Bound.{ownGens, binBound, compBound, bound, small, within, withinF, withinC, numbersFit}
+use Rattle.spec_normal_form.specs.Form.{Form, Forms, Clauses, app, fnil, fcons, NormalForm, asForm}
+use Rattle.spec_normal_form.specs.Bound.{ownGens, binBound, larger, appBound, compBound, bound, bounds, small, within, withinF, withinC, numbersFit}
 use Rattle.base_signed.proofs.SignedWords.{by-test}
 use Rattle.base_syntax.specs.declared.Monoid.{Monoid}
 use Rattle.base_syntax.specs.MonoidWord.{monoidOf}
+use Rattle.base_syntax.specs.declared.Fun.{Fun}
 use Rattle.base_syntax.specs.declared.Op.{Op}
-use Rattle.base_syntax.specs.Numbers.{binOf}
+use Rattle.base_syntax.specs.Numbers.{binOf, funOf}
 use Rattle.form_words.specs.declared.FormNode.{FormNode}
-use Rattle.form_words.specs.declared.FormNode.the-variants.{Number, Truth, Row, Cell, Record, Binary, Negation, Comprehension, Generator, Condition, Nothing}
+use Rattle.form_words.specs.declared.FormNode.the-variants.{Number, Truth, Row, Cell, Record, Binary, Negation, Operator, Comprehension, Generator, Condition, Nothing}
 use Rattle.form_words.specs.declared.Clause.{Clause}
 use Rattle.form_words.specs.declared.Clause.the-variants as Cl
 use Rattle.form_words.specs.NodeWord.{next}
@@ -31,9 +33,9 @@ use Rattle.form_words.specs.Look.{Looks, LooksC}
 use Rattle.form_words.specs.FormWords.{flat, Holds}
 use Rattle.form_words.specs.FormWords as Fl
 use Rattle.form_words.proofs.ReadBack.{read-back}
-use Rattle.form_words.proofs.NodeWords.{next-past, formNode, clausesNode, headNode, form-is, clauses-is, head-is, forms-end, forms-more}
+use Rattle.form_words.proofs.NodeWords.{next-past, next-out, formNode, clausesNode, headNode, form-is, clauses-is, head-is, forms-end, forms-more}
 use Rattle.front_bounds.specs.declared.Size.{Size}
-use Rattle.front_bounds.specs.CutBounds.{cut, perHead, perGenerator, CheckedPost, SizeOf, SizeOfC, UnboundedPost, FormSizePost, ClausesSizePost, RecordFitsPost, BoundFitsPost}
+use Rattle.front_bounds.specs.CutBounds.{cut, perHead, perGenerator, CheckedPost, SizeOf, SizeOfC, FirstOf, UnboundedPost, FormSizePost, ClausesSizePost, RecordFitsPost, TermSizePost, OperatorSizePost, BoundFitsPost}
 
 -- ---- cut bounds
 abbrev top : ℕ
@@ -77,6 +79,26 @@ cut-bin equal a b = refl
 cut-bin less a b = refl
 cut-bin and a b = refl
 cut-bin or a b = refl
+
+pub larger-second : (a b : ℕ) → a ≤ b → b ≡ larger a b
+unfolding larger pick
+larger-second a b h = rw (le-leb a b h)
+
+pub larger-first : (a b : ℕ) → b < a → a ≡ larger a b
+unfolding larger pick
+larger-first a b h = rw (lt-leb a b h)
+
+cut-larger : (a b : ℕ) → larger (cut a) (cut b) ≡ cut (larger a b)
+cut-larger a b = by-test (leb a b)
+    (λ p. let h = leb-true a b p in sym (larger-second (cut a) (cut b) (omega arith)) ∙ ap cut (larger-second a b h))
+    (λ p. let h = leb-false a b p in by-test (leb (cut a) (cut b))
+    (λ q. let l = leb-true (cut a) (cut b) q in sym (larger-second (cut a) (cut b) l) ∙ omega arith ∙ ap cut (larger-first a b h))
+    (λ q. let l = leb-false (cut a) (cut b) q in sym (larger-first (cut a) (cut b) l) ∙ ap cut (larger-first a b h)))
+
+-- of an operator, by the bounds of its first three terms
+cut-app : (f : Sy.Fun) (bs : List ℕ) → appBound f (cut (getD bs 0 0) ∷ cut (getD bs 1 0) ∷ cut (getD bs 2 0) ∷ []) ≡ cut (appBound f bs)
+unfolding appBound
+cut-app choice bs = cut-larger (getD bs 1 0) (getD bs 2 0)
 
 small-cut : (n : ℕ) → leb (cut n) (2 ^ 62) ≡ leb n (2 ^ 62)
 small-cut n = by-test (leb n (2 ^ 62)) (λ p. le-leb (cut n) (2 ^ 62) (omega (arith, leb-true n (2 ^ 62) p)) ∙ sym p) (λ p. lt-leb (cut n) (2 ^ 62) (omega (arith, leb-false n (2 ^ 62) p)) ∙ sym p)
@@ -178,6 +200,9 @@ module _ {s : List ℕ} {i : ℕ} {r : Size} where
       let A = X .is f (omega (arith, H .inside)) in
       checked-size (formNode f s i (Comprehension m)) C (A .bound-is) (ap (λ v. small (formNode f s i (Comprehension m)) && v) (sym (A .fits-is))))
 
+  pub size-operator : {o : Fun} {e : ℕ} → Looks s i (Operator o e) → OperatorSizePost s (i + 1) e o r → FormSizePost s i r
+  size-operator H O = sized H (λ f l. O .is f (omega (arith, H .inside .0, H .inside .1)))
+
   -- clauses
   module _ {m : Monoid} where
     pub clauses-generator : {g k : ℕ} {x : Size} → LooksC s i (Cl.Generator g k) → ClausesSizePost s (i + 1) m x →
@@ -222,6 +247,111 @@ fields-more {s} {i} {e} {n} p t A q B w = record {
         ∙ sym (ap withinF (forms-more f s i e p))
   ];
 }
+
+-- ---- the terms of an operator
+rest : Forms → Forms
+rest fnil = fnil
+rest (fcons t ts) = ts
+
+first-bound : (ts : Forms) (r : Size) → FirstOf ts r → r .bound ≡ cut (getD (bounds ts) 0 0)
+unfolding bounds
+first-bound fnil r h = h .0
+first-bound (fcons t ts) r h = h .bound-is
+
+later-bound : (ts : Forms) (n : ℕ) → getD (bounds (rest ts)) n 0 ≡ getD (bounds ts) (suc n) 0
+unfolding bounds rest
+later-bound fnil n = refl
+later-bound (fcons t ts) n = refl
+
+first-within : (ts : Forms) (r : Size) → FirstOf ts r → (r .fits && withinF (rest ts)) ≡ withinF ts
+unfolding within rest
+first-within fnil r h = ap (λ b. b && true) (h .1)
+first-within (fcons t ts) r h = ap (λ b. b && withinF ts) (h .fits-is)
+
+no-forms : (f : ℕ) (s : List ℕ) (i e : ℕ) → e ≤ i → formsTree f s i e ≡ fnil
+unfolding formTree
+no-forms zero s i e h = refl
+no-forms (suc f) s i e h = forms-end f s i e h
+
+no-behind : (s : List ℕ) (i e : ℕ) → e ≤ places → e ≤ i → e ≤ next s i
+no-behind s i e h l = by-test (leb places i)
+    (λ p. omega (arith, leb-true places i p, next-out s i (leb-true places i p)))
+    (λ p. omega (arith, next-past s i (leb-false places i p)))
+
+left-next : (s : List ℕ) (i : ℕ) → left (next s i) ≤ left i
+left-next s i = by-test (leb places i) (λ p. omega (arith, next-out s i (leb-true places i p))) (λ p. omega (arith, next-past s i (leb-false places i p)))
+
+pub left-after : (s : List ℕ) (i : ℕ) {j : ℕ} → j ≡ next s i → left j ≤ left i
+left-after s i p = rw p (left-next s i)
+
+rest-tree : (f : ℕ) (s : List ℕ) (i e : ℕ) → e ≤ places → rest (formsTree (suc f) s i e) ≡ formsTree f s (next s i) e
+unfolding rest
+rest-tree f s i e h = by-test (leb e i)
+    (λ p. let l = leb-true e i p in ap rest (forms-end f s i e l) ∙ sym (no-forms f s (next s i) e (no-behind s i e h l)))
+    (λ p. ap rest (forms-more f s i e (leb-false e i p)))
+
+pub term-none : {s : List ℕ} {i e : ℕ} {r : Size} → e ≤ i → UnboundedPost true r → TermSizePost s i e r
+term-none {s} {i} {e} {r} h U = record { is = λ f l. subst (λ ts. FirstOf ts r) (sym (no-forms f s i e h)) (U .bound-is, U .fits-is) }
+
+pub term-some : {s : List ℕ} {i e : ℕ} {r : Size} → i < e → FormSizePost s i r → TermSizePost s i e r
+term-some {s} {i} {e} {r} h A = record {
+  is = elim [ zero ↦ λ l. absurd (omega arith) | suc f ↦ λ l. subst (λ ts. FirstOf ts r) (sym (forms-more f s i e h)) (A .is f (omega arith)) ];
+}
+
+module _ (o : Fun) {s : List ℕ} {i e j k n w : ℕ} {a b c x : Size} {r t u v : Bool} (h : e ≤ places) (A : TermSizePost s i e a) (pj : j ≡ next s i) (B : TermSizePost s j e b) (pk : k ≡ next s j)
+    (C : TermSizePost s k e c) (pn : n ≡ next s k) (R : RecordFitsPost s n e r) (pw : w ≡ appBound (funOf o) (a .bound ∷ b .bound ∷ c .bound ∷ [])) (pt : t ≡ (c .fits && r)) (pu : u ≡ (b .fits && t))
+    (pv : v ≡ (a .fits && u)) (X : CheckedPost w v x) where
+  -- the terms from the first, the second, the third on, and those behind it
+  module _ (g : ℕ) (lj : left j + 1 < suc (suc g)) (li : left i + 1 < suc (suc (suc g))) (lk : left k + 1 < suc g) (ln : left n + 1 < g) where
+    abbrev given : Forms
+    given = formsTree (suc (suc (suc g))) s i e
+
+    second : rest given ≡ formsTree (suc (suc g)) s j e
+    second = rest-tree (suc (suc g)) s i e h ∙ ap (λ p. formsTree (suc (suc g)) s p e) (sym pj)
+
+    third : rest (rest given) ≡ formsTree (suc g) s k e
+    third = ap rest second ∙ rest-tree (suc g) s j e h ∙ ap (λ p. formsTree (suc g) s p e) (sym pk)
+
+    behind : rest (rest (rest given)) ≡ formsTree g s n e
+    behind = ap rest third ∙ rest-tree g s k e h ∙ ap (λ p. formsTree g s p e) (sym pn)
+
+    at-second : FirstOf (rest given) b
+    at-second = subst (λ ts. FirstOf ts b) (sym second) (B .is (suc (suc g)) lj)
+
+    at-third : FirstOf (rest (rest given)) c
+    at-third = subst (λ ts. FirstOf ts c) (sym third) (C .is (suc g) lk)
+
+    three-bounds : appBound (funOf o) (a .bound ∷ b .bound ∷ c .bound ∷ []) ≡ cut (appBound (funOf o) (bounds given))
+    three-bounds =
+        rw (first-bound given a (A .is (suc (suc (suc g))) li), first-bound (rest given) b at-second ∙ ap cut (later-bound given 0), first-bound (rest (rest given)) c at-third ∙ ap cut (later-bound (rest given) 0 ∙ later-bound given 1))
+        (cut-app (funOf o) (bounds given))
+
+    all-within : v ≡ withinF given
+    all-within =
+        pv ∙ ap (λ y. a .fits && y) (pu ∙ ap (λ y. b .fits && y) (pt ∙ ap (λ y. c .fits && y) (R .is g ln ∙ sym (ap withinF behind)) ∙ first-within (rest (rest given)) c at-third) ∙ first-within (rest given) b at-second)
+        ∙ first-within given a (A .is (suc (suc (suc g))) li)
+
+    three-terms : SizeOf (app (funOf o) given) x
+    unfolding bound within
+    three-terms = checked-size (app (funOf o) given) X (pw ∙ three-bounds) (ap (λ y. small (app (funOf o) given) && y) (sym all-within))
+
+  pub operator-terms : OperatorSizePost s i e o x
+  operator-terms = record { is = go }
+    where
+      go : (f : ℕ) → left i + 2 < f → SizeOf (app (funOf o) (formsTree f s i e)) x
+      go zero l = absurd (omega arith)
+      go (suc zero) l = absurd (omega arith)
+      go (suc (suc zero)) l = absurd (omega arith)
+      go (suc (suc (suc g))) l = by-test (leb e i)
+          (λ p.
+          let q = leb-true e i p in
+          let m = left i + left j + left k + left n + 2 in
+          subst (λ ts. SizeOf (app (funOf o) ts) x) (no-forms (suc (suc (suc m))) s i e q ∙ sym (no-forms (suc (suc (suc g))) s i e q))
+          (three-terms m (omega arith) (omega arith) (omega arith) (omega arith)))
+          (λ p.
+          let q = leb-false e i p in
+          let y = next-past s i (omega arith) in
+          three-terms g (omega (arith, l, q, h, y, pj)) (omega (arith, l)) (omega (arith, l, q, h, y, pj, pk, left-next s j)) (omega (arith, l, q, h, y, pj, pk, pn, left-next s j, left-next s k)))
 
 pub verdict : {s : List ℕ} {a : Size} → FormSizePost s 0 a → BoundFitsPost s (a .fits)
 verdict A = record { is = λ f l. A .is f l .fits-is }

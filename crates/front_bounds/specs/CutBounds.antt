@@ -1,15 +1,17 @@
 -- Bounds cut at 2^62 + 1: the same as the bounds where it matters, whether they are over 2^62.
 use mathlib.Core.Path.{_≡_}
-use mathlib.Core.Bool.{Bool, _&&_}
+use mathlib.Core.Bool.{Bool, true, _&&_}
 use mathlib.Core.List.{List}
 use Prim.Native.Nat.{ℕ, _+_, _*_, _^_, _<_, min}
 use lib.Dec.{leb}
 use Rattle.spec_calculus.specs.Syntax.{of, sum, max, some, all}
 use Rattle.spec_calculus.specs.Syntax as Sy
-use Rattle.spec_normal_form.specs.Form.{Form, Clauses}
+use Rattle.spec_normal_form.specs.Form.{Form, Forms, Clauses, app, fnil, fcons}
 use Rattle.spec_normal_form.specs.Bound.{ownGens, compBound, bound, within, withinF, withinC}
+use Rattle.base_syntax.specs.declared.Fun.{Fun}
 use Rattle.base_syntax.specs.declared.Monoid.{Monoid}
 use Rattle.base_syntax.specs.MonoidWord.{monoidOf}
+use Rattle.base_syntax.specs.Numbers.{funOf}
 use Rattle.form_words.specs.FormTree.{formTree, formsTree, clausesTree, headTree, left}
 use Rattle.front_bounds.specs.declared.Size.{Size}
 
@@ -52,6 +54,11 @@ pub record SizeOfC (m : Sy.Monoid) (q : Clauses) (h : Form) (r : Size) : Type 0 
   pub bound-is : r .bound ≡ cut (compBound m (ownGens q) (bound h))
   pub fits-is : r .fits ≡ (withinC q && within h)
 
+-- of the first of some forms; where there is none, as what is no number
+abbrev pub FirstOf : Forms → Size → Type 0
+FirstOf fnil r = (r .bound ≡ 0) × (r .fits ≡ true)
+FirstOf (fcons t ts) r = SizeOf t r
+
 -- at every fuel that is enough
 pub record FormSizePost (s : List ℕ) (i : ℕ) (r : Size) : Type 0 where
   pub is : (f : ℕ) → left i < f → SizeOf (formTree f s i) r
@@ -61,6 +68,12 @@ pub record ClausesSizePost (s : List ℕ) (i : ℕ) (m : Monoid) (r : Size) : Ty
 
 pub record RecordFitsPost (s : List ℕ) (i e : ℕ) (r : Bool) : Type 0 where
   pub is : (f : ℕ) → left i + 1 < f → r ≡ withinF (formsTree f s i e)
+
+pub record TermSizePost (s : List ℕ) (i e : ℕ) (r : Size) : Type 0 where
+  pub is : (f : ℕ) → left i + 1 < f → FirstOf (formsTree f s i e) r
+
+pub record OperatorSizePost (s : List ℕ) (i e : ℕ) (o : Fun) (r : Size) : Type 0 where
+  pub is : (f : ℕ) → left i + 2 < f → SizeOf (app (funOf o) (formsTree f s i e)) r
 
 -- whether 28 does not refuse the form at place 0
 pub record BoundFitsPost (s : List ℕ) (r : Bool) : Type 0 where

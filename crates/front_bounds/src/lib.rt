@@ -1,14 +1,16 @@
 // Refusal 28: whether every number of the normal form has a bound of at most 2^62.
 ghost use mathlib.Core.Path.{_≡_};
 ghost use mathlib.Core.Bool.{_&&_};
+ghost use mathlib.Core.List.{[], _∷_};
 ghost use Prim.Native.Nat.{_+_, _*_, _^_, _<_, _≤_};
 ghost use lib.IntN.{natAbs};
-ghost use Rattle.spec_normal_form.specs.Bound.{binBound};
+ghost use Rattle.spec_normal_form.specs.Bound.{binBound, appBound};
 ghost use Rattle.base_syntax.specs.MonoidWord.{monoidOf};
-ghost use Rattle.base_syntax.specs.Numbers.{binOf};
+ghost use Rattle.base_syntax.specs.Numbers.{binOf, funOf};
 ghost use Rattle.base_scratch.specs.Map.{places};
-ghost use Rattle.front_bounds.specs.CutBounds.{cut, perGenerator, perHead, CheckedPost, UnboundedPost, FormSizePost, ClausesSizePost, RecordFitsPost, BoundFitsPost};
+ghost use Rattle.front_bounds.specs.CutBounds.{cut, perGenerator, perHead, CheckedPost, UnboundedPost, FormSizePost, ClausesSizePost, RecordFitsPost, TermSizePost, OperatorSizePost, BoundFitsPost};
 use base_signed::NUMBER_LIMIT;
+use base_syntax::Fun;
 use base_syntax::Monoid;
 use base_syntax::Op;
 use form_words::Clause;
@@ -65,6 +67,15 @@ fn binary_bound(o: Op, a: u64, b: u64) -> u64
         Op::Less => 0,
         Op::And => 0,
         Op::Or => 0,
+    }
+}
+
+// Of an operator's first three terms: "Its bound is the larger one." (document 02, E2)
+fn operator_bound(f: Fun, a: u64, b: u64, c: u64) -> u64
+    ensures { λ r. ⌜ r ≡ appBound (funOf f) (a ∷ b ∷ c ∷ []) ⌝ }
+{
+    match f {
+        Fun::Choice => { if b <= c { c } else { b } }
     }
 }
 
@@ -148,6 +159,7 @@ pub fn form_size(s: &[u64], i: usize) -> Size
             let a = clauses_size(s, i + 1, m);
             checked(a.bound, a.fits)
         }
+        FormNode::Operator(f, e) => operator_size(s, i + 1, e, f),
         FormNode::Generator(g, k) => unbounded(true),
         FormNode::Condition(j) => unbounded(true),
         FormNode::Nothing => unbounded(true),
@@ -182,6 +194,33 @@ fn clauses_size(s: &[u64], i: usize, m: Monoid) -> Size
             }
         }
     }
+}
+
+// The operator f over the terms from i to e: each is looked at once, the bounds of the first three are kept.
+fn operator_size(s: &[u64], i: usize, e: usize, f: Fun) -> Size
+    requires { ⌜ e ≤ places ⌝ }
+    ensures { λ r. ⌜ OperatorSizePost (now (s .entry)) i e f r ⌝ }
+{
+    let a = term_size(s, i, e);
+    let j = next(s, i);
+    let b = term_size(s, j, e);
+    let k = next(s, j);
+    let c = term_size(s, k, e);
+    let rest = both(c.fits, record_fits(s, next(s, k), e));
+    checked(
+        operator_bound(f, a.bound, b.bound, c.bound),
+        both(a.fits, both(b.fits, rest)),
+    )
+}
+
+// The term at i, where one stands before e.
+fn term_size(s: &[u64], i: usize, e: usize) -> Size
+    ensures { λ r. ⌜ TermSizePost (now (s .entry)) i e r ⌝ }
+{
+    if e <= i {
+        return unbounded(true);
+    }
+    form_size(s, i)
 }
 
 // The fields of a record, from i to e.

@@ -22,7 +22,7 @@ use Rattle.base_syntax.specs.declared.Op.{Op}
 use Rattle.base_syntax.specs.declared.Op.the-variants as Op
 use Rattle.front_resolve.specs.Place.{Place, envOf, Heads}
 use Rattle.front_resolve.specs.declared.Form.{Form}
-use Rattle.front_resolve.specs.declared.Form.the-variants.{Number, Truth, Row, Cell, Record, Two, Not, Comp, Table, Bad}
+use Rattle.front_resolve.specs.declared.Form.the-variants.{Number, Truth, Row, Cell, Record, Two, Not, Comp, Table, Operator, Bad}
 use Rattle.front_resolve.proofs.Form as form
 use Rattle.front_resolve.proofs.Exits.{one-more, unranged}
 use Rattle.front_emit.specs.declared.State.{State}
@@ -58,6 +58,7 @@ form-never s h (Two o a b) w = binary-never (binOf o) (childS s h a) (childS s h
 form-never s h (Not c) w = tt
 form-never s h (Comp m k) w = absurd (miss unranged 7 tt w)
 form-never s h (Table k) w = absurd (miss unranged 8 tt w)
+form-never s h (Operator f) w = tt
 form-never s h Bad w = tt
 
 module _ (v : Bool) {s : List ℕ} {h : Place} {st : State} (S : SourcePre s h v st) where
@@ -108,6 +109,7 @@ single-whole s h v (Two o a b) w = binary-whole (binOf o) (childS s h a) (childS
 single-whole s h v (Not c) w = tt
 single-whole s h v (Comp m k) w = w
 single-whole s h v (Table k) w = refl
+single-whole s h v (Operator f) w = tt
 single-whole s h v Bad w = tt
 
 module _ (v : Bool) {s : List ℕ} {h : Place} {st : State} (S : ConditionOf s h v st) where

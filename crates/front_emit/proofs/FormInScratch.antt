@@ -6,7 +6,7 @@ use Prim.Native.Nat.{ℕ, suc, _+_, _*_, _≤_}
 use native.Mathlib.Omega.{arith}
 use lib.ListN.{length, getD, length-set}
 use lib.Seq.{getD-set-same}
-use Rattle.spec_normal_form.specs.Form.{Form, Forms, Clauses, num, truth, row, cell, rec, bin, negate, comp, fnil, fcons, done, gen, cond}
+use Rattle.spec_normal_form.specs.Form.{Form, Forms, Clauses, num, truth, row, cell, rec, bin, negate, app, comp, fnil, fcons, done, gen, cond}
 use Rattle.spec_normal_form.specs.Normal.{quote}
 use Rattle.spec_normal_form.specs.Size.{nodes}
 use Rattle.front_theory.specs.NodeForms.{outside}
@@ -27,7 +27,7 @@ use Rattle.front_emit.specs.WriterResult.{packed, Buffer, buffer, put, E
 use Rattle.front_emit.specs.WriterStart.{collections, semS, EmitPre}
 use Rattle.front_emit.specs.WholeForm.{formOf, Writable, WriteFormPost}
 use Rattle.front_emit.proofs.LaidWords.{puts-place, puts-kept}
-use Rattle.base_syntax.specs.Numbers.{opArg, monoidArg}
+use Rattle.base_syntax.specs.Numbers.{opArg, funArg, monoidArg}
 
 -- ---- the words of a form, packed
 packs : List Word → List ℕ
@@ -48,6 +48,7 @@ mutual
   words-size (row g) = refl
   words-size (cell c g) = refl
   words-size (rec ts) = ap suc (words-sizeF ts)
+  words-size (app f ts) = ap suc (words-sizeF ts)
   words-size (bin o t u) = ap suc (ap₂ _+_ (words-size t) (words-size u))
   words-size (negate t) = ap suc (words-size t)
   words-size (comp m q t) = ap suc (ap₂ _+_ (words-sizeC q) (words-size t))
@@ -70,6 +71,7 @@ mutual
   packed-flat (row g) = refl
   packed-flat (cell c g) = refl
   packed-flat (rec ts) = ap₂ (λ n l. pack 5 n 0 ∷ l) (words-sizeF ts) (packed-flatF ts)
+  packed-flat (app f ts) = ap₂ (λ n l. pack 11 n (funArg f) ∷ l) (words-sizeF ts) (packed-flatF ts)
   packed-flat (bin o t u) =
       ap₂ (λ n l. pack 6 n (opArg o) ∷ l) (ap₂ _+_ (words-size t) (words-size u)) (packs-append (Wo.flat t) (Wo.flat u) ∙ ap₂ _++_ (packed-flat t) (packed-flat u))
   packed-flat (negate t) = ap₂ (λ n l. pack 7 n 0 ∷ l) (words-size t) (packed-flat t)

@@ -12,24 +12,28 @@ use lib.IntN.{ℤ, pos, negsuc}
 use Rattle.spec_calculus.specs.Lists.{pick}
 use Rattle.spec_normal_form.specs.Normal.{nothing, quote, condition}
 use Rattle.spec_encoding.specs.Reader as Re
-use Rattle.front_theory.specs.NodeTable.{Node, nnum, ntruth, nname, nfield, nrec, nbin, nnegate, ncomp, ntable, ngen, nbind, ncond, nbad}
+use Rattle.front_theory.specs.NodeTable.{Node, nnum, ntruth, nname, nfield, nrec, nbin, nnegate, napp, ncomp, ntable, ngen, nbind, ncond, nbad}
 use Rattle.front_theory.specs.CappedOffsets.{limit}
 use Rattle.front_theory.specs.FormWords.{words}
 use Rattle.base_scratch.specs.Map.{places}
 use Rattle.form_words.specs.FormWords.{numberArg}
 use Rattle.front_words.specs.NodeWord.{argOf, nodeWord}
 use Rattle.front_words.specs.NodeTree.{numberOf, kindAt, argAt}
+use Rattle.base_syntax.specs.declared.Fun.{Fun}
+use Rattle.base_syntax.specs.Numbers.{funOf, funArg}
 use Rattle.front_nodes.specs.NodeTable.{most, above, nameBy, nodeBy, nodesOf}
 use Rattle.front_nodes.proofs.PostOrder.{by-pick}
 use Rattle.front_resolve.specs.Place.{Place, FormAt}
 use Rattle.front_resolve.specs.declared.Form.{Form}
-use Rattle.front_resolve.specs.declared.Form.the-variants.{Number, Truth, Row, Cell, Record, Two, Not, Comp, Table, Bad}
+use Rattle.front_resolve.specs.declared.Form.the-variants.{Number, Truth, Row, Cell, Record, Two, Not, Comp, Table, Operator, Bad}
 use Rattle.front_resolve.proofs.Form as form
 use Rattle.front_emit.specs.declared.State.{State}
+use Rattle.front_emit.specs.declared.Heading.{Heading}
+use Rattle.front_emit.specs.declared.Heading.the-variants.{Terms, Other}
 use Rattle.front_emit.specs.WriterResult.{LeafPost, Emitted}
-use Rattle.front_emit.specs.WriterStart.{placeS, tableS, simpleS, Room, TermOf, SimplePre}
+use Rattle.front_emit.specs.WriterStart.{placeS, tableS, simpleS, Room, TermOf, SimplePre, Headed, a-record, an-operator, Termed, HeadingIs, HeadingOfPost}
 use Rattle.front_emit.proofs.WriterExits.{leaf-num, leaf-truth, leaf-row, leaf-cell, leaf-arg}
-use Rattle.front_emit.proofs.TermCalls.{formS, some-word}
+use Rattle.front_emit.proofs.TermCalls.{formS, some-word, headed-record, headed-operator}
 
 -- ---- a number's argument is that of its node
 number-kept : (a : ℕ) → a ≡ numberArg (numberOf a)
@@ -46,6 +50,7 @@ Says a (ntruth b) = Unit {0}
 Says a (nname x d) = Unit {0}
 Says a (nfield k c) = Unit {0}
 Says a (nrec cs) = Unit {0}
+Says a (napp f cs) = Unit {0}
 Says a (nbin o b c) = Unit {0}
 Says a (nnegate c) = Unit {0}
 Says a (ncomp m cs k) = Unit {0}
@@ -69,6 +74,7 @@ says-kind s i Re.truthK = tt
 says-kind s i Re.nameK = says-name (argAt s i) s i _
 says-kind s i Re.fieldK = says-above (argAt s i) i _ tt
 says-kind s i Re.record′ = tt
+says-kind s i Re.choiceK = tt
 says-kind s i (Re.two-terms o) = says-above (argAt s i) i _ tt
 says-kind s i Re.not = says-above (argAt s i) i _ tt
 says-kind s i Re.comprehension = says-above (argAt s i) i _ tt
@@ -82,33 +88,60 @@ pub number-arg : (s : List ℕ) (i : ℕ) (z : ℤ) → nodesOf s i ≡ nnum z �
 unfolding nodesOf
 number-arg s i z e = subst (Says (argAt s i)) e (by-pick (Says (argAt s i)) (ltb i most) (nodeBy s i (kindAt s i)) nbad (λ t. says-kind s i (kindAt s i)) (λ t. tt))
 
+-- ---- which forms have terms
+-- all but a record and an operator
+abbrev pub termless : List ℕ
+termless = 0 ∷ 1 ∷ 2 ∷ 3 ∷ 5 ∷ 6 ∷ 7 ∷ 8 ∷ 10 ∷ []
+
+untermed : {f : Form} {k a : ℕ} → OneOf termless (tagOf form.the-type f) → Headed f k a → ⊥
+untermed w a-record = miss termless 4 tt w
+untermed w (an-operator o) = miss termless 9 tt w
+
+module _ {f : Form} where
+  pub terms-record : f ≡ Record → HeadingOfPost f (Terms 5 0)
+  terms-record e = record { is = headed-record e }
+
+  pub terms-operator : {o : Fun} {a : ℕ} → f ≡ Operator o → a ≡ funArg (funOf o) → HeadingOfPost f (Terms 11 a)
+  terms-operator e p = record { is = headed-operator e p }
+
+  pub no-terms : OneOf termless (tagOf form.the-type f) → HeadingOfPost f Other
+  no-terms w = record { is = λ h. untermed w (h .2) }
+
+  module _ {r : Heading} (H : HeadingOfPost f r) where
+    pub heading-terms : {k a : ℕ} → r ≡ Terms k a → Headed f k a
+    heading-terms e = subst (HeadingIs f) e (H .is)
+
+    pub heading-other : r ≡ Other → Termed f → ⊥
+    heading-other e = subst (HeadingIs f) e (H .is)
+
 -- ---- forms with no nodes below them
--- all but a record, an operator, a "not" and a comprehension
+-- all but an operator of two terms, a "not" and a comprehension
 abbrev pub leaves : List ℕ
-leaves = 0 ∷ 1 ∷ 2 ∷ 3 ∷ 8 ∷ 9 ∷ []
+leaves = 0 ∷ 1 ∷ 2 ∷ 3 ∷ 4 ∷ 8 ∷ 9 ∷ 10 ∷ []
 
-leaf-form : (s : List ℕ) (h : Place) (f : Form) → OneOf leaves (tagOf form.the-type f) → formS s h f ≡ simpleS s f
-leaf-form s h (Number z) w = refl
-leaf-form s h (Truth b) w = refl
-leaf-form s h (Row g) w = refl
-leaf-form s h (Cell k g) w = refl
-leaf-form s h Record w = absurd (miss leaves 4 tt w)
-leaf-form s h (Two o a b) w = absurd (miss leaves 5 tt w)
-leaf-form s h (Not c) w = absurd (miss leaves 6 tt w)
-leaf-form s h (Comp m k) w = absurd (miss leaves 7 tt w)
-leaf-form s h (Table k) w = refl
-leaf-form s h Bad w = refl
+leaf-form : (s : List ℕ) (h : Place) (f : Form) → (Termed f → ⊥) → OneOf leaves (tagOf form.the-type f) → formS s h f ≡ simpleS s f
+leaf-form s h (Number z) u w = refl
+leaf-form s h (Truth b) u w = refl
+leaf-form s h (Row g) u w = refl
+leaf-form s h (Cell k g) u w = refl
+leaf-form s h Record u w = absurd (u (5, 0, a-record))
+leaf-form s h (Two o a b) u w = absurd (miss leaves 5 tt w)
+leaf-form s h (Not c) u w = absurd (miss leaves 6 tt w)
+leaf-form s h (Comp m k) u w = absurd (miss leaves 7 tt w)
+leaf-form s h (Table k) u w = refl
+leaf-form s h (Operator f) u w = absurd (u (11, funArg (funOf f), an-operator f))
+leaf-form s h Bad u w = refl
 
-module _ {s : List ℕ} (h : Place) {st : State} (w : OneOf leaves (tagOf form.the-type (h .form))) where
+module _ {s : List ℕ} (h : Place) {st : State} (u : Termed (h .form) → ⊥) (w : OneOf leaves (tagOf form.the-type (h .form))) where
   pub simple-starts : TermOf s h st → SimplePre s (h .form) (h .node) st
-  simple-starts S = record { depth = h .depth; form = S .fine .form; room = subst (λ d. Room st (words (quote d (st .next)))) (leaf-form s h (h .form) w) (S .starts .room) }
+  simple-starts S = record { depth = h .depth; form = S .fine .form; room = subst (λ d. Room st (words (quote d (st .next)))) (leaf-form s h (h .form) u w) (S .starts .room) }
 
   pub simple-written : {s′ : List ℕ} {r : State} → Emitted (simpleS s (h .form)) s st s′ r → Emitted (placeS s h) s st s′ r
-  simple-written {s′} {r} E = subst (λ d. Emitted d s st s′ r) (sym (leaf-form s h (h .form) w)) E
+  simple-written {s′} {r} E = subst (λ d. Emitted d s st s′ r) (sym (leaf-form s h (h .form) u w)) E
 
 -- what none of number, truth, row, cell and table comes to
 abbrev pub others : List ℕ
-others = 4 ∷ 5 ∷ 6 ∷ 7 ∷ 9 ∷ []
+others = 4 ∷ 5 ∷ 6 ∷ 7 ∷ 9 ∷ 10 ∷ []
 
 other-form : (s : List ℕ) (f : Form) → OneOf others (tagOf form.the-type f) → nothing ≡ simpleS s f
 other-form s (Number z) w = absurd (miss others 0 tt w)
@@ -120,6 +153,7 @@ other-form s (Two o a b) w = refl
 other-form s (Not c) w = refl
 other-form s (Comp m k) w = refl
 other-form s (Table k) w = absurd (miss others 8 tt w)
+other-form s (Operator f) w = refl
 other-form s Bad w = refl
 
 module _ {s : List ℕ} {f : Form} {i : ℕ} {st : State} (S : SimplePre s f i st) where

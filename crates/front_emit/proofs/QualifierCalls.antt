@@ -181,7 +181,7 @@ module _ (l : List ℕ) (v : Bool) {s : List ℕ} {lo e D : ℕ} {st : State} (S
 -- ---- one qualifier
 -- the nodes that write nothing: neither generator nor condition
 abbrev pub silent : List ℕ
-silent = 0 ∷ 1 ∷ 2 ∷ 3 ∷ 4 ∷ 5 ∷ 6 ∷ 7 ∷ 8 ∷ 10 ∷ 12 ∷ []
+silent = 0 ∷ 1 ∷ 2 ∷ 3 ∷ 4 ∷ 5 ∷ 6 ∷ 7 ∷ 8 ∷ 10 ∷ 12 ∷ 13 ∷ []
 
 silent-node : (s : List ℕ) (x : ℕ) (A : At) (D : ℕ) (e : Env) (v : Bool) (n : ℕ) (y : Dn.QueryNode) → OneOf silent (tagOf node.the-type y) → nodesC (qualOf A D e v n (nodeNamed s x y)) ≡ 0
 unfolding nodesC
@@ -197,6 +197,7 @@ silent-node s x A D e v n (Nd.Table k) h = refl
 silent-node s x A D e v n (Nd.Gen c) h = absurd (miss silent 9 tt h)
 silent-node s x A D e v n (Nd.Bind c) h = refl
 silent-node s x A D e v n (Nd.Cond c) h = absurd (miss silent 11 tt h)
+silent-node s x A D e v n (Nd.Operator f) h = refl
 silent-node s x A D e v n Nd.Bad h = refl
 
 module _ (l : List ℕ) (v : Bool) {s : List ℕ} {x D : ℕ} {st : State} (S : QualifierPre s x D l v st) where

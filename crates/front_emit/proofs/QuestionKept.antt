@@ -13,7 +13,7 @@ use Rattle.spec_encoding.specs.Data.{collectionOf}
 use Rattle.base_tables.specs.Description.{collectionIn}
 use Rattle.spec_normal_form.specs.Normal.{nothing, ranges}
 use Rattle.spec_normal_form.specs.Size.{nodesC}
-use Rattle.front_theory.specs.NodeTable.{Node, Nodes, nnum, ntruth, nname, nfield, nrec, nbin, nnegate, ncomp, ntable, ngen, nbind, ncond, nbad}
+use Rattle.front_theory.specs.NodeTable.{Node, Nodes, nnum, ntruth, nname, nfield, nrec, nbin, nnegate, napp, ncomp, ntable, ngen, nbind, ncond, nbad}
 use Rattle.front_theory.specs.NodeForms.{Env, Offsets, At, boundOf, qualOf, semOf, semAt, sem}
 use Rattle.front_theory.specs.CappedOffsets.{limit}
 use Rattle.base_scratch.specs.Map.{bindersAt, formAt, sizesAt}
@@ -26,10 +26,11 @@ use Rattle.front_nodes.proofs.PostOrder.{post-order}
 use Rattle.front_nodes.proofs.Depths.{level-same}
 use Rattle.front_nodes.proofs.SameTable.{depth-same, children-same, qualifiers-same, nodes-same}
 use Rattle.front_words.specs.NodeTree.{kindAt}
+use Rattle.base_syntax.specs.Numbers.{funOf}
 use Rattle.base_syntax.specs.MonoidWord.{monoidOf}
 use Rattle.front_resolve.specs.Place.{Place, offsets, FormAt, Fine}
 use Rattle.front_resolve.specs.declared.Form.{Form}
-use Rattle.front_resolve.specs.declared.Form.the-variants.{Number, Truth, Row, Cell, Record, Two, Not, Comp, Table, Bad}
+use Rattle.front_resolve.specs.declared.Form.the-variants.{Number, Truth, Row, Cell, Record, Two, Not, Comp, Table, Operator, Bad}
 use Rattle.front_emit.specs.WriterStart.{mostTables, collections, semS, Ready}
 
 -- the words before those of the normal form are the same
@@ -45,6 +46,7 @@ module _ (K : ℕ → Collection) (N : Nodes) (off off′ : Offsets) (O : (x c :
   bound-offsets A x d e (nname y k) p = refl
   bound-offsets A x d e (nfield i c) p = refl
   bound-offsets A x d e (nrec cs) p = refl
+  bound-offsets A x d e (napp f cs) p = refl
   bound-offsets A x d e (nbin o a b) p = refl
   bound-offsets A x d e (nnegate c) p = refl
   bound-offsets A x d e (ncomp m cs h) p = refl
@@ -59,6 +61,7 @@ module _ (K : ℕ → Collection) (N : Nodes) (off off′ : Offsets) (O : (x c :
   node-offsets A (ntruth b) D e = refl
   node-offsets A (nfield i c) D e = refl
   node-offsets A (nrec cs) D e = refl
+  node-offsets A (napp f cs) D e = refl
   node-offsets A (nbin o a b) D e = refl
   node-offsets A (nnegate c) D e = refl
   node-offsets A (ncomp m cs h) D e = refl
@@ -119,6 +122,7 @@ module _ {s s′ : List ℕ} (H : Kept s s′) where
       go (Row g) p = p
       go (Cell k g) p = p
       go Record p = node-kept (h .node) p (ap nrec (sym (children-kept (h .node) l)))
+      go (Operator f) p = node-kept (h .node) p (ap (napp (funOf f)) (sym (children-kept (h .node) l)))
       go (Two o a b) p = node-kept (h .node) p refl
       go (Not c) p = node-kept (h .node) p refl
       go (Comp m k) p = (node-kept (h .node) (p .0) (ap (λ (l : List ℕ). ncomp (monoidOf m) l k) (sym (qualifiers-kept (h .node) l))), p .1)

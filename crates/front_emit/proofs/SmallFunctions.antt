@@ -24,7 +24,7 @@ use Rattle.base_syntax.specs.declared.Op.the-variants as Op
 use Rattle.base_syntax.proofs.Op as op
 use Rattle.front_resolve.specs.Place.{Place, bit, envOf}
 use Rattle.front_resolve.specs.declared.Form.{Form}
-use Rattle.front_resolve.specs.declared.Form.the-variants.{Number, Truth, Row, Cell, Record, Two, Not, Comp, Table, Bad}
+use Rattle.front_resolve.specs.declared.Form.the-variants.{Number, Truth, Row, Cell, Record, Two, Not, Comp, Table, Operator, Bad}
 use Rattle.front_resolve.proofs.Form as form
 use Rattle.front_resolve.proofs.Exits.{env-set}
 use Rattle.front_emit.specs.declared.Split.the-variants.{And, Some, One}
@@ -46,7 +46,7 @@ abbrev pub notSome : List ℕ
 notSome = 0 ∷ 1 ∷ 2 ∷ 3 ∷ 4 ∷ 6 ∷ 7 ∷ []
 
 abbrev pub undivided : List ℕ
-undivided = 0 ∷ 1 ∷ 2 ∷ 3 ∷ 4 ∷ 6 ∷ 8 ∷ 9 ∷ []
+undivided = 0 ∷ 1 ∷ 2 ∷ 3 ∷ 4 ∷ 6 ∷ 8 ∷ 9 ∷ 10 ∷ []
 
 other-op : (o : Op) → OneOf notAnd (tagOf op.the-type o) → o ≡ Op.And → ⊥
 other-op Op.Plus w e = let z : _≡_ {A = ℕ} 0 1 = cc in omega arith
@@ -78,6 +78,7 @@ other-form (Two o a b) v w = absurd (miss undivided 5 tt w)
 other-form (Not c) v w = tt
 other-form (Comp m k) v w = absurd (miss undivided 7 tt w)
 other-form (Table k) v w = tt
+other-form (Operator f) v w = tt
 other-form Bad v w = tt
 
 module _ {f : Form} {v : Bool} where

@@ -1,8 +1,8 @@
 -- What each call asks, from what the caller was given.
-use mathlib.Core.Path.{_≡_, refl, sym, ap, ap₂, subst, _∙_}
+use mathlib.Core.Path.{_≡_, refl, sym, ap, ap₂, subst, subst₂, _∙_}
 use mathlib.Core.Bool.{Bool}
 use mathlib.Core.List.{List, [], _∷_}
-use Prim.Native.Nat.{ℕ, zero, suc, _+_, _<_, _≤_}
+use Prim.Native.Nat.{ℕ, zero, suc, _+_, _^_, _<_, _≤_}
 use native.Mathlib.Omega.{arith}
 use lib.ListN.{drop}
 use Rattle.spec_calculus.specs.Syntax.{Bin}
@@ -18,18 +18,20 @@ use Rattle.base_scratch.specs.Map.{places}
 use Rattle.front_nodes.specs.NodeTable.{most, depthAt, childrenOf, nodesOf}
 use Rattle.front_nodes.specs.Look.{nth, ChildPost}
 use Rattle.front_nodes.specs.Levels.{AllAt, Level}
+use Rattle.base_syntax.specs.declared.Fun.{Fun}
+use Rattle.base_syntax.specs.declared.Fun.the-variants.{Choice}
 use Rattle.base_syntax.specs.declared.Op.{Op}
 use Rattle.front_nodes.specs.declared.Found.the-variants as Fd
 use Rattle.front_nodes.proofs.PostOrder.{post-order}
 use Rattle.front_resolve.specs.Place.{Place, envOf, formSem, FormAt, Heads}
 use Rattle.front_resolve.specs.declared.Form.{Form}
-use Rattle.front_resolve.specs.declared.Form.the-variants.{Record, Two, Not, Comp}
+use Rattle.front_resolve.specs.declared.Form.the-variants.{Record, Two, Not, Comp, Operator}
 use Rattle.front_emit.specs.declared.State.{State}
 use Rattle.front_emit.specs.WriterResult.{behind, ClosePost, Emitted, FieldsPost, EmittedC, SourcePost}
-use Rattle.front_emit.specs.WriterStart.{collections, semS, placeS, fieldsS, Room, Starts, StartsAt, EmitPre, ConditionAt, SourceAt, TermOf, FieldsPre, ConditionOf, SourcePre, SinglePre}
+use Rattle.front_emit.specs.WriterStart.{collections, semS, placeS, fieldsS, Room, Starts, StartsAt, EmitPre, ConditionAt, SourceAt, TermOf, Headed, a-record, an-operator, Termed, FieldsPre, ConditionOf, SourcePre, SinglePre}
 use Rattle.front_emit.proofs.QuestionKept.{Kept, depth-kept, children-kept, fine-kept, sem-kept, ready-kept}
-use Rattle.front_emit.proofs.WriterExits.{Moved, laid-kept, laid, moved, room-left, room-behind, closes-arg, rec-done, negate-done, binary-done, fields-none, fields-more}
-use Rattle.base_syntax.specs.Numbers.{binOf, opArg}
+use Rattle.front_emit.proofs.WriterExits.{Moved, laid-kept, laid, moved, room-left, room-behind, closes-arg, rec-done, app-done, negate-done, binary-done, fields-none, fields-more}
+use Rattle.base_syntax.specs.Numbers.{binOf, opArg, funArg, funOf}
 
 -- ---- a node's place
 place-is : {s : List ℕ} {i D : ℕ} {l : List ℕ} {h : Place} → Heads s i D l h → placeS s h ≡ semS s i D (envOf l)
@@ -196,17 +198,41 @@ module _ {s : List ℕ} {h : Place} {st : State} {c : ℕ} (S : TermOf s h st) (
   pub not-done : {s₁ s₂ : List ℕ} {q r : State} → q ≡ behind st → Emitted (childS s h c) s q s₁ r → ClosePost 7 0 (st .place) (r .place) s₁ s₂ → Emitted (placeS s h) s st s₂ r
   not-done {s₂ = s₂} {r = r} p E C = subst (λ d. Emitted d s st s₂ r) (sym (form-is s h e)) (negate-done p E C)
 
--- ---- a record
-module _ {s : List ℕ} {h : Place} {st : State} (S : TermOf s h st) (e : h .form ≡ Record) where
-  pub record-first : {q : State} → q ≡ behind st → FieldsPre s h 0 q
-  unfolding quote words
-  record-first {q} p =
-      let n : q .next ≡ st .next = ap (λ (x : State). x .next) p in
-      let R = subst (λ d. Room st (words (quote d (st .next)))) (form-is s h e) (S .starts .room) in
-      again S (room-at (λ i. wordsF (quotes (fieldsS s h 0) i)) n (room-behind _ p R))
+-- ---- a record or an operator
+pub headed-record : {f : Form} → f ≡ Record → Headed f 5 0
+headed-record e = subst (λ f. Headed f 5 0) (sym e) a-record
 
-  pub record-done : {s₁ s₂ : List ℕ} {q r : State} → q ≡ behind st → FieldsPost (fieldsS s h 0) s q s₁ r → ClosePost 5 0 (st .place) (r .place) s₁ s₂ → Emitted (placeS s h) s st s₂ r
-  record-done {s₂ = s₂} {r = r} p E C = subst (λ d. Emitted d s st s₂ r) (sym (form-is s h e)) (rec-done p E C)
+pub headed-operator : {f : Form} {o : Fun} {a : ℕ} → f ≡ Operator o → a ≡ funArg (funOf o) → Headed f 11 a
+headed-operator {o = o} e p = subst₂ (λ f a. Headed f 11 a) (sym e) (sym p) (an-operator o)
+
+arg-small : (o : Fun) → funArg (funOf o) < 2 ^ 50
+arg-small Choice = omega arith
+
+pub headed-small : {f : Form} {k a : ℕ} → Headed f k a → (k < 16) × (a < 2 ^ 50)
+headed-small a-record = omega arith
+headed-small (an-operator o) = (omega arith, arg-small o)
+
+terms-level : {s : List ℕ} {h : Place} {st : State} {n : ℕ} → StartsAt s h st n → {f : Form} {k a : ℕ} → Headed f k a → h .form ≡ f → AllAt (depthAt s) (h .depth) (childrenOf s (h .node))
+terms-level S a-record e = node-level S (form-at S e)
+terms-level S (an-operator o) e = node-level S (form-at S e)
+
+module _ {s : List ℕ} {h : Place} {st : State} (S : TermOf s h st) where
+  terms-room : {f : Form} {k a : ℕ} → Headed f k a → h .form ≡ f → Room st (suc (wordsF (quotes (fieldsS s h 0) (st .next))))
+  unfolding quote words
+  terms-room a-record e = subst (λ d. Room st (words (quote d (st .next)))) (form-is s h e) (S .starts .room)
+  terms-room (an-operator o) e = subst (λ d. Room st (words (quote d (st .next)))) (form-is s h e) (S .starts .room)
+
+  pub record-first : {k a : ℕ} → Headed (h .form) k a → {q : State} → q ≡ behind st → FieldsPre s h 0 q
+  record-first H {q} p =
+      let n : q .next ≡ st .next = ap (λ (x : State). x .next) p in
+      again S (room-at (λ i. wordsF (quotes (fieldsS s h 0) i)) n (room-behind _ p (terms-room H refl)))
+
+  terms-done : {f : Form} {k a : ℕ} → Headed f k a → {s₁ s₂ : List ℕ} {q r : State} → q ≡ behind st → FieldsPost (fieldsS s h 0) s q s₁ r → ClosePost k a (st .place) (r .place) s₁ s₂ → Emitted (formS s h f) s st s₂ r
+  terms-done a-record p E C = rec-done p E C
+  terms-done (an-operator o) p E C = app-done p (funOf o) E C
+
+  pub record-done : {k a : ℕ} → Headed (h .form) k a → {s₁ s₂ : List ℕ} {q r : State} → q ≡ behind st → FieldsPost (fieldsS s h 0) s q s₁ r → ClosePost k a (st .place) (r .place) s₁ s₂ → Emitted (placeS s h) s st s₂ r
+  record-done H p E C = terms-done H p E C
 
 -- the terms from k on: none, or one and those behind it
 no-term : (k : ℕ) (cs : List ℕ) → nth k cs ≡ Fd.Nothing → drop k cs ≡ []
@@ -236,6 +262,7 @@ some-word (Nf.truth b) = omega arith
 some-word (Nf.row g) = omega arith
 some-word (Nf.cell k g) = omega arith
 some-word (Nf.rec ts) = omega arith
+some-word (Nf.app f ts) = omega arith
 some-word (Nf.bin o t u) = omega arith
 some-word (Nf.negate t) = omega arith
 some-word (Nf.comp m q u) = omega arith
@@ -247,7 +274,7 @@ pub no-fields : {s : List ℕ} {h : Place} {st : State} {k n : ℕ} → StartsAt
 unfolding semsOf
 no-fields {s} {h} {st} {k} S P = subst (λ (l : List ℕ). FieldsPost (restS s h l) s st s st) (sym (no-term k (childrenOf s (h .node)) (sym (P .is)))) fields-none
 
-module _ {s : List ℕ} {h : Place} {st : State} {k c : ℕ} (S : FieldsPre s h k st) (e : h .form ≡ Record) (P : ChildPost s (h .node) k (Fd.At c)) where
+module _ {s : List ℕ} {h : Place} {st : State} {k c : ℕ} (S : FieldsPre s h k st) (T : Termed (h .form)) (P : ChildPost s (h .node) k (Fd.At c)) where
   these : fieldsS s h k ≡ scons (childS s h c) (restS s h (drop (suc k) (childrenOf s (h .node))))
   unfolding semsOf
   these = ap (restS s h) (some-term k c (childrenOf s (h .node)) (sym (P .is)))
@@ -257,7 +284,7 @@ module _ {s : List ℕ} {h : Place} {st : State} {k c : ℕ} (S : FieldsPre s h 
   fields-room = subst (λ ds. Room st (wordsF (quotes ds (st .next)))) these (S .starts .room)
 
   pub field-first : EmitPre s c (h .depth) (h .env) st
-  field-first = child-starts S (P .before) (term-level (depthAt s) (h .depth) k c (childrenOf s (h .node)) (node-level S (form-at S e)) (sym (P .is))) (room-less fields-room (omega arith))
+  field-first = child-starts S (P .before) (term-level (depthAt s) (h .depth) k c (childrenOf s (h .node)) (terms-level S (T .2) refl) (sym (P .is))) (room-less fields-room (omega arith))
 
   module _ {s₁ : List ℕ} {q : State} (E : Emitted (childS s h c) s st s₁ q) where
     next-fields : fieldsS s₁ h (k + 1) ≡ restS s h (drop (suc k) (childrenOf s (h .node)))
@@ -291,10 +318,10 @@ module _ {s₀ : List ℕ} {h : Place} {st : State} {s : List ℕ} {k : ℕ} {q 
   pub left-none : ChildPost s (h .node) k Fd.Nothing → FieldsPost (fieldsS s₀ h 0) s₀ st s q
   left-none P = L .rest s q (no-fields (L .starts) P)
 
-  pub left-less : {c : ℕ} {s₁ : List ℕ} {x : State} → h .form ≡ Record → ChildPost s (h .node) k (Fd.At c) → Emitted (childS s h c) s q s₁ x → FieldsLeft s₀ h st s₁ (k + 1) x
-  left-less e P E =
-      let n = field-next (L .starts) e P E (L .few) in
-      record { starts = n .0; few = n .1; rest = λ s′ r F. L .rest s′ r (field-done (L .starts) e P E F) }
+  pub left-less : {c : ℕ} {s₁ : List ℕ} {x : State} → Termed (h .form) → ChildPost s (h .node) k (Fd.At c) → Emitted (childS s h c) s q s₁ x → FieldsLeft s₀ h st s₁ (k + 1) x
+  left-less T P E =
+      let n = field-next (L .starts) T P E (L .few) in
+      record { starts = n .0; few = n .1; rest = λ s′ r F. L .rest s′ r (field-done (L .starts) T P E F) }
 
 -- ---- the first place, and nodes below a node
 pub has-place : {s : List ℕ} {h : Place} {st : State} → TermOf s h st → st .place < places

@@ -7,14 +7,14 @@ use native.Mathlib.Omega.{arith}
 use lib.ListN.{length, getD}
 use lib.IntN.{ℤ}
 use Rattle.spec_calculus.specs.Lists.{pick}
-use Rattle.spec_calculus.specs.Syntax.{Collection, Monoid, of, Bin}
+use Rattle.spec_calculus.specs.Syntax.{Collection, Monoid, of, Bin, Fun}
 use Rattle.spec_normal_form.specs.Form.{Clauses, gens, gensF, gensC}
 use Rattle.spec_normal_form.specs.Form as Nf
-use Rattle.spec_normal_form.specs.Normal.{Sem, Sems, row, fields, both, nested, plain, snil, scons, quote, quotes, idempotent, givesWay, condition, binary}
+use Rattle.spec_normal_form.specs.Normal.{Sem, Sems, row, fields, both, nested, plain, snil, scons, quote, quotes, idempotent, givesWay, condition, binary, applied}
 use Rattle.spec_normal_form.specs.Size.{nodesC}
 use Rattle.front_theory.specs.NodeTable.{Node, Nodes, ngen, ncond}
 use Rattle.front_theory.specs.NodeForms.{Env, enter, At, qualOf, clausesOf, compOf}
-use Rattle.front_theory.specs.FormWords.{Label, Word, word, wnum, wtruth, wrow, wcell, wrec, wnegate, wcond, wbin, wcomp, wgen, words, wordsF, wordsC, flat, flatF, flatC}
+use Rattle.front_theory.specs.FormWords.{Label, Word, word, wnum, wtruth, wrow, wcell, wrec, wnegate, wcond, wbin, wapp, wcomp, wgen, words, wordsF, wordsC, flat, flatF, flatC}
 use Rattle.front_theory.specs.Writer.{state, puts, mark, markGen, tellC, Emits, EmitsF, EmitsQ}
 use Rattle.front_theory.specs.Writer as No
 use Rattle.front_theory.proofs.FormCounts.{sizes, sizesF, sizesC, flat-length, flat-lengthF, flat-lengthC}
@@ -26,7 +26,7 @@ use Rattle.front_emit.specs.WriterStart.{Room}
 use Rattle.front_emit.specs.WriterResult.{kindIn, argIn, packed, Buffer, buffer, put, stateOf, behind, numbered, LeafPost, ClosePost, GeneratorPost, Emitted, FieldsPost, EmittedC, SourcePost, QualifierPost, EmittedQ, SinglePost, NeverPost}
 use Rattle.front_emit.proofs.LaidWords.{puts-place, puts-kept, lateS, put-late, laid-late}
 use Rattle.front_emit.proofs.QuestionKept.{Kept}
-use Rattle.base_syntax.specs.Numbers.{opArg, monoidArg}
+use Rattle.base_syntax.specs.Numbers.{opArg, funArg, monoidArg}
 
 -- ---- where the words end
 -- so many words were written, so many of them generators
@@ -130,6 +130,14 @@ module _ {s s₁ s₂ : List ℕ} {st q r : State} (e : q ≡ behind st) where
       let S = stateOf s st in
       record { is = Em.emit-rec put ds S (mark put x S) (stateOf s₂ r) refl (shut wrec (x .below) (st .place) r (movedF E′ .place) C ∙ late-fields (st .place) (packed x) (omega arith) E′) }
 
+  pub app-done : {ds : Sems} (f : Fun) → FieldsPost ds s q s₁ r → ClosePost 11 (funArg f) (st .place) (r .place) s₁ s₂ → Emitted (applied f ds) s st s₂ r
+  unfolding put
+  app-done {ds} f E C =
+      let E′ : FieldsPost ds s (behind st) s₁ r = subst (λ (a : State). FieldsPost ds s a s₁ r) e E in
+      let x = word (wapp f) (wordsF (quotes ds (st .next))) in
+      let S = stateOf s st in
+      record { is = Em.emit-app put f ds S (mark put x S) (stateOf s₂ r) refl (shut (wapp f) (x .below) (st .place) r (movedF E′ .place) C ∙ late-fields (st .place) (packed x) (omega arith) E′) }
+
   pub negate-done : {d : Sem} → Emitted d s q s₁ r → ClosePost 7 0 (st .place) (r .place) s₁ s₂ → Emitted (plain (λ n. Nf.negate (quote d n))) s st s₂ r
   unfolding put
   negate-done {d} E C =
@@ -186,7 +194,7 @@ module _ {s s₁ s₂ s₃ : List ℕ} {st q x y : State} (e : q ≡ behind st) 
             (shut (wcomp m) (b + l) (st .place) y (omega arith) C ∙ late-term (st .place) (packed w) (omega arith) F);
       }
 
--- ---- the terms of a record
+-- ---- the terms of a record or an operator
 pub fields-none : {s : List ℕ} {st : State} → FieldsPost snil s st s st
 fields-none {s} {st} = record { is = Em.emit-no-field put (stateOf s st) }
 

@@ -9,7 +9,7 @@ use Rattle.base_syntax.specs.declared.Monoid.the-variants as Mo
 use Rattle.base_syntax.specs.declared.Op.{Op}
 use Rattle.base_syntax.specs.declared.Op.the-variants as Op
 use Rattle.front_resolve.specs.declared.Form.{Form}
-use Rattle.front_resolve.specs.declared.Form.the-variants.{Number, Truth, Row, Cell, Record, Two, Not, Comp, Table, Bad}
+use Rattle.front_resolve.specs.declared.Form.the-variants.{Number, Truth, Row, Cell, Record, Two, Not, Comp, Table, Operator, Bad}
 use Rattle.front_emit.specs.declared.Split.{Split}
 use Rattle.front_emit.specs.declared.Split.the-variants.{And, Some, One}
 
@@ -24,6 +24,7 @@ Single (Two o a b) v = o ≡ Op.And → ⊥
 Single (Not c) v = Unit {0}
 Single (Comp m k) v = givesWay (monoidOf m) v ≡ false
 Single (Table k) v = Unit {0}
+Single (Operator f) v = Unit {0}
 Single Bad v = Unit {0}
 
 abbrev pub SplitIs : Form → Bool → Split → Type 0

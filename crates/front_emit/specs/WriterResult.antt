@@ -9,14 +9,14 @@ use Rattle.spec_normal_form.specs.Form as Nf
 use Rattle.spec_normal_form.specs.Normal.{Sem, Sems, quote, one}
 use Rattle.front_theory.specs.NodeTable.{Node, Nodes}
 use Rattle.front_theory.specs.NodeForms.{Env, At}
-use Rattle.front_theory.specs.FormWords.{Label, Word, wnum, wtruth, wrow, wcell, wrec, wnegate, wcond, wbin, wcomp, wgen}
+use Rattle.front_theory.specs.FormWords.{Label, Word, wnum, wtruth, wrow, wcell, wrec, wnegate, wcond, wbin, wapp, wcomp, wgen}
 use Rattle.front_theory.specs.Writer.{state, tellC, Emits, EmitsF, EmitsC, EmitsG, EmitsN, EmitsQ}
 use Rattle.front_theory.specs.Writer as No
 use Rattle.form_words.specs.NodeWord.{pack}
 use Rattle.form_words.specs.FormWords.{numberArg}
 use Rattle.base_scratch.specs.Map.{formAt}
 use Rattle.front_emit.specs.declared.State.{State}
-use Rattle.base_syntax.specs.Numbers.{opArg, monoidArg}
+use Rattle.base_syntax.specs.Numbers.{opArg, funArg, monoidArg}
 
 -- a word in scratch: kind, how many words are below it, argument
 abbrev pub kindIn : Label → ℕ
@@ -30,6 +30,7 @@ kindIn wnegate = 7
 kindIn (wcomp m) = 8
 kindIn (wgen g k) = 9
 kindIn wcond = 10
+kindIn (wapp f) = 11
 
 abbrev pub argIn : Label → ℕ
 argIn (wnum z) = numberArg z
@@ -42,6 +43,7 @@ argIn wnegate = 0
 argIn (wcomp m) = monoidArg m
 argIn (wgen g k) = 1024 * g + k
 argIn wcond = 0
+argIn (wapp f) = funArg f
 
 abbrev pub packed : Word → ℕ
 packed w = pack (kindIn (w .label)) (w .below) (argIn (w .label))
@@ -81,7 +83,7 @@ pub record GeneratorPost (k : ℕ) (s : List ℕ) (st : State) (s′ : List ℕ)
   pub is : s′ ≡ set s (formAt + st .place) (pack 9 0 (1024 * st .next + k))
   pub on : r ≡ numbered st
 
--- Just the words of this were written: as a term, as the terms of a record, as a condition, as a generator's term.
+-- Just the words of this were written: as a term, as the terms of a record or an operator, as a condition, as a generator's term.
 pub record Emitted (d : Sem) (s : List ℕ) (st : State) (s′ : List ℕ) (r : State) : Type 0 where
   pub is : Emits put d (stateOf s st) (stateOf s′ r)
 

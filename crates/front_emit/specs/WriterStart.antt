@@ -17,14 +17,18 @@ use Rattle.front_theory.specs.NodeForms.{Env, levels, enter, At, qualOf, clause
 use Rattle.front_theory.specs.FormWords.{words, wordsF, wordsC}
 use Rattle.base_syntax.specs.declared.Monoid.{Monoid}
 use Rattle.base_syntax.specs.MonoidWord.{monoidOf}
+use Rattle.base_syntax.specs.declared.Fun.{Fun}
+use Rattle.base_syntax.specs.Numbers.{funOf, funArg}
 use Rattle.base_scratch.specs.Map.{places}
 use Rattle.front_sizes.specs.SizeWords.{conditionCount}
 use Rattle.front_nodes.specs.NodeTable.{most, depthAt, childrenOf, chain, qualifiersOf, nodesOf}
 use Rattle.front_nodes.specs.Levels.{AllAt, Levelled}
 use Rattle.front_resolve.specs.Place.{Place, envOf, semN, placeSem, FormAt, Fine}
 use Rattle.front_resolve.specs.declared.Form.{Form}
-use Rattle.front_resolve.specs.declared.Form.the-variants.{Number, Truth, Row, Cell, Record, Two, Not, Comp, Table, Bad}
+use Rattle.front_resolve.specs.declared.Form.the-variants.{Number, Truth, Row, Cell, Record, Two, Not, Comp, Table, Operator, Bad}
 use Rattle.front_emit.specs.declared.State.{State}
+use Rattle.front_emit.specs.declared.Heading.{Heading}
+use Rattle.front_emit.specs.declared.Heading.the-variants.{Terms, Other}
 
 -- "data is 0 to 8 such records"
 abbrev pub mostTables : ℕ
@@ -56,9 +60,10 @@ simpleS s (Two o a b) = nothing
 simpleS s (Not c) = nothing
 simpleS s (Comp m k) = nothing
 simpleS s (Table k) = tableS s k
+simpleS s (Operator f) = nothing
 simpleS s Bad = nothing
 
--- the terms of the record at a place, from term k on
+-- the terms of the record or operator at a place, from term k on
 abbrev pub fieldsS : List ℕ → Place → ℕ → Sems
 fieldsS s h k = semsOf (semS s) (drop k (childrenOf s (h .node))) (h .depth) (envOf (h .env))
 
@@ -142,6 +147,21 @@ QualifierPre s x D l v st = Starts s x D st (wordsC (qualOf (semS s) D (envOf l)
 
 abbrev pub QualifiersPre : List ℕ → ℕ → ℕ → ℕ → List ℕ → Bool → State → Type 0
 QualifiersPre s lo e D l v st = StartsQ s lo e D st (wordsC (clausesOf (nodesOf s) (semS s) D (envOf l) v (st .next) (chain s lo e)))
+
+-- the forms with any number of terms, and the kind and the argument of their word
+pub data Headed : Form → ℕ → ℕ → Type 0 where
+  a-record : Headed Record 5 0
+  an-operator : (f : Fun) → Headed (Operator f) 11 (funArg (funOf f))
+
+abbrev pub Termed : Form → Type 0
+Termed f = (k : ℕ) × (a : ℕ) × Headed f k a
+
+abbrev pub HeadingIs : Form → Heading → Type 0
+HeadingIs f (Terms k a) = Headed f k a
+HeadingIs f Other = Termed f → ⊥
+
+pub record HeadingOfPost (f : Form) (r : Heading) : Type 0 where
+  pub is : HeadingIs f r
 
 -- a place as a term, its terms from term k on, as a condition, as a generator's term, as one condition, its qualifiers in
 -- a copy

@@ -13,9 +13,9 @@ ghost use Rattle.base_scratch.specs.Map.{places};
 ghost use Rattle.front_nodes.specs.NodeTable.{chain, nodesOf, qualifiersOf};
 ghost use Rattle.base_syntax.specs.declared.Op.the-variants as Op;
 ghost use Rattle.front_resolve.specs.Place.{under, envOf};
-ghost use Rattle.front_resolve.specs.declared.Form.the-variants.{Record, Two, Not, Comp};
+ghost use Rattle.front_resolve.specs.declared.Form.the-variants.{Two, Not, Comp};
 ghost use Rattle.front_emit.specs.ConditionShape.{IsComp, SplitOfPost};
-ghost use Rattle.front_emit.specs.WriterStart.{collections, semS, placeS, tableS, simpleS, fieldsS, flagIn, copyEnv, Copies, Room, EmitPre, ClausePre, QualifierPre, QualifiersPre, TermOf, FieldsPre, SourcePre, SinglePre, SimplePre, CopyOf};
+ghost use Rattle.front_emit.specs.WriterStart.{collections, semS, placeS, tableS, simpleS, fieldsS, flagIn, copyEnv, Copies, Room, EmitPre, ClausePre, QualifierPre, QualifiersPre, TermOf, Headed, Termed, FieldsPre, SourcePre, SinglePre, SimplePre, CopyOf, HeadingOfPost};
 ghost use Rattle.front_emit.specs.WriterResult.{behind, LeafPost, ClosePost, GeneratorPost, Emitted, FieldsPost, SourcePost, ClausePost, QualifierPost, EmittedQ, SinglePost, NeverPost};
 ghost use Rattle.front_emit.specs.WholeForm.{Writable, WriteFormPost};
 ghost use Rattle.base_syntax.specs.Numbers.{binOf, opArg, monoidArg};
@@ -198,33 +198,52 @@ fn emit(s: &mut [u64], i: usize, depth: usize, env: &[u16; 32], st: State) -> St
     placed(s, h, &mut e, st)
 }
 
+// Kind and argument of the word over the terms of a record or an operator.
+enum Heading {
+    Terms(u64, u64),
+    Other,
+}
+
+fn heading_of(f: Form) -> Heading
+    ensures { λ r. ⌜ HeadingOfPost f r ⌝ }
+{
+    match f {
+        Form::Record => Heading::Terms(form_words::RECORD, 0),
+        Form::Operator(o) => Heading::Terms(form_words::OPERATOR, o.number()),
+        _ => Heading::Other,
+    }
+}
+
 fn placed(s: &mut [u64], h: Head, env: &mut [u16; 32], st: State) -> State
     requires { ⌜ TermOf (now s) (under (now env) h) st ⌝ }
     ensures { λ r. ⌜ Emitted (placeS (now (s .entry)) (under (now (env .entry)) h)) (now (s .entry)) st (now (s .exit)) r ⌝ }
 {
     let f = h.form;
-    match f {
-        Form::Record => recorded(s, h, env, st),
-        Form::Two(o, a, b) => binary(s, h, o, a, b, env, st),
-        Form::Not(c) => negated(s, h, c, env, st),
-        Form::Comp(m, k) => comprehension(s, h, m, k, env, st),
-        _ => simple(s, f, h.node, st),
+    match heading_of(f) {
+        Heading::Terms(k, a) => recorded(s, h, k, a, env, st),
+        Heading::Other => match f {
+            Form::Two(o, a, b) => binary(s, h, o, a, b, env, st),
+            Form::Not(c) => negated(s, h, c, env, st),
+            Form::Comp(m, k) => comprehension(s, h, m, k, env, st),
+            _ => simple(s, f, h.node, st),
+        },
     }
 }
 
-fn recorded(s: &mut [u64], h: Head, env: &[u16; 32], st: State) -> State
-    requires { ⌜ TermOf (now s) (under (now env) h) st × (h .form ≡ Record) ⌝ }
+// A record or an operator, whose word is of kind k with argument a.
+fn recorded(s: &mut [u64], h: Head, k: u64, a: u64, env: &[u16; 32], st: State) -> State
+    requires { ⌜ TermOf (now s) (under (now env) h) st × Headed (h .form) k a ⌝ }
     ensures { λ r. ⌜ Emitted (placeS (now (s .entry)) (under (now (env .entry)) h)) (now (s .entry)) st (now (s .exit)) r ⌝ }
 {
     let p = st.place;
     let r = fields(s, h, env, below(st));
-    close(s, p, r.place, form_words::RECORD, 0);
+    close(s, p, r.place, k, a);
     r
 }
 
-// The terms of a record.
+// The terms of a record or an operator.
 fn fields(s: &mut [u64], h: Head, env: &[u16; 32], st: State) -> State
-    requires { ⌜ FieldsPre (now s) (under (now env) h) 0 st × (h .form ≡ Record) ⌝ }
+    requires { ⌜ FieldsPre (now s) (under (now env) h) 0 st × Termed (h .form) ⌝ }
     ensures { λ r. ⌜ FieldsPost (fieldsS (now (s .entry)) (under (now (env .entry)) h) 0) (now (s .entry)) st (now (s .exit)) r ⌝ }
 {
     let mut r = st;

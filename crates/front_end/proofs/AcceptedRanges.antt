@@ -8,7 +8,7 @@ use lib.Dec.{eqb}
 use lib.ListN.{length}
 use borrow.Author.Tests.{ltb-true}
 use Rattle.spec_calculus.specs.Lists.{upd}
-use Rattle.spec_calculus.specs.Syntax.{Monoid, of, sum, max, some, all, Bin, plus, minus, times, equal, less, and, or, Term, Terms, Quals, num, name, field, rec, bin, negate, comp, table, tnil, tcons, qnil, gen, bind, cond, Question, asTerm}
+use Rattle.spec_calculus.specs.Syntax.{Monoid, of, sum, max, some, all, Bin, plus, minus, times, equal, less, and, or, Fun, Term, Terms, Quals, num, name, field, rec, bin, negate, app, comp, table, tnil, tcons, qnil, gen, bind, cond, Question, asTerm}
 use Rattle.spec_calculus.specs.Syntax as Sy
 use Rattle.spec_calculus.specs.Value.{Tables, columnsOf}
 use Rattle.spec_calculus.proofs.WellFormed.{WellFormed, columns-at-most}
@@ -17,7 +17,7 @@ use Rattle.spec_encoding.specs.Data.{readData}
 use Rattle.spec_encoding.specs.Reader.{readQuestion}
 use Rattle.spec_encoding.proofs.Data.{read-well-formed}
 use Rattle.spec_checks.specs.Types.{Ty, Tys, number, truth, record′, coll, ynil, ycons, wrong, has, cells, typeAt, Context, generatorsFit}
-use Rattle.spec_checks.proofs.Judgement.{operand, result, Gathers, Has, HasL, HasQ, untyped, same-type, question-typed}
+use Rattle.spec_checks.proofs.Judgement.{operand, result, Takes, Gathers, Has, HasL, HasQ, untyped, same-type, question-typed}
 use Rattle.spec_normal_form.proofs.Ranges.{InRange, InRangeL, InRangeQ, Ranges}
 use Rattle.front_words.specs.LaidTree.{countL}
 use Rattle.front_end.proofs.QuestionLimits.{Literal, LiteralL, LiteralQ, question-given}
@@ -59,6 +59,13 @@ result-narrow less = tt
 result-narrow and = tt
 result-narrow or = tt
 
+takes-narrow : (f : Fun) (us : Tys) (τ : Ty) → Takes f us τ → Narrow τ
+unfolding Narrow
+takes-narrow Sy.choice us number h = tt
+takes-narrow Sy.choice us truth h = tt
+takes-narrow Sy.choice us (record′ ts) h = absurd (h .0)
+takes-narrow Sy.choice us (coll c τ) h = absurd (h .0)
+
 gathers-narrow : (m : Monoid) (σ τ : Ty) → Narrow σ → Gathers m σ τ → Narrow τ
 unfolding Narrow
 gathers-narrow (of c) σ τ a g = subst Narrow (sym g) a
@@ -94,6 +101,7 @@ module _ {T : Tables} (W : WellFormed T) where
     narrow (rec ts) Γ τ l e h =
         let a = narrowL ts Γ (h .0) (l .1) e (h .1) in
         (subst Narrow (sym (h .2)) (omega (arith, a .0, l .0), a .1), a .2)
+    narrow (app f ts) Γ τ l e h = (takes-narrow f (h .0) τ (h .2), (l .0, narrowL ts Γ (h .0) (l .1) e (h .1) .2))
     narrow (bin o s t) Γ τ l e h =
         (subst Narrow (sym (h .2)) (result-narrow o), (narrow s Γ (operand o) (l .0) e (h .0) .1, narrow t Γ (operand o) (l .1) e (h .1) .1))
     narrow (negate t) Γ τ l e h = (subst Narrow (sym (h .1)) tt, narrow t Γ truth l e (h .0) .1)

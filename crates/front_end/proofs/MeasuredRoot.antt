@@ -14,7 +14,7 @@ use Rattle.spec_encoding.specs.Record.{Bytes}
 use Rattle.spec_normal_form.specs.Form.{NormalForm, asForm}
 use Rattle.spec_normal_form.specs.Normal.{quote, normal}
 use Rattle.spec_normal_form.specs.Size.{nodes, nodesC, sizeFits}
-use Rattle.front_theory.specs.NodeTable.{Node, nnum, ntruth, nname, nfield, nrec, nbin, nnegate, ncomp, ntable, ngen, nbind, ncond, nbad}
+use Rattle.front_theory.specs.NodeTable.{Node, nnum, ntruth, nname, nfield, nrec, nbin, nnegate, napp, ncomp, ntable, ngen, nbind, ncond, nbad}
 use Rattle.front_theory.specs.NodeForms.{Env, At, outside, qualOf, sem}
 use Rattle.front_sizes.specs.declared.FormSize.{FormSize}
 use Rattle.front_sizes.specs.SizeWords.{place, termCount}
@@ -44,6 +44,7 @@ no-qualifier A D e v j (ntruth b) p = refl
 no-qualifier A D e v j (nname x d) p = refl
 no-qualifier A D e v j (nfield k c) p = refl
 no-qualifier A D e v j (nrec cs) p = refl
+no-qualifier A D e v j (napp f cs) p = refl
 no-qualifier A D e v j (nbin o a b) p = refl
 no-qualifier A D e v j (nnegate c) p = refl
 no-qualifier A D e v j (ncomp m cs h) p = refl

@@ -1,18 +1,19 @@
 -- What every question that is read has: at most 32 comprehensions inside one another, names below 256, constants within 32
--- bits signed, and records of at most 8 terms.
+-- bits signed, records of at most 8 terms, and operators of as many as they take.
 use mathlib.Core.Path.{_≡_}
 use Prim.Native.Nat.{ℕ, _^_, _≤_, _<_}
 use native.Mathlib.Omega.{arith}
 use lib.Signed.{mag}
-use Rattle.spec_calculus.specs.Syntax.{Term, Terms, Quals, Question, asTerm, num, truth, name, field, rec, bin, negate, comp, table, tnil, tcons, qnil, gen, bind, cond}
+use Rattle.spec_calculus.specs.Syntax.{arity, Term, Terms, Quals, num, truth, name, field, rec, bin, negate, app, comp, table, tnil, tcons, qnil, gen, bind, cond, Question, asTerm}
 use Rattle.spec_encoding.specs.Record.{Bytes, got}
 use Rattle.spec_encoding.specs.Reader.{readQuestion}
 use Rattle.spec_encoding.proofs.QuestionLimits.{Keeps, question-kept}
+use Rattle.spec_normal_form.proofs.Ranges.{ExactlyL}
 use Rattle.front_words.specs.LaidTree.{countL}
 use Rattle.front_nodes.specs.QuestionTree.{nesting, nestingL, nestingQ}
 use Rattle.front_scope.specs.ScopePass.{Small, SmallL, SmallQ}
 
--- constants are "signed, four bytes each"; "record (1 to 8 terms)"
+-- constants are "signed, four bytes each"; "record (1 to 8 terms)"; an operator has as many terms as it takes
 abbrev mutual
   pub Literal : Term → Type 0
   Literal (num z) = mag z < 2 ^ 31
@@ -20,6 +21,7 @@ abbrev mutual
   Literal (name x) = Unit {0}
   Literal (field i t) = Literal t
   Literal (rec ts) = (countL ts ≤ 8) × LiteralL ts
+  Literal (app f ts) = ExactlyL (arity f) ts × LiteralL ts
   Literal (bin o t u) = Literal t × Literal u
   Literal (negate t) = Literal t
   Literal (comp m qs h) = LiteralQ qs × Literal h
@@ -45,7 +47,7 @@ abbrev GivenQ : ℕ → Quals → Type 0
 GivenQ d qs = (nestingQ qs ≤ d) × SmallQ qs × LiteralQ qs
 
 reader-keeps : Keeps Given GivenL GivenQ
-unfolding nesting countL
+unfolding nesting countL arity
 reader-keeps = record {
   number = λ d z m. (omega arith, tt, m);
   truth = λ d b. (omega arith, tt, tt);
@@ -54,6 +56,7 @@ reader-keeps = record {
   record′ = λ d t ts p q. (omega (arith, p .0, q .0), (p .1, q .1), (omega (arith, q .3), (p .2, q .2)));
   binary = λ d o t u p q. (omega (arith, p .0, q .0), (p .1, q .1), (p .2, q .2));
   negation = λ d t p. (omega (arith, p .0), p .1, p .2);
+  choice = λ d t u v p q r. (omega (arith, p .0, q .0, r .0), (p .1, (q .1, (r .1, tt))), (tt, (p .2, (q .2, (r .2, tt)))));
   comprehension = λ d m qs h p q. (omega (arith, p .0, q .0), (p .1, q .1), (p .2, q .2));
   table = λ d k. (omega arith, tt, tt);
   deeper = λ d t p. (omega (arith, p .0), p .1, p .2);

@@ -8,7 +8,7 @@ use lib.Dec.{eqb, ltb}
 use lib.ListN.{getD}
 use Rattle.spec_calculus.specs.Lists.{pick}
 use Rattle.spec_calculus.specs.Syntax.{Collection}
-use Rattle.front_theory.specs.NodeTable.{Node, Nodes, nnum, ntruth, nname, nfield, nrec, nbin, nnegate, ncomp, ntable, ngen, nbind, ncond, nbad, Inside}
+use Rattle.front_theory.specs.NodeTable.{Node, Nodes, nnum, ntruth, nname, nfield, nrec, nbin, nnegate, napp, ncomp, ntable, ngen, nbind, ncond, nbad, Inside}
 use Rattle.base_scratch.specs.Map.{nodesAt, bindersAt, sizesAt}
 use Rattle.front_words.specs.NodeTree.{startAt}
 use Rattle.front_sizes.specs.declared.FormSize.{FormSize}
@@ -66,6 +66,7 @@ module _ (s r : List ℕ) (front : (j : ℕ) → j < sizesAt → getD r j 0 ≡ 
   aligned-same i (nname x d) l p a = a
   aligned-same i (nfield k c) l p a = term-same c a
   aligned-same i (nrec cs) l p a = terms-same cs a
+  aligned-same i (napp f cs) l p a = terms-same cs a
   aligned-same i (nbin o b c) l p a = (term-same b (a .0), term-same c (a .1))
   aligned-same i (nnegate c) l p a = term-same c a
   aligned-same i (ncomp m cs h) l p a = (a .0 ∙ sym (row-same h (omega (arith, l, p .1))), term-same h (a .1))

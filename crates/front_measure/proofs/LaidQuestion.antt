@@ -7,7 +7,7 @@ use native.Mathlib.Omega.{arith}
 use lib.Dec.{leb, ltb}
 use borrow.Author.Tests.{ltb-true, ltb-false, lt-ltb, eq-eqb, ne-eqb}
 use Rattle.spec_calculus.specs.Lists.{pick}
-use Rattle.spec_calculus.specs.Syntax.{Term, Terms, Quals, num, truth, name, field, rec, bin, negate, comp, table, tnil, tcons, qnil, gen, bind, cond}
+use Rattle.spec_calculus.specs.Syntax.{choice, Term, Terms, Quals, num, truth, name, field, rec, bin, negate, app, comp, table, tnil, tcons, qnil, gen, bind, cond}
 use Rattle.base_signed.proofs.SignedWords.{by-test}
 use Rattle.spec_encoding.specs.Reader.{Kind, comprehension}
 use Rattle.front_words.specs.NodeTree.{monoidAt, argAt, startAt}
@@ -51,6 +51,7 @@ last (truth b) s d a L m j e = last-by (L .0) j (omega arith) (omega arith) refl
 last (name x) s d a L m j e = last-by (L .0) j (omega arith) (omega arith) (qualifies-name s j (binderWord s (argAt s j)))
 last (field i t) s d a L m j e = last-by (L .1) j (omega arith) (omega arith) (qualifies-above j (No.nfield (argAt s j) (j - 1)) refl)
 last (rec ts) s d a L m j e = last-by (L .1) j (omega arith) (omega arith) refl
+last (app choice ts) s d a L m j e = last-by (L .1) j (omega arith) (omega arith) refl
 last (bin o t u) s d a L m j e = last-by (L .2) j (omega arith) (omega arith) (qualifies-above j (No.nbin o (startAt s (j - 1) - 1) (j - 1)) refl)
 last (negate t) s d a L m j e = last-by (L .1) j (omega arith) (omega arith) (qualifies-above j (No.nnegate (j - 1)) refl)
 last (comp n qs h) s d a L m j e = last-by (L .2) j (omega arith) (omega arith) (qualifies-above j (No.ncomp (monoidAt (argAt s j)) (qualifiersOf s j) (j - 1)) refl)
@@ -177,6 +178,9 @@ mutual
       upto s j (a + nodes t) (omega arith) (λ l. aligned t s d a (L .0) (omega arith) B j p l)
       (λ e. aligned-by (L .1) j e (omega arith) (aligned-above s j (No.nfield (argAt s j) (j - 1)) (last-at t s d a j (L .0) (omega arith) e .kind)))
   aligned (rec ts) s d a L m B j p q =
+      upto s j (a + nodesL ts) (omega arith) (λ l. alignedL ts s d a (L .0) (omega arith) B j p l)
+      (λ e. aligned-by (L .1) j e (omega arith) (subst (TermsAt s) (sym (ap (childrenOf s) (sym e) ∙ children-are ts s d a (L .0) (L .2))) (terms-at ts s d a (L .0) (omega arith))))
+  aligned (app choice ts) s d a L m B j p q =
       upto s j (a + nodesL ts) (omega arith) (λ l. alignedL ts s d a (L .0) (omega arith) B j p l)
       (λ e. aligned-by (L .1) j e (omega arith) (subst (TermsAt s) (sym (ap (childrenOf s) (sym e) ∙ children-are ts s d a (L .0) (L .2))) (terms-at ts s d a (L .0) (omega arith))))
   aligned (bin o t u) s d a L m B j p q =

@@ -9,12 +9,12 @@ use lib.Dec.{ltb, leb}
 use lib.ListN.{length}
 use borrow.Author.Tests.{ltb-true, lt-ltb}
 use Rattle.spec_calculus.specs.Lists.{pick, upd}
-use Rattle.spec_calculus.specs.Syntax.{Collection, Term, Terms, Quals, num, truth, name, field, rec, bin, negate, comp, table, tnil, tcons, qnil, gen, bind, cond, Question, asTerm}
+use Rattle.spec_calculus.specs.Syntax.{Collection, Term, Terms, Quals, num, truth, name, field, rec, bin, negate, app, comp, table, tnil, tcons, qnil, gen, bind, cond, Question, asTerm}
 use Rattle.spec_checks.specs.Scope.{namesHold}
 use Rattle.spec_normal_form.specs.Form.{asForm}
 use Rattle.spec_normal_form.specs.Normal.{quote, normal}
 use Rattle.spec_normal_form.specs.Size.{nodes, sizeFits}
-use Rattle.front_theory.specs.NodeTable.{Node, Nodes, nnum, ntruth, nname, nfield, nrec, nbin, nnegate, ncomp, ntable, ngen, nbind, ncond, nbad, Below, Inside, PostOrder, qualifiers}
+use Rattle.front_theory.specs.NodeTable.{Node, Nodes, nnum, ntruth, nname, nfield, nrec, nbin, nnegate, napp, ncomp, ntable, ngen, nbind, ncond, nbad, Below, Inside, PostOrder, qualifiers}
 use Rattle.front_theory.specs.NodeForms.{Env, Offsets, qualOf, sem}
 use Rattle.front_theory.specs.QuestionNodes.{Slots, slot, noNames, firstOf, restOf, behind, Holds, HoldsL, HoldsQ, Placed}
 use Rattle.front_theory.specs.CappedOffsets.{left, saturated}
@@ -60,6 +60,7 @@ module _ (n : ℕ) (N : Nodes) where
       holds-cut (name x) i D S l H = (H .0, sym (cut-same i l) ∙ H .1, H .2)
       holds-cut (field k t) i D S l H = (H .0, sym (cut-same i l) ∙ H .1, holds-cut t (H .0) D S (omega (arith, l, inside i (nfield k (H .0)) (H .1))) (H .2))
       holds-cut (rec ts) i D S l H = (H .0, sym (cut-same i l) ∙ H .1, holdsL-cut ts (H .0) D S i l (inside i (nrec (H .0)) (H .1)) (H .2))
+      holds-cut (app f ts) i D S l H = (H .0, sym (cut-same i l) ∙ H .1, holdsL-cut ts (H .0) D S i l (inside i (napp f (H .0)) (H .1)) (H .2))
       holds-cut (bin o s t) i D S l H =
           let b = inside i (nbin o (H .0) (H .1)) (H .2) in
           (H .0, H .1, sym (cut-same i l) ∙ H .2, holds-cut s (H .0) D S (omega (arith, l, b .0)) (H .3), holds-cut t (H .1) D S (omega (arith, l, b .1)) (H .4))
@@ -145,6 +146,7 @@ quals-below i (ntruth b) p = tt
 quals-below i (nname x d) p = tt
 quals-below i (nfield k c) p = tt
 quals-below i (nrec cs) p = tt
+quals-below i (napp f cs) p = tt
 quals-below i (nbin o a b) p = tt
 quals-below i (nnegate c) p = tt
 quals-below i (ncomp m cs h) p = p .0
@@ -178,6 +180,7 @@ module _ (r : List ℕ) (n : ℕ) (A : Arranged r n) (kept : (K : ℕ → Collec
   offsets-of i l (nname x d) p a = tt
   offsets-of i l (nfield k c) p a = tt
   offsets-of i l (nrec cs) p a = tt
+  offsets-of i l (napp f cs) p a = tt
   offsets-of i l (nbin o b c) p a = tt
   offsets-of i l (nnegate c) p a = tt
   offsets-of i l (ncomp m cs h) p a =

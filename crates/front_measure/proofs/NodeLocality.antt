@@ -9,8 +9,8 @@ use Rattle.spec_calculus.specs.Lists.{pick}
 use Rattle.spec_calculus.specs.Syntax.{Collection}
 use Rattle.spec_normal_form.specs.Form.{_⊕_, gensC}
 use Rattle.spec_normal_form.specs.Form as Nf
-use Rattle.spec_normal_form.specs.Normal.{Sem, Sems, fields, nested, plain, scons, nothing, quote, idempotent, condition, ranges, part, binary}
-use Rattle.front_theory.specs.NodeTable.{Node, Nodes, nnum, ntruth, nname, nfield, nrec, nbin, nnegate, ncomp, ntable, ngen, nbind, ncond, nbad, Below, Inside, PostOrder}
+use Rattle.spec_normal_form.specs.Normal.{Sem, Sems, fields, nested, plain, scons, nothing, quote, idempotent, condition, ranges, part, binary, applied}
+use Rattle.front_theory.specs.NodeTable.{Node, Nodes, nnum, ntruth, nname, nfield, nrec, nbin, nnegate, napp, ncomp, ntable, ngen, nbind, ncond, nbad, Below, Inside, PostOrder}
 use Rattle.front_theory.specs.NodeForms.{Env, enter, outside, Offsets, At, boundOf, qualOf, clausesOf, semsOf, levels, semOf, semAt, sem}
 use Rattle.front_measure.specs.Measure.{clausesCount, unplaced, qualifierOf}
 
@@ -27,6 +27,7 @@ module _ (A B : At) where
   bound-agree off x d e (nname y k) p h = refl
   bound-agree off x d e (nfield i c) p h = refl
   bound-agree off x d e (nrec cs) p h = refl
+  bound-agree off x d e (napp f cs) p h = refl
   bound-agree off x d e (nbin o a b) p h = refl
   bound-agree off x d e (nnegate c) p h = refl
   bound-agree off x d e (ncomp m cs k) p h = refl
@@ -43,6 +44,7 @@ module _ (A B : At) where
   qual-agree x D e v n (nname y k) p h = refl
   qual-agree x D e v n (nfield i c) p h = refl
   qual-agree x D e v n (nrec cs) p h = refl
+  qual-agree x D e v n (napp f cs) p h = refl
   qual-agree x D e v n (nbin o a b) p h = refl
   qual-agree x D e v n (nnegate c) p h = refl
   qual-agree x D e v n (ncomp m cs k) p h = refl
@@ -71,6 +73,7 @@ module _ (K : ℕ → Collection) (N M : Nodes) (P : PostOrder N) (l : ℕ) (sam
         ap (λ u. pick (ltb d D) u nothing) (bound-agree A B off x d e (N x) (P x) (λ j k. h j (omega (arith, p, k))) ∙ ap (boundOf off B x d e) (same x (omega (arith, p))))
     sem-agree (nfield k c) p D e = ap (λ (a : ℕ → Env → Sem). part k (a D e)) (h c p)
     sem-agree (nrec cs) p D e = ap fields (sems-agree A B i h cs p D e)
+    sem-agree (napp f cs) p D e = ap (applied f) (sems-agree A B i h cs p D e)
     sem-agree (nbin o a b) p D e = ap₂ (λ (x y : ℕ → Env → Sem). binary o (x D e) (y D e)) (h a (p .0)) (h b (p .1))
     sem-agree (nnegate c) p D e = ap (λ (a : ℕ → Env → Sem). plain (λ n. Nf.negate (quote (a D e) n))) (h c p)
     sem-agree (ncomp m cs k) p D e =

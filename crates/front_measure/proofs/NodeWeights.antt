@@ -8,14 +8,14 @@ use lib.Dec.{ltb, ltb→lt, lt→ltb}
 use lib.Dec as De
 use lib.IntN.{ℤ, pos}
 use Rattle.spec_calculus.specs.Lists.{pick}
-use Rattle.spec_calculus.specs.Syntax.{Collection, Monoid, Bin, plus, minus, times, equal, less, and, or}
+use Rattle.spec_calculus.specs.Syntax.{Collection, Monoid, Bin, plus, minus, times, equal, less, and, or, Fun}
 use Rattle.spec_normal_form.specs.Form.{Form, gens, gensF, gensC}
 use Rattle.spec_normal_form.specs.Form as Nf
 use Rattle.spec_normal_form.specs.Normal.{Sem, row, fields, both, plain, nothing, quote, quotes, idempotent, givesWay, one, condition, ranges, binary}
 use Rattle.spec_normal_form.specs.Size.{nodes, nodesF, nodesC}
 use Rattle.spec_normal_form.proofs.WriteOut.{condition-cases}
 use Rattle.spec_normal_form.proofs.FixedPoint.{quote-binary}
-use Rattle.front_theory.specs.NodeTable.{Node, Nodes, nnum, ntruth, nrec, nbin, nnegate, ncomp, ntable, ngen, nbind, ncond, nbad, PostOrder}
+use Rattle.front_theory.specs.NodeTable.{Node, Nodes, nnum, ntruth, nrec, nbin, nnegate, napp, ncomp, ntable, ngen, nbind, ncond, nbad, PostOrder}
 use Rattle.front_theory.specs.NodeForms.{Env, enter, outside, Offsets, At, qualOf, clausesOf, semsOf, compOf, levels, semOf, sem}
 use Rattle.front_theory.proofs.Locality.{sem-is}
 use Rattle.front_sizes.specs.declared.FormSize.{FormSize}
@@ -211,6 +211,13 @@ module _ (K : ℕ → Collection) (N : Nodes) (P : PostOrder N) where
         let f = quotes (semsOf before cs D outside) 0 in
         let q : count (1 + nodesF f) (gensF f) ≡ above (beside none (count (nodesF f) (gensF f))) = same-count (omega arith) (omega arith) in
         at-node (nrec cs) p (scalar (fields (semsOf before cs D outside)) _ (q ∙ ap above (terms-count D cs 0 none (capped 0 0))) (λ v. refl) (λ v. refl))
+
+    pub writes-app : {f : Fun} {cs : List ℕ} → N i ≡ napp f cs → let t = above (total (termOf K N D) none cs) in Writes K N D i t (λ v. above t) (λ v. never)
+    unfolding nodes gens
+    writes-app {f} {cs} p =
+        let w = quotes (semsOf before cs D outside) 0 in
+        let q : count (1 + nodesF w) (gensF w) ≡ above (beside none (count (nodesF w) (gensF w))) = same-count (omega arith) (omega arith) in
+        at-node (napp f cs) p (plain-weighs (λ n. Nf.app f (quotes (semsOf before cs D outside) n)) _ (q ∙ ap above (terms-count D cs 0 none (capped 0 0))))
 
     pub writes-comp : {m : Monoid} {cs : List ℕ} {h : ℕ} → N i ≡ ncomp m cs h → D < levels → let t = above (beside (allOf K N (suc D) cs (idempotent m)) (termOf K N (suc D) h)) in
         Writes K N D i t (λ v. pick (givesWay m v) (beside (allOf K N (suc D) cs (v || idempotent m)) (conditionOf K N (suc D) h v)) (above t)) (λ v. allOf K N (suc D) cs (v || idempotent m))

@@ -21,7 +21,7 @@ use Rattle.front_sizes.specs.SizeWords.{place, pack, termCount, conditionCount}
 use Rattle.front_nodes.proofs.QueryNode as node
 use Rattle.front_nodes.proofs.PostOrder.{by-pick}
 use Rattle.front_nodes.specs.declared.QueryNode.{QueryNode}
-use Rattle.front_nodes.specs.declared.QueryNode.the-variants.{Number, Truth, Name, Field, Record, Two, Not, Comp, Table, Gen, Bind, Cond, Bad}
+use Rattle.front_nodes.specs.declared.QueryNode.the-variants.{Number, Truth, Name, Field, Record, Two, Not, Comp, Table, Gen, Bind, Cond, Operator, Bad}
 use Rattle.front_nodes.specs.declared.Found.the-variants.{At, Nothing}
 use Rattle.front_nodes.specs.NodeTable.{depthAt, siblings, childrenOf, nodesOf}
 use Rattle.front_nodes.specs.Look.{nodeNamed, LookPost, nth, ChildPost}
@@ -84,7 +84,7 @@ module _ {s : List ℕ} {i : ℕ} where
 
 -- the variants of a node that are no qualifier
 abbrev pub terms : List ℕ
-terms = 0 ∷ 1 ∷ 2 ∷ 3 ∷ 4 ∷ 5 ∷ 6 ∷ 7 ∷ 8 ∷ 12 ∷ []
+terms = 0 ∷ 1 ∷ 2 ∷ 3 ∷ 4 ∷ 5 ∷ 6 ∷ 7 ∷ 8 ∷ 12 ∷ 13 ∷ []
 
 no-qualifier : (s : List ℕ) (i : ℕ) (n : QueryNode) → OneOf terms (tagOf node.the-type n) → qualifies (nodeNamed s i n) ≡ false
 no-qualifier s i (Number z) h = refl
@@ -99,6 +99,7 @@ no-qualifier s i (Table k) h = refl
 no-qualifier s i (Gen c) h = absurd (miss terms 9 tt h)
 no-qualifier s i (Bind c) h = absurd (miss terms 10 tt h)
 no-qualifier s i (Cond c) h = absurd (miss terms 11 tt h)
+no-qualifier s i (Operator f) h = refl
 no-qualifier s i Bad h = refl
 
 pub is-term : {s : List ℕ} {i : ℕ} {n : QueryNode} → LookPost s i n → OneOf terms (tagOf node.the-type n) → false ≡ qualifies (nodesOf s i)

@@ -22,7 +22,7 @@ use Rattle.front_sizes.specs.declared.FormSize.{FormSize}
 use Rattle.front_sizes.specs.SizeWords.{Small, termCount, conditionCount, splicedCount}
 use Rattle.base_syntax.specs.declared.Op.{Op}
 use Rattle.front_nodes.specs.declared.QueryNode.{QueryNode}
-use Rattle.front_nodes.specs.declared.QueryNode.the-variants.{Number, Truth, Name, Field, Record, Two, Not, Comp, Table, Gen, Bind, Cond, Bad}
+use Rattle.front_nodes.specs.declared.QueryNode.the-variants.{Number, Truth, Name, Field, Record, Two, Not, Comp, Table, Gen, Bind, Cond, Operator, Bad}
 use Rattle.front_nodes.specs.NodeTable.{depthAt, childrenOf, qualifiersOf, nodesOf}
 use Rattle.front_nodes.specs.Levels.{AllAt, Level}
 use Rattle.front_nodes.specs.Look.{nodeNamed, LookPost}
@@ -38,8 +38,9 @@ use Rattle.front_measure.specs.MeasurableNodes.{qualifies, ends, rowUpto
 use Rattle.front_measure.specs.KeptSizes.{Writes, Adds, Kept}
 use Rattle.front_measure.specs.PartContracts.{ways, way, Right, SmallWays, SmallWeight, noWays, bothWays, conditionWays, spliceWays, scalarWeight, joins, twoTerm, twoWeight, tableWeight, rowWays, compTerm, compWeight, compAt, qualifierWeight, keptWeight, formWeight, FollowedPost, WeighPost}
 use Rattle.front_measure.proofs.AnyEnvironment.{total-append}
-use Rattle.front_measure.proofs.NodeWeights.{writes-node, writes-row, writes-cell, writes-nothing, writes-number, writes-truth, writes-bad, writes-negate, writes-two, writes-record, writes-comp, writes-deep, writes-table, generator-writes, condition-writes, binding-writes}
-use Rattle.base_syntax.specs.Numbers.{binOf}
+use Rattle.front_measure.proofs.NodeWeights.{writes-node, writes-row, writes-cell, writes-nothing, writes-number, writes-truth, writes-bad, writes-negate, writes-two, writes-record, writes-app, writes-comp, writes-deep, writes-table, generator-writes, condition-writes, binding-writes}
+use Rattle.base_syntax.specs.declared.Fun.{Fun}
+use Rattle.base_syntax.specs.Numbers.{binOf, funOf}
 
 -- ---- flags
 by-flag : (P : Bool → Type 0) → P true → P false → (v : Bool) → P v
@@ -194,6 +195,15 @@ module _ {s : List ℕ} {i : ℕ} where
       scalar-weighs (count-small (1 + z .size) (z .gens)) (ap qualifies k)
       (λ n l A K B. let u = ap above (children B (depthAt s i) none (childrenOf s i) (inside k l A) (aligned k l A) (level k l A)) in
       recast (writes-record K (nodesOf s) (post-order s) k) u (λ v. ap above u) (λ v. refl))
+      (r ∙ ap scalarWeight (q ∙ ap above p))
+
+  pub weigh-app : {n : QueryNode} {f : Fun} {x t : FormSize} {w : Weight} → LookPost s i n → n ≡ Operator f → x ≡ total (termCount s) none (childrenOf s i) → t ≡ above x → w ≡ scalarWeight t → WeighPost s i w
+  weigh-app {x = x} {t = t} H e p q r =
+      let k = named H e in
+      let z = total (termCount s) none (childrenOf s i) in
+      scalar-weighs (count-small (1 + z .size) (z .gens)) (ap qualifies k)
+      (λ n l A K B. let u = ap above (children B (depthAt s i) none (childrenOf s i) (inside k l A) (aligned k l A) (level k l A)) in
+      recast (writes-app K (nodesOf s) (post-order s) k) u (λ v. ap above u) (λ v. refl))
       (r ∙ ap scalarWeight (q ∙ ap above p))
 
   pub weigh-two : {n : QueryNode} {o : Op} {a b : ℕ} {w : Weight} → LookPost s i n → n ≡ Two o a b → w ≡ twoWeight s (binOf o) a b → WeighPost s i w
@@ -393,6 +403,7 @@ follows (No.ntruth b) = false
 follows (No.nname x d) = true
 follows (No.nfield k c) = true
 follows (No.nrec cs) = false
+follows (No.napp f cs) = false
 follows (No.nbin o a b) = false
 follows (No.nnegate c) = false
 follows (No.ncomp m cs h) = false
@@ -425,6 +436,7 @@ module _ {s : List ℕ} {i : ℕ} (F : follows (nodesOf s i) ≡ true) (T : Term
   by-form j B l g (Fo.Row x) H e = scalar-weighs (count-small 1 0) T (λ n k A K G. writes-row K (nodesOf s) (post-order s) (offsets s) (envOf l) (sym (H .is K))) e
   by-form j B l g (Fo.Cell c x) H e = scalar-weighs (count-small 2 0) T (λ n k A K G. writes-cell K (nodesOf s) (post-order s) (offsets s) (envOf l) (sym (H .is K))) e
   by-form j B l g Fo.Record H e = kept-weighs l (No.nrec (childrenOf s j)) (H .from .fine .form) refl refl (H .is) (H .from) e
+  by-form j B l g (Fo.Operator f) H e = kept-weighs l (No.napp (funOf f) (childrenOf s j)) (H .from .fine .form) refl refl (H .is) (H .from) e
   by-form j B l g (Fo.Two o a b) H e = kept-weighs l (No.nbin (binOf o) a b) (H .from .fine .form) refl refl (H .is) (H .from) e
   by-form j B l g (Fo.Not c) H e = kept-weighs l (No.nnegate c) (H .from .fine .form) refl refl (H .is) (H .from) e
   by-form j B l g (Fo.Comp m h) H e =

@@ -5,7 +5,7 @@ use mathlib.Core.Bool.{Bool, true, false, _&&_}
 use Prim.Native.Nat.{ℕ, zero, suc, _-_, _<_}
 use lib.Dec.{eqb, ltb}
 use Rattle.spec_calculus.specs.Lists.{pick}
-use Rattle.front_theory.specs.NodeTable.{Node, nnum, ntruth, nname, nfield, nrec, nbin, nnegate, ncomp, ntable, ngen, nbind, ncond, nbad}
+use Rattle.front_theory.specs.NodeTable.{Node, nnum, ntruth, nname, nfield, nrec, nbin, nnegate, napp, ncomp, ntable, ngen, nbind, ncond, nbad}
 use Rattle.front_words.specs.NodeTree.{startAt}
 use Rattle.front_nodes.specs.NodeTable.{depthAt, nodesOf}
 use Rattle.front_nodes.specs.Levels.{Levelled}
@@ -16,6 +16,7 @@ qualifies (ntruth b) = false
 qualifies (nname x d) = false
 qualifies (nfield k c) = false
 qualifies (nrec cs) = false
+qualifies (napp f cs) = false
 qualifies (nbin o a b) = false
 qualifies (nnegate c) = false
 qualifies (ncomp m cs h) = false
@@ -56,6 +57,7 @@ Aligned s (ntruth b) = Unit {0}
 Aligned s (nname x d) = Unit {0}
 Aligned s (nfield k c) = TermAt s c
 Aligned s (nrec cs) = TermsAt s cs
+Aligned s (napp f cs) = TermsAt s cs
 Aligned s (nbin o a b) = TermAt s a × TermAt s b
 Aligned s (nnegate c) = TermAt s c
 Aligned s (ncomp m cs h) = (cs ≡ row s (depthAt s h) (startAt s h)) × TermAt s h

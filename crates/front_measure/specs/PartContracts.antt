@@ -14,7 +14,7 @@ use Rattle.front_sizes.specs.declared.FormSize.{FormSize}
 use Rattle.front_sizes.specs.SizeWords.{place, pack, Small, termCount, conditionCount, splicedCount}
 use Rattle.front_nodes.specs.NodeTable.{depthAt}
 use Rattle.front_resolve.specs.declared.Form.{Form}
-use Rattle.front_resolve.specs.declared.Form.the-variants.{Number, Truth, Row, Cell, Record, Two, Not, Comp, Table, Bad}
+use Rattle.front_resolve.specs.declared.Form.the-variants.{Number, Truth, Row, Cell, Record, Two, Not, Comp, Table, Operator, Bad}
 use Rattle.front_resolve.specs.Place.{Place, Heads}
 use Rattle.front_measure.specs.declared.Ways.{Ways}
 use Rattle.front_measure.specs.declared.Weight.{Weight}
@@ -121,6 +121,7 @@ formWeight s j (Two o a b) = keptWeight s j
 formWeight s j (Not c) = keptWeight s j
 formWeight s j (Comp m h) = keptWeight s j
 formWeight s j (Table k) = keptWeight s j
+formWeight s j (Operator f) = keptWeight s j
 formWeight s j Bad = scalarWeight leaf
 
 -- a name or a field has what the place that it comes to has

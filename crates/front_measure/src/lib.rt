@@ -164,7 +164,7 @@ fn two(s: &[u64], o: Op, a: usize, b: usize) -> Weight
     scalar(t)
 }
 
-// The terms of the record at node i together.
+// The terms of the record or operator at node i together.
 fn terms(s: &[u64], i: usize) -> FormSize
     ensures { λ r. ⌜ r ≡ total (termCount (now (s .entry))) none (childrenOf (now (s .entry)) i) ⌝ }
 {
@@ -329,6 +329,7 @@ fn form(s: &[u64], j: usize, f: Form) -> Weight
         Form::Not(c) => copy(s, j),
         Form::Comp(m, h) => copy(s, j),
         Form::Table(k) => copy(s, j),
+        Form::Operator(o) => copy(s, j),
         Form::Bad => scalar(FormSize { size: 1, gens: 0 }),
     }
 }
@@ -360,6 +361,7 @@ fn weigh(s: &[u64], i: usize) -> Weight
         QueryNode::Gen(c) => qualifier(s, i, splices(s, c)),
         QueryNode::Bind(c) => qualifier(s, i, nothing()),
         QueryNode::Cond(c) => qualifier(s, i, conditions(s, c)),
+        QueryNode::Operator(f) => scalar(raise(terms(s, i))),
         QueryNode::Bad => scalar(FormSize { size: 1, gens: 0 }),
     }
 }

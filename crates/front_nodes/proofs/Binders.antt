@@ -4,8 +4,8 @@ use mathlib.Core.Path.{_≡_, sym, ap, subst, _∙_}
 use mathlib.Core.List.{List}
 use Prim.Native.Nat.{ℕ, _+_, _<_, _≤_}
 use native.Mathlib.Omega.{arith}
-use Rattle.spec_calculus.specs.Syntax.{Term, Terms, Quals, num, truth, name, field, rec, bin, negate, comp, table, tnil, tcons, qnil, gen, bind, cond, Question, asTerm}
-use Rattle.spec_encoding.specs.Reader.{Kind, unknown, number, truthK, nameK, fieldK, record′, not, tableK, comprehension, generator, binding, condition, two-terms}
+use Rattle.spec_calculus.specs.Syntax.{Term, Terms, Quals, num, truth, name, field, rec, bin, negate, app, comp, table, tnil, tcons, qnil, gen, bind, cond, Question, asTerm}
+use Rattle.spec_encoding.specs.Reader.{Kind, unknown, number, truthK, nameK, fieldK, record′, not, tableK, comprehension, generator, binding, condition, choiceK, two-terms}
 use lib.ListN.{getD}
 use Rattle.base_scratch.specs.Map.{bindersAt}
 use Rattle.front_words.specs.NodeTree.{kindAt, argAt}
@@ -22,6 +22,7 @@ Binding truthK = ⊥
 Binding nameK = ⊥
 Binding fieldK = ⊥
 Binding record′ = ⊥
+Binding choiceK = ⊥
 Binding (two-terms o) = ⊥
 Binding not = ⊥
 Binding comprehension = ⊥
@@ -48,6 +49,7 @@ module _ (s : List ℕ) (n : ℕ) (E : EachBound s n) where
     bound (name x) d a L h = tt
     bound (field i t) d a L h = bound t d a (L .0) (omega arith)
     bound (rec ts) d a L h = boundL ts d a (L .0) (omega arith)
+    bound (app f ts) d a L h = boundL ts d a (L .0) (omega arith)
     bound (bin o t u) d a L h = (bound t d a (L .0) (omega arith), bound u d (a + nodes t) (L .1) (omega arith))
     bound (negate t) d a L h = bound t d a (L .0) (omega arith)
     bound (comp m qs t) d a L h = (boundQ qs (d + 1) a (L .0) (omega arith), bound t (d + 1) (a + nodesQ qs) (L .1) (omega arith))

@@ -6,7 +6,7 @@ use native.Mathlib.Omega.{arith}
 use lib.Dec.{ltb, leb}
 use borrow.Author.Tests.{ltb-true, ltb-false}
 use Rattle.spec_calculus.specs.Lists.{pick}
-use Rattle.spec_calculus.specs.Syntax.{Term, Terms, Quals, num, truth, name, field, rec, bin, negate, comp, table, tnil, tcons, qnil, gen, bind, cond}
+use Rattle.spec_calculus.specs.Syntax.{choice, Term, Terms, Quals, num, truth, name, field, rec, bin, negate, app, comp, table, tnil, tcons, qnil, gen, bind, cond}
 use Rattle.base_signed.proofs.SignedWords.{by-test}
 use Rattle.spec_encoding.specs.Reader.{Kind, comprehension}
 use Rattle.front_words.specs.NodeTree.{monoidAt, argAt, startAt}
@@ -30,6 +30,7 @@ laid-depth (truth b) s d a L = depth-at (L .0) _ (omega arith)
 laid-depth (name x) s d a L = depth-at (L .0) _ (omega arith)
 laid-depth (field i t) s d a L = depth-at (L .1) _ (omega arith)
 laid-depth (rec ts) s d a L = depth-at (L .1) _ (omega arith)
+laid-depth (app f ts) s d a L = depth-at (L .1) _ (omega arith)
 laid-depth (bin o t u) s d a L = depth-at (L .2) _ (omega arith)
 laid-depth (negate t) s d a L = depth-at (L .1) _ (omega arith)
 laid-depth (comp m qs h) s d a L = depth-at (L .2) _ (omega arith)
@@ -105,6 +106,9 @@ mutual
       upto s j (a + nodes t) (omega arith) (λ l. levels t s d a (L .0) (omega arith) j p l)
       (λ e. level-by (L .1) j e (omega arith) (level-above s d j (No.nfield (argAt s j) (j - 1)) (child-depth t s d a j (L .0) e)))
   levels (rec ts) s d a L m j p q =
+      upto s j (a + nodesL ts) (omega arith) (λ l. levelsL ts s d a (L .0) (omega arith) j p l)
+      (λ e. level-by (L .1) j e (omega arith) (subst (AllAt (depthAt s) d) (sym (ap (childrenOf s) (sym e) ∙ children-are ts s d a (L .0) (L .2))) (all-terms ts s d a (L .0))))
+  levels (app choice ts) s d a L m j p q =
       upto s j (a + nodesL ts) (omega arith) (λ l. levelsL ts s d a (L .0) (omega arith) j p l)
       (λ e. level-by (L .1) j e (omega arith) (subst (AllAt (depthAt s) d) (sym (ap (childrenOf s) (sym e) ∙ children-are ts s d a (L .0) (L .2))) (all-terms ts s d a (L .0))))
   levels (bin o t u) s d a L m j p q =

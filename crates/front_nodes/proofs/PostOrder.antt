@@ -7,7 +7,7 @@ use native.Mathlib.Omega.{arith}
 use lib.Dec.{leb, ltb}
 use borrow.Author.Tests.{ltb-true, leb-true, leb-false}
 use Rattle.spec_calculus.specs.Lists.{pick}
-use Rattle.spec_encoding.specs.Reader.{Kind, unknown, number, truthK, nameK, fieldK, record′, not, tableK, comprehension, generator, binding, condition, two-terms}
+use Rattle.spec_encoding.specs.Reader.{Kind, unknown, number, truthK, nameK, fieldK, record′, not, tableK, comprehension, generator, binding, condition, choiceK, two-terms}
 use Rattle.front_words.specs.NodeTree.{monoidAt, kindAt, argAt, startAt}
 use Rattle.front_theory.specs.NodeTable.{Node, nname, nfield, nbin, nnegate, ncomp, ngen, nbind, ncond, nbad, Below, Inside, PostOrder}
 use Rattle.front_nodes.specs.NodeTable.{most, depthAt, siblings, childrenOf, chainUpto, qualifiersOf, above, nameBy, nodeBy, nodesOf}
@@ -61,6 +61,7 @@ inside-kind s i truthK = tt
 inside-kind s i nameK = inside-name s i _
 inside-kind s i fieldK = inside-above i (nfield (argAt s i) (i - 1)) (λ p. omega arith)
 inside-kind s i record′ = below-children s i
+inside-kind s i choiceK = below-children s i
 inside-kind s i (two-terms o) = inside-above i (nbin o (startAt s (i - 1) - 1) (i - 1)) (λ p. (omega arith, omega arith))
 inside-kind s i not = inside-above i (nnegate (i - 1)) (λ p. omega arith)
 inside-kind s i comprehension =

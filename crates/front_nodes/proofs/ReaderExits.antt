@@ -26,13 +26,16 @@ use Rattle.base_syntax.specs.MonoidWord.{monoidOf}
 use Rattle.base_scratch.specs.Map.{bindersAt}
 use Rattle.front_words.specs.NodeWord.{kindOf, argOf, nodeWord}
 use Rattle.front_words.specs.NodeTree.{numberOf, monoidAt, kindAt, argAt, startAt}
+use Rattle.front_words.specs.LaidTree.{operator}
 use Rattle.front_theory.specs.NodeTable as No
 use Rattle.front_theory.specs.NodeTable.{Inside}
 use Rattle.base_syntax.specs.declared.Op.{Op}
-use Rattle.base_syntax.specs.Numbers.{binOf}
+use Rattle.base_syntax.specs.declared.Fun.{Fun}
+use Rattle.base_syntax.specs.declared.Fun.the-variants.{Choice}
+use Rattle.base_syntax.specs.Numbers.{binOf, funOf}
 use Rattle.front_nodes.specs.declared.Kind.{Kind}
 use Rattle.front_nodes.specs.declared.QueryNode.{QueryNode}
-use Rattle.front_nodes.specs.declared.QueryNode.the-variants.{Number, Truth, Name, Field, Record, Two, Not, Comp, Table, Gen, Bind, Cond, Bad}
+use Rattle.front_nodes.specs.declared.QueryNode.the-variants.{Number, Truth, Name, Field, Record, Two, Not, Comp, Table, Gen, Bind, Cond, Operator, Bad}
 use Rattle.front_nodes.specs.declared.Found.the-variants.{At, Nothing}
 use Rattle.front_nodes.specs.declared.Binder.the-variants as Bi
 use Rattle.front_nodes.specs.NodeTable.{most, depthAt, siblings, qualifiersOf, above, nameBy, nodeBy, nodesOf}
@@ -53,9 +56,9 @@ past-all : (b k n : ℕ) → b < k → Missed b k n → b + n < k
 past-all b k zero h m = omega arith
 past-all b k (suc n) h m = let q = past-all b k n h (m .0) in let r = m .1 in omega arith
 
-pub no-kind : (k : ℕ) → Missed 0 k 18 → unknown ≡ getD kinds k unknown
+pub no-kind : (k : ℕ) → Missed 0 k 19 → unknown ≡ getD kinds k unknown
 no-kind zero m = refl
-no-kind (suc k) m = let h : 19 ≤ suc k = omega (arith, past-all 0 (suc k) 18 (omega arith) m) in sym (List·getD-eq-default kinds unknown h)
+no-kind (suc k) m = let h : 20 ≤ suc k = omega (arith, past-all 0 (suc k) 19 (omega arith) m) in sym (List·getD-eq-default kinds unknown h)
 
 small-number : (a : ℕ) → a < 8589934592 → mag (numberOf a) < 2 ^ 33
 small-number a h = go (ltb a 0x80000000)
@@ -152,6 +155,9 @@ module _ {s : List ℕ} {i : ℕ} (l : i < most) where
 
   pub look-record : kindAt s i ≡ Re.record′ → LookPost s i Record
   look-record e = plainly Re.record′ Record e refl tt
+
+  pub look-operator : (f : Fun) → kindAt s i ≡ operator (funOf f) → LookPost s i (Operator f)
+  look-operator Choice e = plainly Re.choiceK (Operator Choice) e refl tt
 
   module _ {c : ℕ} (C : c ≡ i - 1) {r : QueryNode} where
     pub look-two : {o : Op} {b a : ℕ} → kindAt s i ≡ Re.two-terms (binOf o) → b ≡ startAt s c → a ≡ b - 1 → RaisedPost i (Two o a c) r → LookPost s i r
@@ -261,7 +267,7 @@ raised-same {i} h = record { is = rw (is-some i h) }
 
 -- the variants of a node but generator and binding
 abbrev pub others : List ℕ
-others = 0 ∷ 1 ∷ 2 ∷ 3 ∷ 4 ∷ 5 ∷ 6 ∷ 7 ∷ 8 ∷ 11 ∷ 12 ∷ []
+others = 0 ∷ 1 ∷ 2 ∷ 3 ∷ 4 ∷ 5 ∷ 6 ∷ 7 ∷ 8 ∷ 11 ∷ 12 ∷ 13 ∷ []
 
 module _ {s : List ℕ} {x c : ℕ} where
   pub bound-gen : LookPost s x (Gen c) → BoundByPost s x (Bi.Gen c)
@@ -284,6 +290,7 @@ other-node s x (Table k) h = tt
 other-node s x (Gen c) h = absurd (miss others 9 tt h)
 other-node s x (Bind c) h = absurd (miss others 10 tt h)
 other-node s x (Cond c) h = tt
+other-node s x (Operator f) h = tt
 other-node s x Bad h = tt
 
 pub bound-other : {s : List ℕ} {x : ℕ} {n : QueryNode} → LookPost s x n → OneOf others (tagOf node.the-type n) → BoundByPost s x Bi.Other

@@ -9,11 +9,12 @@ use lib.ListN.{getD, set}
 use lib.Seq.{getD-set-other}
 use borrow.Author.Tests.{ltb-true, leb-true}
 use Rattle.spec_calculus.specs.Lists.{pick}
-use Rattle.spec_encoding.specs.Reader.{Kind, kinds, unknown, number, truthK, nameK, fieldK, record′, not, tableK, comprehension, generator, binding, condition, two-terms}
+use Rattle.spec_calculus.specs.Syntax.{choice}
+use Rattle.spec_encoding.specs.Reader.{Kind, kinds, unknown, number, truthK, nameK, fieldK, record′, not, tableK, comprehension, generator, binding, condition, choiceK, two-terms}
 use Rattle.base_scratch.specs.Map.{nodesAt, bindersAt, shapesAt}
 use Rattle.front_words.specs.NodeWord.{kindOf, argOf, startOf, depthOf, nodeWord}
 use Rattle.front_words.specs.NodeTree.{numberOf, monoidAt, kindAt, argAt, startAt}
-use Rattle.front_theory.specs.NodeTable.{Node, nnum, ntruth, nname, nfield, nrec, nbin, ncomp, ntable, nbad}
+use Rattle.front_theory.specs.NodeTable.{Node, nnum, ntruth, nname, nfield, nrec, nbin, napp, ncomp, ntable, nbad}
 use Rattle.front_words.specs.Binders.{binderWord}
 use Rattle.front_nodes.specs.NodeTable.{most, depthAt, siblings, childrenOf, chainUpto, qualifiersOf, above, nameBy, nodeBy, nodesOf}
 
@@ -69,6 +70,7 @@ module _ (s s′ : List ℕ) (words : (j : ℕ) → j < most → nodeWord s′ j
   node-same i h nameK = ap (λ (a : ℕ). nameBy s′ i (binderWord s′ a)) (arg-same i h) ∙ ap (nameBy s′ i) (binder-same (argAt s i)) ∙ name-same i (binderWord s (argAt s i)) h
   node-same i h fieldK = ap (λ (a : ℕ). above i (nfield a (i - 1))) (arg-same i h)
   node-same i h record′ = ap nrec (children-same i h)
+  node-same i h choiceK = ap (napp choice) (children-same i h)
   node-same i h (two-terms o) = ap (λ (b : ℕ). above i (nbin o (b - 1) (i - 1))) (start-same (i - 1) (omega arith))
   node-same i h not = refl
   node-same i h comprehension = ap₂ (λ (a : ℕ) (l : List ℕ). above i (ncomp (monoidAt a) l (i - 1))) (arg-same i h) (qualifiers-same i h)

@@ -7,7 +7,7 @@ use native.Mathlib.Omega.{arith}
 use lib.Dec.{eqb, ltb}
 use borrow.Author.Tests.{lt-ltb, le-leb, eqb-true}
 use Rattle.spec_calculus.specs.Lists.{pick, upd}
-use Rattle.spec_calculus.specs.Syntax.{Term, Terms, Quals, num, truth, name, field, rec, bin, negate, comp, table, tnil, tcons, qnil, gen, bind, cond, Question, asTerm}
+use Rattle.spec_calculus.specs.Syntax.{choice, Term, Terms, Quals, num, truth, name, field, rec, bin, negate, app, comp, table, tnil, tcons, qnil, gen, bind, cond, Question, asTerm}
 use Rattle.spec_checks.specs.Scope.{Scope, inScope, inScopes, inScopeQ, distinct, binders, namesHold}
 use Rattle.spec_encoding.specs.Reader.{Kind, comprehension}
 use Rattle.front_words.specs.NodeTree.{numberOf, monoidAt, argAt, startAt}
@@ -168,6 +168,9 @@ mutual
   holds (rec ts) s D a i S σ L e h n B I A =
       let q : a + nodesL ts ≡ i = omega arith in
       (lastsL a ts, node-is (node-at q (L .1)) h ∙ ap No.nrec (ap (childrenOf s) (sym q) ∙ children-are ts s D a (L .0) (L .2)), holdsL ts s D a i S σ (L .0) (omega arith) h n B I A)
+  holds (app choice ts) s D a i S σ L e h n B I A =
+      let q : a + nodesL ts ≡ i = omega arith in
+      (lastsL a ts, node-is (node-at q (L .1)) h ∙ ap (No.napp choice) (ap (childrenOf s) (sym q) ∙ children-are ts s D a (L .0) (L .2)), holdsL ts s D a i S σ (L .0) (omega arith) h n B I A)
   holds (bin o t u) s D a i S σ L e h n B I A =
       let q : a + nodes t + nodes u ≡ i = omega arith in
       let one = some-nodes t in

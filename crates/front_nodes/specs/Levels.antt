@@ -2,7 +2,7 @@
 use mathlib.Core.Path.{_≡_}
 use mathlib.Core.List.{List, [], _∷_}
 use Prim.Native.Nat.{ℕ, suc, _<_}
-use Rattle.front_theory.specs.NodeTable.{Node, Nodes, nnum, ntruth, nname, nfield, nrec, nbin, nnegate, ncomp, ntable, ngen, nbind, ncond, nbad}
+use Rattle.front_theory.specs.NodeTable.{Node, Nodes, nnum, ntruth, nname, nfield, nrec, nbin, nnegate, napp, ncomp, ntable, ngen, nbind, ncond, nbad}
 
 unfoldable pub AllAt : (ℕ → ℕ) → ℕ → List ℕ → Type 0
 AllAt dep D [] = Unit {0}
@@ -15,6 +15,7 @@ Level dep D (ntruth b) = Unit {0}
 Level dep D (nname x d) = dep x ≡ suc d
 Level dep D (nfield k c) = dep c ≡ D
 Level dep D (nrec cs) = AllAt dep D cs
+Level dep D (napp f cs) = AllAt dep D cs
 Level dep D (nbin o a b) = (dep a ≡ D) × (dep b ≡ D)
 Level dep D (nnegate c) = dep c ≡ D
 Level dep D (ncomp m cs h) = AllAt dep (suc D) cs × (dep h ≡ suc D)

@@ -7,12 +7,13 @@ use lib.Signed.{mag}
 use Rattle.spec_calculus.specs.Lists.{pick}
 use Rattle.spec_encoding.specs.Reader as Re
 use Rattle.base_syntax.specs.MonoidWord.{monoidOf}
-use Rattle.base_syntax.specs.Numbers.{binOf}
+use Rattle.base_syntax.specs.Numbers.{binOf, funOf}
+use Rattle.front_words.specs.LaidTree.{operator}
 use Rattle.front_theory.specs.NodeTable as No
 use Rattle.front_nodes.specs.declared.Kind.{Kind}
 use Rattle.front_nodes.specs.declared.Kind.the-variants as Ki
 use Rattle.front_nodes.specs.declared.QueryNode.{QueryNode}
-use Rattle.front_nodes.specs.declared.QueryNode.the-variants.{Number, Truth, Name, Field, Record, Two, Not, Comp, Table, Gen, Bind, Cond, Bad}
+use Rattle.front_nodes.specs.declared.QueryNode.the-variants.{Number, Truth, Name, Field, Record, Two, Not, Comp, Table, Gen, Bind, Cond, Operator, Bad}
 use Rattle.front_nodes.specs.declared.Found.{Found}
 use Rattle.front_nodes.specs.declared.Found.the-variants.{At, Nothing}
 use Rattle.front_nodes.specs.declared.Binder.{Binder}
@@ -33,6 +34,7 @@ kindNamed Ki.Table = Re.tableK
 kindNamed Ki.Gen = Re.generator
 kindNamed Ki.Bind = Re.binding
 kindNamed Ki.Cond = Re.condition
+kindNamed (Ki.Operator f) = operator (funOf f)
 kindNamed Ki.Unknown = Re.unknown
 
 -- the node that each case is, at i
@@ -49,6 +51,7 @@ nodeNamed s i (Table k) = No.ntable k
 nodeNamed s i (Gen c) = No.ngen c
 nodeNamed s i (Bind c) = No.nbind c
 nodeNamed s i (Cond c) = No.ncond c
+nodeNamed s i (Operator f) = No.napp (funOf f) (childrenOf s i)
 nodeNamed s i Bad = No.nbad
 
 -- an argument has 33 bits, a depth 6
@@ -65,6 +68,7 @@ Small (Table k) = k < 2 ^ 33
 Small (Gen c) = Unit {0}
 Small (Bind c) = Unit {0}
 Small (Cond c) = Unit {0}
+Small (Operator f) = Unit {0}
 Small Bad = Unit {0}
 
 pub record LookPost (s : List ℕ) (i : ℕ) (r : QueryNode) : Type 0 where
@@ -90,7 +94,7 @@ abbrev pub Before : ℕ → Found → Type 0
 Before i (At c) = c < i
 Before i Nothing = Unit {0}
 
--- term k of the record at node i
+-- term k of the record or operator at node i
 pub record ChildPost (s : List ℕ) (i k : ℕ) (r : Found) : Type 0 where
   pub is : r ≡ nth k (childrenOf s i)
   pub before : Before i r
@@ -109,6 +113,7 @@ Unbinding (No.ntable k) = Unit {0}
 Unbinding (No.ngen c) = ⊥
 Unbinding (No.nbind c) = ⊥
 Unbinding (No.ncond c) = Unit {0}
+Unbinding (No.napp f cs) = Unit {0}
 Unbinding No.nbad = Unit {0}
 
 -- what node x binds a name to

@@ -6,12 +6,13 @@ use Prim.Native.Nat.{ℕ, zero, suc, _+_, _-_}
 use lib.Dec.{leb, ltb, eqb}
 use lib.ListN.{getD}
 use Rattle.spec_calculus.specs.Lists.{pick}
-use Rattle.spec_encoding.specs.Reader.{Kind, unknown, number, truthK, nameK, fieldK, record′, not, tableK, comprehension, generator, binding, condition, two-terms}
+use Rattle.spec_calculus.specs.Syntax.{choice}
+use Rattle.spec_encoding.specs.Reader.{Kind, unknown, number, truthK, nameK, fieldK, record′, not, tableK, comprehension, generator, binding, condition, choiceK, two-terms}
 use Rattle.base_scratch.specs.Map.{mostNodes}
 use Rattle.front_words.specs.Binders.{binderWord}
 use Rattle.front_words.specs.NodeWord.{depthOf, nodeWord}
 use Rattle.front_words.specs.NodeTree.{numberOf, monoidAt, kindAt, argAt, startAt}
-use Rattle.front_theory.specs.NodeTable.{Node, Nodes, nnum, ntruth, nname, nfield, nrec, nbin, nnegate, ncomp, ntable, ngen, nbind, ncond, nbad}
+use Rattle.front_theory.specs.NodeTable.{Node, Nodes, nnum, ntruth, nname, nfield, nrec, nbin, nnegate, napp, ncomp, ntable, ngen, nbind, ncond, nbad}
 
 -- how many comprehensions are around node i
 abbrev pub depthAt : List ℕ → ℕ → ℕ
@@ -26,7 +27,7 @@ unfoldable pub siblings : List ℕ → ℕ → ℕ → List ℕ → List ℕ
 siblings s zero e cs = cs
 siblings s (suc n) e cs = siblings s n (startAt s (e - 1)) ((e - 1) ∷ cs)
 
--- the terms of the record at node i, which says how many they are
+-- the terms of the record or operator at node i, which says how many they are
 abbrev pub childrenOf : List ℕ → ℕ → List ℕ
 childrenOf s i = pick (ltb 0 i) (siblings s (argAt s i) i []) []
 
@@ -58,6 +59,7 @@ nodeBy s i truthK = ntruth (eqb (argAt s i) 1)
 nodeBy s i nameK = nameBy s i (binderWord s (argAt s i))
 nodeBy s i fieldK = above i (nfield (argAt s i) (i - 1))
 nodeBy s i record′ = nrec (childrenOf s i)
+nodeBy s i choiceK = napp choice (childrenOf s i)
 nodeBy s i (two-terms o) = above i (nbin o (startAt s (i - 1) - 1) (i - 1))
 nodeBy s i not = above i (nnegate (i - 1))
 nodeBy s i comprehension = above i (ncomp (monoidAt (argAt s i)) (qualifiersOf s i) (i - 1))

@@ -3,7 +3,7 @@
 use mathlib.Core.Path.{_≡_}
 use mathlib.Core.List.{List}
 use Prim.Native.Nat.{ℕ, suc, _+_, max}
-use Rattle.spec_calculus.specs.Syntax.{Term, Terms, Quals, num, truth, name, field, rec, bin, negate, comp, table, tnil, tcons, qnil, gen, bind, cond, Question, asTerm}
+use Rattle.spec_calculus.specs.Syntax.{Term, Terms, Quals, num, truth, name, field, rec, bin, negate, app, comp, table, tnil, tcons, qnil, gen, bind, cond, Question, asTerm}
 use Rattle.front_words.specs.LaidTree.{nodes, nodesQ}
 use Rattle.front_words.specs.Binders.{binderWord}
 
@@ -15,6 +15,7 @@ abbrev mutual
   BindersAt s a (name x) = Unit {0}
   BindersAt s a (field i t) = BindersAt s a t
   BindersAt s a (rec ts) = BindersAtL s a ts
+  BindersAt s a (app f ts) = BindersAtL s a ts
   BindersAt s a (bin o t u) = BindersAt s a t × BindersAt s (a + nodes t) u
   BindersAt s a (negate t) = BindersAt s a t
   BindersAt s a (comp m qs h) = BindersAtQ s a qs × BindersAt s (a + nodesQ qs) h
@@ -41,6 +42,7 @@ unfoldable mutual
   nesting (name x) = 0
   nesting (field i t) = nesting t
   nesting (rec ts) = nestingL ts
+  nesting (app f ts) = nestingL ts
   nesting (bin o t u) = max (nesting t) (nesting u)
   nesting (negate t) = nesting t
   nesting (comp m qs h) = suc (max (nestingQ qs) (nesting h))

@@ -7,6 +7,7 @@ ghost use Rattle.front_words.specs.NodeTree.{numberOf};
 ghost use Rattle.front_nodes.specs.NodeTable.{depthAt};
 ghost use Rattle.front_nodes.specs.Look.{kindNamed, LookPost, NamedPost, RaisedPost, ChildPost, BoundByPost};
 use base_scratch::MOST_NODES;
+use base_syntax::Fun;
 use base_syntax::Monoid;
 use base_syntax::OFFSET;
 use base_syntax::Op;
@@ -25,11 +26,12 @@ pub enum Kind {
     Gen,
     Bind,
     Cond,
+    Operator(Fun),
     Unknown,
 }
 
-// A name is its binder and the depth of the comprehension that the binder stands in. The terms of a record are had by
-// `child`, the qualifiers of a comprehension by walking back from its head: each ends where the next one begins (`start_at`).
+// A name is its binder and the depth of the comprehension that the binder stands in. The terms of a record and of an operator
+// are had by `child`, the qualifiers of a comprehension by walking back from its head: each ends where the next one begins (`start_at`).
 pub enum QueryNode {
     Number(i64),
     Truth(bool),
@@ -43,6 +45,7 @@ pub enum QueryNode {
     Gen(usize),
     Bind(usize),
     Cond(usize),
+    Operator(Fun),
     Bad,
 }
 
@@ -79,6 +82,7 @@ fn kind_of(k: u64) -> Kind
         base_syntax::KIND_GENERATOR => Kind::Gen,
         base_syntax::KIND_BINDING => Kind::Bind,
         base_syntax::KIND_CONDITION => Kind::Cond,
+        base_syntax::KIND_CHOICE => Kind::Operator(Fun::Choice),
         _ => Kind::Unknown,
     }
 }
@@ -153,11 +157,12 @@ pub fn look(s: &[u64], i: usize) -> QueryNode
         Kind::Gen => raised(i, QueryNode::Gen(c)),
         Kind::Bind => raised(i, QueryNode::Bind(c)),
         Kind::Cond => raised(i, QueryNode::Cond(c)),
+        Kind::Operator(f) => QueryNode::Operator(f),
         Kind::Unknown => QueryNode::Bad,
     }
 }
 
-// Term k of the record at node i, by walking back from its last one.
+// Term k of the record or operator at node i, by walking back from its last one.
 pub fn child(s: &[u64], i: usize, k: usize) -> Found
     ensures { λ r. ⌜ ChildPost (now (s .entry)) i k r ⌝ }
 {

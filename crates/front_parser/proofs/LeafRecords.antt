@@ -367,7 +367,7 @@ shaped-two {k} l m =
     let two = from-at Two 6 7 (of-two plus, (of-two minus, (of-two times, (of-two equal, (of-two less, (of-two and, (of-two or, tt))))))) k l (omega arith) in
     record { is = (two, omega arith) }
 
-no-kind : (k : ℕ) → 19 ≤ k → getD kinds k unknown ≡ unknown
+no-kind : (k : ℕ) → 20 ≤ k → getD kinds k unknown ≡ unknown
 no-kind k h = List·getD-eq-default kinds unknown {n = k} h
 
 abbrev Refuses : ℕ → Type 0
@@ -377,13 +377,13 @@ pub shaped-none : ShapeOfPost 0 ContentKind.Other
 unfolding content
 shaped-none = record { is = λ R c n. refl }
 
-pub shaped-over : {k : ℕ} → 15 < k → ShapeOfPost k ContentKind.Other
+pub shaped-over : {k : ℕ} → 15 < k → (k ≡ 19 → ⊥) → ShapeOfPost k ContentKind.Other
 unfolding content require
-shaped-over {k} h = record { is = go (leb k 18) refl }
+shaped-over {k} h j = record { is = go (leb k 18) refl }
   where
     go : (b : Bool) → leb k 18 ≡ b → Refuses k
     go true e = from-at Refuses 16 3 (λ R c n. refl, (λ R c n. refl, (λ R c n. refl, tt))) k h (omega (arith, leb-true k 18 e))
-    go false e = λ R c n. ap (λ (K : Kind). content R false K c n) (no-kind k (leb-false k 18 e))
+    go false e = let d = leb-false k 18 e in λ R c n. ap (λ (K : Kind). content R false K c n) (no-kind k (omega arith))
 
 abbrev Alike : ℕ → Type 0
 Alike k = (R : Reader) (c : Bytes) (n : ℕ) → content R true (getD kinds k unknown) c n ≡ content R false (getD kinds k unknown) c n
@@ -392,6 +392,11 @@ pub looks-term : {k : ℕ} → (k ≡ 16 → ⊥) → (k ≡ 17 → ⊥) → (k 
 unfolding content
 looks-term {k} h i j = record { is = go (leb k 15) refl }
   where
+    -- behind the qualifiers: a choice, or no kind
+    rest : (b : Bool) → leb k 19 ≡ b → 19 ≤ k → Alike k
+    rest true e l = from-at Alike 19 1 (λ R c n. refl, tt) k l (omega (arith, leb-true k 19 e))
+    rest false e l = let d = leb-false k 19 e in λ R c n. rw (no-kind k (omega arith)) refl
+
     go : (b : Bool) → leb k 15 ≡ b → Alike k
     go true e =
         from-at Alike 0 16 (
@@ -420,4 +425,4 @@ looks-term {k} h i j = record { is = go (leb k 15) refl }
           ),
         )
         k (omega arith) (omega (arith, leb-true k 15 e))
-    go false e = let d = leb-false k 15 e in λ R c n. rw (no-kind k (omega arith)) refl
+    go false e = let d = leb-false k 15 e in rest (leb k 19) refl (omega arith)

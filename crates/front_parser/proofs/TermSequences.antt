@@ -6,7 +6,7 @@ use Prim.Native.Nat.{ℕ, zero, suc, _+_, _-_, _≤_, _<_}
 use native.Mathlib.Omega.{arith}
 use lib.ListN.{length, drop}
 use borrow.Author.Tests.{le-leb}
-use Rattle.spec_calculus.specs.Syntax.{Term, Terms, field, rec, bin, negate, tnil, tcons, asTerm}
+use Rattle.spec_calculus.specs.Syntax.{choice, Term, Terms, field, rec, bin, negate, app, tnil, tcons, asTerm}
 use Rattle.spec_encoding.specs.Record.{Bytes, Result, refused, got, andThen, require, byte, two}
 use Rattle.spec_encoding.specs.Reader as E
 use Rattle.spec_encoding.specs.Reader.{Kind, record′, Part, term, generates, binds, holds, Step, Reader, yields, oneTerm, filled, named, content, readPart}
@@ -14,7 +14,7 @@ use Rattle.front_words.specs.NodeTree.{argAt}
 use Rattle.front_words.specs.LaidTree.{nodes, nodesL, countL, Node, Laid, LaidL}
 use Rattle.front_words.proofs.NodeWords.{some-nodes}
 use Rattle.front_parser.specs.ReaderScratch.{Kept, FinishPost}
-use Rattle.front_parser.specs.RecordKinds.{HasTerms, of-field, of-record, of-two, of-not, of-generator, of-binding, of-condition, fixedOk, fixedOf, FixedIs, FixedBy, Fixed}
+use Rattle.front_parser.specs.RecordKinds.{HasTerms, of-field, of-record, of-two, of-not, of-choice, of-generator, of-binding, of-condition, fixedOk, fixedOf, FixedIs, FixedBy, Fixed}
 use Rattle.front_parser.specs.ReaderContracts.{qualifies, nodesP, LaidP, Found, CompoundPost, FrontFound, TermBy, TermPost, TermsFound, TermsBy, TermsPost}
 use Rattle.front_parser.specs.declared.ParseState.{ParseState}
 use Rattle.front_parser.specs.declared.Arity.{Arity}
@@ -155,6 +155,14 @@ pair : (Term → Term → Part) → Terms → Result Part
 pair F tnil = refused 22
 pair F (tcons t ts) = one (F t) ts
 
+triple : (Term → Term → Term → Part) → Terms → Result Part
+triple F tnil = refused 22
+triple F (tcons t ts) = pair (F t) ts
+
+-- a choice of three terms
+chosen : Term → Term → Term → Part
+chosen t u v = term (app choice (tcons t (tcons u (tcons v tnil))))
+
 some : Terms → Result Part
 some tnil = refused 22
 some (tcons t ts) = got (term (rec (tcons t ts)))
@@ -164,6 +172,7 @@ make of-field a ts = one (λ t. term (field a t)) ts
 make of-record a ts = some ts
 make (of-two o) a ts = pair (λ t u. term (bin o t u)) ts
 make of-not a ts = one (λ t. term (negate t)) ts
+make of-choice a ts = triple chosen ts
 make of-generator a ts = one (generates a) ts
 make of-binding a ts = one (binds a) ts
 make of-condition a ts = one holds ts
@@ -202,6 +211,13 @@ module _ (R : Reader) (nothing : (n : ℕ) → R false [] n ≡ refused 22) wher
   two-terms-are F (b ∷ l) n =
       one-then R (b ∷ l) n _ _ _ (λ t r m. one-term (F t) r m ∙ sym (then-then (E.terms R 1 r m) (λ s. yields (tcons t (s .is)) (s .rest) (s .left)) (λ s. andThen (pair F (s .is)) (λ p. yields p [] (s .left)))))
 
+  three-terms-are : (F : Term → Term → Term → Part) (l : Bytes) (n : ℕ) →
+      oneTerm R l n (λ t r m. oneTerm R r m (λ u r i. oneTerm R r i (λ v r j. filled (F t u v) r j))) ≡ andThen (E.terms R 3 l n) (λ s. andThen (triple F (s .is)) (λ p. yields p [] (s .left)))
+  unfolding E.terms andThen triple
+  three-terms-are F [] n = end-refused n _
+  three-terms-are F (b ∷ l) n =
+      one-then R (b ∷ l) n _ _ _ (λ t r m. two-terms-are (F t) r m ∙ sym (then-then (E.terms R 2 r m) (λ s. yields (tcons t (s .is)) (s .rest) (s .left)) (λ s. andThen (triple F (s .is)) (λ p. yields p [] (s .left)))))
+
   record-terms : (c : Bytes) (n : ℕ) → content R true record′ c n ≡ andThen (E.terms R 8 c n) (λ s. andThen (some (s .is)) (λ p. yields p [] (s .left)))
   unfolding content require E.terms andThen some
   record-terms [] n = refl
@@ -217,11 +233,12 @@ module _ (R : Reader) (nothing : (n : ℕ) → R false [] n ≡ refused 22) wher
 
   content-by : {K : Kind} {q : Bool} {l m j : ℕ} (H : HasTerms K q l m j) (c : Bytes) (n : ℕ) → fixedOk j c ≡ true →
       content R true K c n ≡ andThen (E.terms R m (drop j c) n) (λ s. andThen (make H (fixedOf j c) (s .is)) (λ p. yields p [] (s .left)))
-  unfolding content require named make
+  unfolding content require named make chosen
   content-by of-field c n h = rw h (one-term (λ t. term (field (byte c 0) t)) (drop 1 c) n)
   content-by of-record c n h = record-terms c n
   content-by (of-two o) c n h = two-terms-are (λ t u. term (bin o t u)) c n
   content-by of-not c n h = one-term (λ t. term (negate t)) c n
+  content-by of-choice c n h = three-terms-are chosen c n
   content-by of-generator c n h = rw h (one-term (generates (two c 0)) (drop 2 c) n)
   content-by of-binding c n h = rw h (one-term (binds (two c 0)) (drop 2 c) n)
   content-by of-condition c n h = one-term holds c n
@@ -232,6 +249,7 @@ module _ (R : Reader) (nothing : (n : ℕ) → R false [] n ≡ refused 22) wher
   content-broken of-record c n h = absurd (differ h)
   content-broken (of-two o) c n h = absurd (differ h)
   content-broken of-not c n h = absurd (differ h)
+  content-broken of-choice c n h = absurd (differ h)
   content-broken of-generator c n h = rw h
   content-broken of-binding c n h = rw h
   content-broken of-condition c n h = absurd (differ h)
@@ -252,6 +270,11 @@ unfolding countL
 with-two P f tnil h l = absurd (omega arith)
 with-two P f (tcons t ts) h l = with-one (λ us. P (tcons t us)) (f t) ts (omega arith) (omega arith)
 
+with-three : (P : Terms → Type 0) → ((t u v : Term) → P (tcons t (tcons u (tcons v tnil)))) → (ts : Terms) → 3 ≤ countL ts → countL ts ≤ 3 → P ts
+unfolding countL
+with-three P f tnil h l = absurd (omega arith)
+with-three P f (tcons t ts) h l = with-two (λ us. P (tcons t us)) (f t) ts (omega arith) (omega arith)
+
 with-some : (P : Terms → Type 0) → ((t : Term) (ts : Terms) → P (tcons t ts)) → (ts : Terms) → 1 ≤ countL ts → P ts
 unfolding countL
 with-some P f tnil h = absurd (omega arith)
@@ -267,6 +290,11 @@ unfolding pair countL
 pair-few F tnil h = refl
 pair-few F (tcons t ts) h = one-few (F t) ts (omega arith)
 
+triple-few : (F : Term → Term → Term → Part) (ts : Terms) → countL ts < 3 → triple F ts ≡ refused 22
+unfolding triple countL
+triple-few F tnil h = refl
+triple-few F (tcons t ts) h = pair-few (F t) ts (omega arith)
+
 some-few : (ts : Terms) → countL ts < 1 → some ts ≡ refused 22
 unfolding some countL
 some-few tnil h = refl
@@ -278,6 +306,7 @@ few of-field a ts h = one-few _ ts h
 few of-record a ts h = some-few ts h
 few (of-two o) a ts h = pair-few _ ts h
 few of-not a ts h = one-few _ ts h
+few of-choice a ts h = triple-few _ ts h
 few of-generator a ts h = one-few _ ts h
 few of-binding a ts h = one-few _ ts h
 few of-condition a ts h = one-few _ ts h
@@ -299,7 +328,7 @@ module _ {s : List ℕ} {d a i : ℕ} where
   -- the record's own node stands behind its terms: the argument is what stands before them, or else their count
   made : {K : Kind} {q : Bool} {l m j : ℕ} (H : HasTerms K q l m j) (x : ℕ) (ts : Terms) → l ≤ countL ts → countL ts ≤ m → LaidL s d a ts → Node s d a i K → i ≡ a + nodesL ts →
       (j ≡ 0 → argAt s i ≡ countL ts) → ((j ≡ 0 → ⊥) → argAt s i ≡ x) → Made (make H x ts) q s d a (nodesL ts)
-  unfolding make one pair some nodes nodesL
+  unfolding make one pair triple chosen some nodes nodesL
   made of-field x ts lo hi L N e z f =
       with-one (λ ts. LaidL s d a ts → i ≡ a + nodesL ts → Made (make of-field x ts) false s d a (nodesL ts))
       (λ t L e. let p : i ≡ a + nodes t = omega arith in
@@ -315,6 +344,9 @@ module _ {s : List ℕ} {d a i : ℕ} where
       with-one (λ ts. LaidL s d a ts → i ≡ a + nodesL ts → Made (make of-not x ts) false s d a (nodesL ts))
       (λ t L e. let p : i ≡ a + nodes t = omega arith in
       record { part = term (negate t); is = refl; sort = refl; laid = (L .0, node-at N p); size = omega arith }) ts lo hi L e
+  made of-choice x ts lo hi L N e z f =
+      with-three (λ ts. LaidL s d a ts → i ≡ a + nodesL ts → argAt s i ≡ countL ts → Made (make of-choice x ts) false s d a (nodesL ts))
+      (λ t u v L e c. record { part = chosen t u v; is = refl; sort = refl; laid = (L, node-at N e, arg-at s c e); size = refl }) ts lo hi L e (z refl)
   made of-generator x ts lo hi L N e z f =
       with-one (λ ts. LaidL s d a ts → i ≡ a + nodesL ts → Made (make of-generator x ts) true s d a (nodesL ts))
       (λ t L e. let p : i ≡ a + nodes t = omega arith in

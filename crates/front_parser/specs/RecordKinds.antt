@@ -8,7 +8,7 @@ use lib.ListN.{length, getD}
 use Rattle.spec_calculus.specs.Lists.{pick}
 use Rattle.spec_calculus.specs.Syntax.{Bin, Term, num, truth, name, table}
 use Rattle.spec_encoding.specs.Record.{Bytes, refused, byte, two}
-use Rattle.spec_encoding.specs.Reader.{Kind, kinds, unknown, number, truthK, nameK, fieldK, record′, not, tableK, comprehension, generator, binding, condition, two-terms, Reader, term, yields, content}
+use Rattle.spec_encoding.specs.Reader.{Kind, kinds, unknown, number, truthK, nameK, fieldK, record′, not, tableK, comprehension, generator, binding, condition, choiceK, two-terms, Reader, term, yields, content}
 use Rattle.front_words.specs.NodeTree.{numberOf}
 use Rattle.front_parser.specs.declared.value.ContentKind.{ContentKind}
 use Rattle.front_parser.specs.declared.value.ContentKind.the-variants as ContentKind
@@ -30,6 +30,7 @@ pub data HasTerms : Kind → Bool → ℕ → ℕ → ℕ → Type 0 where
   of-record : HasTerms record′ false 1 8 0
   of-two : (o : Bin) → HasTerms (two-terms o) false 2 2 0
   of-not : HasTerms not false 1 1 0
+  of-choice : HasTerms choiceK false 3 3 0
   of-generator : HasTerms generator true 1 1 2
   of-binding : HasTerms binding true 1 1 2
   of-condition : HasTerms condition true 1 1 0

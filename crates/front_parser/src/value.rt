@@ -12,6 +12,7 @@ use crate::Filled;
 use crate::ParseState;
 use base_refusals::BROKEN_RECORD;
 use base_syntax::KIND_BINDING;
+use base_syntax::KIND_CHOICE;
 use base_syntax::KIND_COMPREHENSION;
 use base_syntax::KIND_CONDITION;
 use base_syntax::KIND_FIELD;
@@ -48,6 +49,21 @@ pub enum ArgumentRead {
     Broken,
 }
 
+// By a kind behind those of document 01's terms: document 02's, or a qualifier, which is no term.
+fn later_shape(k: u64) -> ContentKind
+    requires { ⌜ 15 < k ⌝ }
+    ensures { λ r. ⌜ ShapeOfPost k r ⌝ }
+{
+    match k {
+        KIND_CHOICE => ContentKind::Terms(Arity {
+            least: 3,
+            most: 3,
+            skip: 0,
+        }),
+        _ => ContentKind::Other,
+    }
+}
+
 pub fn shape_of(k: u64) -> ContentKind
     ensures { λ r. ⌜ ShapeOfPost k r ⌝ }
 {
@@ -58,7 +74,7 @@ pub fn shape_of(k: u64) -> ContentKind
         return ContentKind::Value;
     }
     if KIND_TABLE < k {
-        return ContentKind::Other;
+        return later_shape(k);
     }
     match k {
         KIND_FIELD => ContentKind::Terms(Arity {

@@ -35,7 +35,7 @@ use Rattle.front_nodes.proofs.ReaderExits.{looked-inside}
 use Rattle.front_nodes.proofs.QueryNode as node
 use Rattle.front_resolve.proofs.Form as form
 use Rattle.front_resolve.specs.declared.Form.{Form}
-use Rattle.front_resolve.specs.declared.Form.the-variants.{Number, Truth, Row, Cell, Record, Two, Not, Comp, Table, Bad}
+use Rattle.front_resolve.specs.declared.Form.the-variants.{Number, Truth, Row, Cell, Record, Two, Not, Comp, Table, Operator, Bad}
 use Rattle.front_resolve.specs.declared.Head.{Head}
 use Rattle.front_resolve.specs.declared.Next.{Next}
 use Rattle.front_resolve.specs.declared.Next.the-variants as Ne
@@ -58,7 +58,7 @@ level-at s n i y L p e = subst (Level (depthAt s) (depthAt s i)) e (L i p)
 
 -- a node that is what it is: neither a name nor a field
 abbrev pub settled : List ℕ
-settled = 0 ∷ 1 ∷ 4 ∷ 5 ∷ 6 ∷ 7 ∷ 8 ∷ 9 ∷ 10 ∷ 11 ∷ 12 ∷ []
+settled = 0 ∷ 1 ∷ 4 ∷ 5 ∷ 6 ∷ 7 ∷ 8 ∷ 9 ∷ 10 ∷ 11 ∷ 12 ∷ 13 ∷ []
 
 module _ (s : List ℕ) (i D : ℕ) where
   comp-sem : (K : ℕ → Collection) (e : Env) (m : Monoid) (h : ℕ) (b : Bool)
@@ -80,6 +80,7 @@ module _ (s : List ℕ) (i D : ℕ) where
   settle-sem K e (Nd.Gen c) h = refl
   settle-sem K e (Nd.Bind c) h = refl
   settle-sem K e (Nd.Cond c) h = refl
+  settle-sem K e (Nd.Operator f) h = refl
   settle-sem K e Nd.Bad h = refl
 
   settle-form : (n : QueryNode) → LookPost s i n → FormAt s i D (formFor D n)
@@ -95,6 +96,7 @@ module _ (s : List ℕ) (i D : ℕ) where
   settle-form (Nd.Gen c) H = tt
   settle-form (Nd.Bind c) H = tt
   settle-form (Nd.Cond c) H = tt
+  settle-form (Nd.Operator f) H = H .is
   settle-form Nd.Bad H = tt
 
 -- a place at the node itself
@@ -174,6 +176,7 @@ unbinding off A x d e (No.ntable k) u = refl
 unbinding off A x d e (No.ngen c) u = absurd u
 unbinding off A x d e (No.nbind c) u = absurd u
 unbinding off A x d e (No.ncond c) u = refl
+unbinding off A x d e (No.napp f cs) u = refl
 unbinding off A x d e No.nbad u = refl
 
 -- the depth of the binder's term
@@ -273,10 +276,10 @@ module _ {s : List ℕ} {i D : ℕ} {l : List ℕ} {j d : ℕ} {e : List ℕ} (L
 -- ---- splice
 -- every form but a comprehension and a table; every form but a row and a record
 abbrev pub unranged : List ℕ
-unranged = 0 ∷ 1 ∷ 2 ∷ 3 ∷ 4 ∷ 5 ∷ 6 ∷ 9 ∷ []
+unranged = 0 ∷ 1 ∷ 2 ∷ 3 ∷ 4 ∷ 5 ∷ 6 ∷ 9 ∷ 10 ∷ []
 
 abbrev pub fieldless : List ℕ
-fieldless = 0 ∷ 1 ∷ 3 ∷ 5 ∷ 6 ∷ 7 ∷ 8 ∷ 9 ∷ []
+fieldless = 0 ∷ 1 ∷ 3 ∷ 5 ∷ 6 ∷ 7 ∷ 8 ∷ 9 ∷ 10 ∷ []
 
 binary-unranged : (o : Bin) (a b : Sem) (v : Bool) (n : ℕ) → nothing ≡ ranges (binary o a b) v n .head
 unfolding ranges binary
@@ -310,6 +313,7 @@ module _ (K : ℕ → Collection) (s : List ℕ) (i D : ℕ) (e : Env) where
   no-range (Not c) h v n = refl
   no-range (Comp m c) h v n = absurd (miss unranged 7 tt h)
   no-range (Table k) h v n = absurd (miss unranged 8 tt h)
+  no-range (Operator f) h v n = refl
   no-range Bad h v n = refl
 
   no-field : (f : Form) → OneOf fieldless (tagOf form.the-type f) → (k : ℕ) → nothing ≡ part k (formSem K s i D e f)
@@ -323,6 +327,7 @@ module _ (K : ℕ → Collection) (s : List ℕ) (i D : ℕ) (e : Env) where
   no-field (Not c) h k = refl
   no-field (Comp m c) h k = refl
   no-field (Table j) h k = refl
+  no-field (Operator f) h k = refl
   no-field Bad h k = refl
 
 -- a form at the place h

@@ -10,8 +10,8 @@ use lib.Signed.{mag}
 use Rattle.spec_calculus.specs.Lists.{pick}
 use Rattle.spec_calculus.specs.Syntax.{Collection, of}
 use Rattle.spec_normal_form.specs.Form as Nf
-use Rattle.spec_normal_form.specs.Normal.{Sem, row, fields, nested, plain, nothing, quote, ranges, part, binary}
-use Rattle.front_theory.specs.NodeTable.{nnum, ntruth, nrec, nbin, nnegate, ncomp, ntable}
+use Rattle.spec_normal_form.specs.Normal.{Sem, row, fields, nested, plain, nothing, quote, ranges, part, binary, applied}
+use Rattle.front_theory.specs.NodeTable.{nnum, ntruth, nrec, nbin, nnegate, napp, ncomp, ntable}
 use Rattle.front_theory.specs.NodeForms.{Env, Offsets, boundOf, semsOf, compOf, levels, sem}
 use Rattle.front_theory.specs.CappedOffsets.{limit, saturated}
 use Rattle.base_syntax.specs.MonoidWord.{monoidOf}
@@ -21,11 +21,11 @@ use Rattle.front_nodes.specs.Levels.{Levelled}
 use Rattle.front_nodes.specs.declared.QueryNode.{QueryNode}
 use Rattle.front_nodes.specs.declared.QueryNode.the-variants as No
 use Rattle.front_resolve.specs.declared.Form.{Form}
-use Rattle.front_resolve.specs.declared.Form.the-variants.{Number, Truth, Row, Cell, Record, Two, Not, Comp, Table, Bad}
+use Rattle.front_resolve.specs.declared.Form.the-variants.{Number, Truth, Row, Cell, Record, Two, Not, Comp, Table, Operator, Bad}
 use Rattle.front_resolve.specs.declared.Head.{Head}
 use Rattle.front_resolve.specs.declared.Next.{Next}
 use Rattle.front_resolve.specs.declared.Next.the-variants.{On, At}
-use Rattle.base_syntax.specs.Numbers.{binOf}
+use Rattle.base_syntax.specs.Numbers.{binOf, funOf}
 
 pub record Place : Type 0 where
   pub form : Form
@@ -66,6 +66,7 @@ formSem K s i D e (Two o a b) = binary (binOf o) (semN K s a D e) (semN K s b D 
 formSem K s i D e (Not c) = plain (λ n. Nf.negate (quote (semN K s c D e) n))
 formSem K s i D e (Comp m h) = compOf (nodesOf s) (semN K s) (monoidOf m) (qualifiersOf s i) h D e
 formSem K s i D e (Table k) = nested (of (K k)) (λ b n. Nf.gen n k Nf.done) (λ b n. row n)
+formSem K s i D e (Operator f) = applied (funOf f) (semsOf (semN K s) (childrenOf s i) D e)
 formSem K s i D e Bad = nothing
 
 abbrev pub placeSem : (ℕ → Collection) → List ℕ → Place → Sem
@@ -83,6 +84,7 @@ FormAt s i D (Two o a b) = nodesOf s i ≡ nbin (binOf o) a b
 FormAt s i D (Not c) = nodesOf s i ≡ nnegate c
 FormAt s i D (Comp m h) = (nodesOf s i ≡ ncomp (monoidOf m) (qualifiersOf s i) h) × (D < levels)
 FormAt s i D (Table k) = (nodesOf s i ≡ ntable k) × (k < 2 ^ 33)
+FormAt s i D (Operator f) = nodesOf s i ≡ napp (funOf f) (childrenOf s i)
 FormAt s i D Bad = Unit {0}
 
 pub record Fine (s : List ℕ) (r : Place) : Type 0 where
@@ -142,4 +144,5 @@ formFor D (No.Table k) = Table k
 formFor D (No.Gen c) = Bad
 formFor D (No.Bind c) = Bad
 formFor D (No.Cond c) = Bad
+formFor D (No.Operator f) = Operator f
 formFor D No.Bad = Bad

@@ -8,6 +8,7 @@ ghost use Rattle.front_theory.specs.NodeForms.{levels};
 ghost use Rattle.front_theory.specs.CappedOffsets.{limit};
 ghost use Rattle.base_syntax.specs.MonoidWord.{monoidOf};
 ghost use Rattle.front_resolve.specs.Place.{under, odd, bit, offsets, Fine, FormAt, Heads, FollowPost, SplicePost, Stepped, ProjectPost, formFor};
+use base_syntax::Fun;
 use base_syntax::Monoid;
 use base_syntax::Op;
 use front_nodes::Binder;
@@ -25,6 +26,7 @@ pub enum Form {
     Not(usize),
     Comp(Monoid, usize),
     Table(usize),
+    Operator(Fun),
     Bad,
 }
 
@@ -116,6 +118,7 @@ fn form_of(n: QueryNode, depth: usize) -> Form
         QueryNode::Gen(c) => Form::Bad,
         QueryNode::Bind(c) => Form::Bad,
         QueryNode::Cond(c) => Form::Bad,
+        QueryNode::Operator(f) => Form::Operator(f),
         QueryNode::Bad => Form::Bad,
     }
 }

@@ -8,8 +8,8 @@ use lib.ListN.{length, getD, set, length-set, List·getD-eq-default}
 use lib.Seq.{set-out}
 use borrow.Author.Tests.{le-leb, lt-leb}
 use Rattle.spec_calculus.specs.Lists.{pick}
-use Rattle.spec_calculus.specs.Syntax.{Bin, Term, Terms, Quals, num, truth, name, field, rec, bin, negate, comp, table, tnil, tcons, qnil, gen, bind, cond, Question, asTerm}
-use Rattle.spec_encoding.specs.Reader.{Kind, unknown, number, truthK, nameK, fieldK, record′, tableK, comprehension, generator, binding, condition, two-terms}
+use Rattle.spec_calculus.specs.Syntax.{Bin, Term, Terms, Quals, num, truth, name, field, rec, bin, negate, app, comp, table, tnil, tcons, qnil, gen, bind, cond, Question, asTerm}
+use Rattle.spec_encoding.specs.Reader.{Kind, unknown, number, truthK, nameK, fieldK, record′, tableK, comprehension, generator, binding, condition, choiceK, two-terms}
 use Rattle.spec_encoding.specs.Reader as Re
 use Rattle.spec_checks.specs.Scope.{namesHold}
 use Rattle.front_words.specs.LaidTree.{nodes, Laid}
@@ -57,23 +57,24 @@ module _ (n : Names) (x : ℕ) (h : x < length (n .seen)) where
 
 -- a term of this kind uses and binds no name and has no part
 abbrev Bare : Kind → Type 0
-Bare K = 3 ≤ code K → code K ≤ 14 → ⊥
+Bare K = (3 ≤ code K → code K ≤ 14 → ⊥) × (code K ≡ 19 → ⊥)
 
 bare-passed : (s : List ℕ) (n : Names) (T : ℕ → Term) (L : ℕ → ℕ → Terms → Terms) (Q : ℕ → ℕ → Quals → Quals) (i : ℕ) (K : Kind) → Bare K → n ≡ passTerm (termBy T L Q s i K) n
 unfolding passTerm
 bare-passed s n T L Q i number b = refl
 bare-passed s n T L Q i truthK b = refl
-bare-passed s n T L Q i nameK b = absurd (b (omega arith) (omega arith))
-bare-passed s n T L Q i fieldK b = absurd (b (omega arith) (omega arith))
-bare-passed s n T L Q i record′ b = absurd (b (omega arith) (omega arith))
-bare-passed s n T L Q i Re.not b = absurd (b (omega arith) (omega arith))
+bare-passed s n T L Q i nameK b = absurd (b .0 (omega arith) (omega arith))
+bare-passed s n T L Q i fieldK b = absurd (b .0 (omega arith) (omega arith))
+bare-passed s n T L Q i record′ b = absurd (b .0 (omega arith) (omega arith))
+bare-passed s n T L Q i choiceK b = absurd (b .1 refl)
+bare-passed s n T L Q i Re.not b = absurd (b .0 (omega arith) (omega arith))
 bare-passed s n T L Q i tableK b = refl
-bare-passed s n T L Q i comprehension b = absurd (b (omega arith) (omega arith))
+bare-passed s n T L Q i comprehension b = absurd (b .0 (omega arith) (omega arith))
 bare-passed s n T L Q i generator b = refl
 bare-passed s n T L Q i binding b = refl
 bare-passed s n T L Q i condition b = refl
 bare-passed s n T L Q i unknown b = refl
-bare-passed s n T L Q i (two-terms o) b = absurd (b (omega (arith, two-code o)) (omega (arith, two-code o)))
+bare-passed s n T L Q i (two-terms o) b = absurd (b .0 (omega (arith, two-code o)) (omega (arith, two-code o)))
 
 -- ---- a term, by the kind of its node
 module _ {s : List ℕ} {e : ℕ} {n r : Names} where
@@ -98,6 +99,10 @@ module _ {s : List ℕ} {e : ℕ} {n r : Names} where
   pub term-record : 1 < e → kindAt s (e - 1) ≡ record′ → {a : ℕ} → a ≡ startAt s (e - 1) → TermsPost s a (e - 1) n r → TermPost s e n r
   unfolding passTerm
   term-record h p q P = term-step p (λ g l. sym (P .is g (omega arith) tnil) ∙ ap (λ a. passTerms (termsAt g s a (e - 1) tnil) n) q)
+
+  pub term-choice : 1 < e → kindAt s (e - 1) ≡ choiceK → {a : ℕ} → a ≡ startAt s (e - 1) → TermsPost s a (e - 1) n r → TermPost s e n r
+  unfolding passTerm
+  term-choice h p q P = term-step p (λ g l. sym (P .is g (omega arith) tnil) ∙ ap (λ a. passTerms (termsAt g s a (e - 1) tnil) n) q)
 
   pub term-two : 1 < e → {o : Bin} → kindAt s (e - 1) ≡ two-terms o → OperandsPost s (e - 1) n r → TermPost s e n r
   unfolding passTerm
@@ -195,6 +200,7 @@ no-qual-by T s i truthK qs h = refl
 no-qual-by T s i nameK qs h = refl
 no-qual-by T s i fieldK qs h = refl
 no-qual-by T s i record′ qs h = refl
+no-qual-by T s i choiceK qs h = refl
 no-qual-by T s i Re.not qs h = refl
 no-qual-by T s i tableK qs h = refl
 no-qual-by T s i comprehension qs h = refl
@@ -237,6 +243,7 @@ module _ (s : List ℕ) (n : Names) where
     leaf-by nameK h = absurd (h refl)
     leaf-by fieldK h = part 0 (omega arith)
     leaf-by record′ h = rw (hL (startAt s 0))
+    leaf-by choiceK h = rw (hL (startAt s 0))
     leaf-by Re.not h = part 0 (omega arith)
     leaf-by tableK h = refl
     leaf-by comprehension h = rw (hQ (startAt s 0)) (ap (leaves n) (part 0 (omega arith)))
@@ -271,6 +278,7 @@ mutual
   full-term (name x) n F = F
   full-term (field i t) n F = full-term t n F
   full-term (rec ts) n F = full-terms ts n F
+  full-term (app f ts) n F = full-terms ts n F
   full-term (bin o t u) n F = full-term u (passTerm t n) (full-term t n F)
   full-term (negate t) n F = full-term t n F
   full-term (comp m qs h) n F = (full-term h (passQuals qs n) (full-quals qs n F) .0, F .1)

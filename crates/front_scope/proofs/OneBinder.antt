@@ -10,7 +10,7 @@ use lib.Dec.{eqb}
 use lib.ListN.{length, getD}
 use borrow.Author.Tests.{eqb-true, eqb-false, eq-eqb, ne-eqb}
 use Rattle.spec_calculus.specs.Lists.{pick, guard}
-use Rattle.spec_calculus.specs.Syntax.{Term, Terms, Quals, num, truth, name, field, rec, bin, negate, comp, table, tnil, tcons, qnil, gen, bind, cond, Question, asTerm}
+use Rattle.spec_calculus.specs.Syntax.{choice, Term, Terms, Quals, num, truth, name, field, rec, bin, negate, app, comp, table, tnil, tcons, qnil, gen, bind, cond, Question, asTerm}
 use Rattle.spec_calculus.proofs.Lists.{All, all-append}
 use Rattle.spec_checks.specs.Scope.{inScope, binders, bindersL, bindersQ, member, distinct, namesHold}
 use Rattle.spec_encoding.specs.Reader.{Kind, kinds, unknown}
@@ -79,6 +79,7 @@ mutual
   laid-bound (name x) s d a L = leaf-bound (L .0) refl
   laid-bound (field i t) s d a L = over (nodes t) (laid-bound t s d a (L .0)) (L .1) refl
   laid-bound (rec ts) s d a L = over (nodesL ts) (laid-boundL ts s d a (L .0)) (L .1) refl
+  laid-bound (app choice ts) s d a L = over (nodesL ts) (laid-boundL ts s d a (L .0)) (L .1) refl
   laid-bound (bin o t u) s d a L =
       over (nodes t + nodes u) (both s a (nodes t) (nodes u) (laid-bound t s d a (L .0)) (laid-bound u s d (a + nodes t) (L .1))) (moved (add-assoc a (nodes t) (nodes u)) (L .2)) refl
   laid-bound (negate t) s d a L = over (nodes t) (laid-bound t s d a (L .0)) (L .1) refl
@@ -201,6 +202,7 @@ mutual
   small-binders (name x) h = tt
   small-binders (field i t) h = small-binders t h
   small-binders (rec ts) h = small-bindersL ts h
+  small-binders (app f ts) h = small-bindersL ts h
   small-binders (bin o t u) h = all-append (λ x. x < 256) (binders t) (binders u) (small-binders t (h .0)) (small-binders u (h .1))
   small-binders (negate t) h = small-binders t h
   small-binders (comp m qs k) h = all-append (λ x. x < 256) (bindersQ qs) (binders k) (small-bindersQ qs (h .0)) (small-binders k (h .1))

@@ -10,7 +10,7 @@ use lib.Seq.{getD-set-same, getD-set-other}
 use borrow.Author.Tests.{eqb-true, eqb-false}
 use Rattle.spec_calculus.specs.Lists.{upd}
 use Rattle.spec_calculus.proofs.Lists.{upd-hit, upd-other}
-use Rattle.spec_calculus.specs.Syntax.{Term, Terms, Quals, num, truth, name, field, rec, bin, negate, comp, table, tnil, tcons, qnil, gen, bind, cond, Question, asTerm}
+use Rattle.spec_calculus.specs.Syntax.{Term, Terms, Quals, num, truth, name, field, rec, bin, negate, app, comp, table, tnil, tcons, qnil, gen, bind, cond, Question, asTerm}
 use Rattle.spec_checks.specs.Scope.{Scope, inScope, inScopes, inScopeQ, binders, bindersL, bindersQ, member, distinct, namesHold}
 use Rattle.front_scope.specs.ScopePass.{Names, fresh, uses, binds, leaves, passTerm, passTerms, passQuals, Small, SmallL, SmallQ}
 
@@ -188,6 +188,7 @@ mutual
   passed (name x) β σ n h = passed-name x β σ n
   passed (field i t) β σ n h = passed t β σ n h
   passed (rec ts) β σ n h = passedL ts β σ n h
+  passed (app f ts) β σ n h = passedL ts β σ n h
   passed (bin o t u) β σ n h = passed-both (passed t β σ n (h .0)) (passed u (after (binders t) β) σ (passTerm t n) (h .1))
   passed (negate t) β σ n h = passed t β σ n h
   passed (comp m qs k) β σ n h =

@@ -4,7 +4,7 @@ use mathlib.Core.List.{List}
 use mathlib.Core.Bool.{Bool, true, false, _&&_, not}
 use Prim.Native.Nat.{ℕ, _<_}
 use lib.ListN.{length, getD, set, replicate}
-use Rattle.spec_calculus.specs.Syntax.{Term, Terms, Quals, num, truth, name, field, rec, bin, negate, comp, table, tnil, tcons, qnil, gen, bind, cond}
+use Rattle.spec_calculus.specs.Syntax.{Term, Terms, Quals, num, truth, name, field, rec, bin, negate, app, comp, table, tnil, tcons, qnil, gen, bind, cond}
 
 -- the names seen, the names that hold here, and whether no rule is broken so far
 pub record Names : Type 0 where
@@ -41,6 +41,7 @@ unfoldable mutual
   passTerm (name x) n = uses x n
   passTerm (field i t) n = passTerm t n
   passTerm (rec ts) n = passTerms ts n
+  passTerm (app f ts) n = passTerms ts n
   passTerm (bin o t u) n = passTerm u (passTerm t n)
   passTerm (negate t) n = passTerm t n
   passTerm (comp m qs h) n = leaves n (passTerm h (passQuals qs n))
@@ -64,6 +65,7 @@ abbrev mutual
   Small (name x) = Unit {0}
   Small (field i t) = Small t
   Small (rec ts) = SmallL ts
+  Small (app f ts) = SmallL ts
   Small (bin o t u) = Small t × Small u
   Small (negate t) = Small t
   Small (comp m qs h) = SmallQ qs × Small h

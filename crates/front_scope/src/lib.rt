@@ -10,6 +10,7 @@ ghost use Rattle.front_scope.specs.ScopePass.{names, Full, binds};
 ghost use Rattle.front_scope.specs.PassContract.{TermPost, LeafPost, OperandsPost, ComprehensionPost, TermsPost, QualsPost, QualifierPost, NamesHoldPost};
 use base_scratch::NAMES;
 use base_syntax::KIND_BINDING;
+use base_syntax::KIND_CHOICE;
 use base_syntax::KIND_COMPREHENSION;
 use base_syntax::KIND_CONDITION;
 use base_syntax::KIND_FIELD;
@@ -96,6 +97,7 @@ fn term(s: &[u64], e: usize, seen: &mut [bool; 256], scope: &mut [bool; 256], ok
         KIND_PLUS..=KIND_OR => operands(s, i, seen, scope, ok),
         KIND_NOT => term(s, i, seen, scope, ok),
         KIND_COMPREHENSION => comprehension(s, i, seen, scope, ok),
+        KIND_CHOICE => terms(s, start_at(s, i), i, seen, scope, ok),
         _ => ok,
     }
 }

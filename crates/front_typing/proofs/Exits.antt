@@ -25,7 +25,9 @@ use Rattle.front_nodes.specs.Look.{nodeNamed, LookPost, nth, ChildPost}
 use Rattle.base_syntax.specs.declared.Monoid.{Monoid}
 use Rattle.base_syntax.specs.declared.Monoid.the-variants as Mo
 use Rattle.base_syntax.specs.MonoidWord.{monoidOf}
-use Rattle.base_syntax.specs.Numbers.{numberOf}
+use Rattle.base_syntax.specs.declared.Fun.{Fun}
+use Rattle.base_syntax.specs.declared.Fun.the-variants.{Choice}
+use Rattle.base_syntax.specs.Numbers.{funOf, numberOf}
 use Rattle.front_theory.specs.NodeTable.{Nodes}
 use Rattle.front_theory.specs.NodeTable as Nd
 use Rattle.base_scratch.specs.Map.{shapesAt}
@@ -37,7 +39,7 @@ use Rattle.front_typing.specs.declared.TypeHead.the-variants.{Wrong, Num
 use Rattle.front_typing.specs.declared.Made.{Made}
 use Rattle.front_typing.specs.declared.Made.the-variants as Ma
 use Rattle.front_typing.specs.NodeTypes.{Rule}
-use Rattle.front_typing.specs.Shapes.{Known, fits, partsOf, collects, collectionOf, headOf, partShape, fieldShape, elementShape, stands, allFit, qualFits, qualsFit, shapeBy}
+use Rattle.front_typing.specs.Shapes.{Known, fits, isNumber, isTruth, partsOf, collects, collectionOf, headOf, partShape, fieldShape, elementShape, stands, truthShape, alikeShape, choiceShape, choiceOf, appShape, allFit, qualFits, qualsFit, shapeBy}
 use Rattle.front_typing.specs.ShapeWords.{shapeIn, shapesIn, collectionBy, knownIn, rules, Plain, MadeBy, MakerPost, fieldAt, elementAt, mayRange, qualFitsAt, shapeWord, shapeOf, shaped, shapedUpTo, Judges}
 
 -- ---- tests
@@ -143,7 +145,7 @@ module _ {s : List ℕ} {j : ℕ} {n : QueryNode} (H : LookPost s j n) where
 
 -- the variants of a node but record and comprehension
 abbrev pub others : List ℕ
-others = 0 ∷ 1 ∷ 2 ∷ 3 ∷ 5 ∷ 6 ∷ 8 ∷ 9 ∷ 10 ∷ 11 ∷ 12 ∷ []
+others = 0 ∷ 1 ∷ 2 ∷ 3 ∷ 5 ∷ 6 ∷ 8 ∷ 9 ∷ 10 ∷ 11 ∷ 12 ∷ 13 ∷ []
 
 other-made : (s : List ℕ) (j : ℕ) (n : QueryNode) → OneOf others (tagOf node.the-type n) → Plain (nodeNamed s j n)
 other-made s j (No.Number z) h = tt
@@ -158,6 +160,7 @@ other-made s j (No.Table k) h = tt
 other-made s j (No.Gen c) h = tt
 other-made s j (No.Bind c) h = tt
 other-made s j (No.Cond c) h = tt
+other-made s j (No.Operator f) h = tt
 other-made s j No.Bad h = tt
 
 pub makes-other : {s : List ℕ} {j : ℕ} {n : QueryNode} → LookPost s j n → OneOf others (tagOf node.the-type n) → MakerPost s j Ma.Other
@@ -177,6 +180,7 @@ plain-none (Nd.ntable k) p = (refl, refl, refl)
 plain-none (Nd.ngen c) p = (refl, refl, refl)
 plain-none (Nd.nbind c) p = (refl, refl, refl)
 plain-none (Nd.ncond c) p = (refl, refl, refl)
+plain-none (Nd.napp f cs) p = (refl, refl, refl)
 plain-none Nd.nbad p = (refl, refl, refl)
 
 -- ---- a collection's number
@@ -255,15 +259,54 @@ module _ {s : List ℕ} {j : ℕ} {r : Made} (H : MakerPost s j r) where
   unfolding partShape
   part-other k e = sym (ap (partShape (shapesIn s) k) (other e .0))
 
-  module _ (e : r ≡ Ma.Record) {k : ℕ} {f : Found} (C : ChildPost s j k f) where
-    part-is : partShape (shapesIn s) k (partsOf (nodesOf s j)) ≡ partShape (shapesIn s) k (childrenOf s j)
-    part-is = ap (λ y. partShape (shapesIn s) k (partsOf y)) (subst (MadeBy s j) e (H .is))
+  pub part-record : (k : ℕ) → r ≡ Ma.Record → {a : TypeHead} → a ≡ partShape (shapesIn s) k (childrenOf s j) → a ≡ partShape (shapesIn s) k (partsOf (nodesOf s j))
+  part-record k e q = q ∙ sym (ap (λ y. partShape (shapesIn s) k (partsOf y)) (subst (MadeBy s j) e (H .is)))
 
-    pub part-at : {c : ℕ} {a : TypeHead} → f ≡ At c → a ≡ shapesIn s c → a ≡ partShape (shapesIn s) k (partsOf (nodesOf s j))
-    part-at {c} q h = h ∙ nth-at (shapesIn s) k (childrenOf s j) c (sym (C .is) ∙ q) ∙ sym part-is
+-- ---- the terms of a record or an operator
+module _ {s : List ℕ} {i k : ℕ} {f : Found} (C : ChildPost s i k f) where
+  pub operand-at : {c : ℕ} {a : TypeHead} → f ≡ At c → a ≡ shapesIn s c → a ≡ partShape (shapesIn s) k (childrenOf s i)
+  operand-at {c} q h = h ∙ nth-at (shapesIn s) k (childrenOf s i) c (sym (C .is) ∙ q)
 
-    pub part-nothing : f ≡ Nothing → Wrong ≡ partShape (shapesIn s) k (partsOf (nodesOf s j))
-    part-nothing q = nth-nothing (shapesIn s) k (childrenOf s j) (sym (C .is) ∙ q) ∙ sym part-is
+  pub operand-none : f ≡ Nothing → Wrong ≡ partShape (shapesIn s) k (childrenOf s i)
+  operand-none q = nth-nothing (shapesIn s) k (childrenOf s i) (sym (C .is) ∙ q)
+
+either-way : {A : Type 0} (b : Bool) (x : A) → pick b x x ≡ x
+unfolding pick
+either-way true x = refl
+either-way false x = refl
+
+no-third : (a b : TypeHead) → choiceShape a b Wrong ≡ Wrong
+unfolding choiceShape alikeShape truthShape pick
+no-third a b =
+    ap (λ x. pick (isTruth a) x Wrong) (ap (λ x. pick (isNumber b) Wrong x) (either-way (isTruth b) Wrong) ∙ either-way (isNumber b) Wrong) ∙ either-way (isTruth a) Wrong
+
+four-terms : (σ : ℕ → TypeHead) (cs : List ℕ) (c : ℕ) → nth 3 cs ≡ At c → Wrong ≡ choiceOf σ cs
+unfolding nth choiceOf
+four-terms σ [] c e = refl
+four-terms σ (x ∷ []) c e = refl
+four-terms σ (x ∷ y ∷ []) c e = refl
+four-terms σ (x ∷ y ∷ z ∷ []) c e = absurd (let q : _≡_ {A = ℕ} 0 1 = cc in omega arith)
+four-terms σ (x ∷ y ∷ z ∷ w ∷ cs) c e = refl
+
+three-terms : (σ : ℕ → TypeHead) (cs : List ℕ) → nth 3 cs ≡ Nothing → choiceShape (partShape σ 0 cs) (partShape σ 1 cs) (partShape σ 2 cs) ≡ choiceOf σ cs
+unfolding nth choiceOf partShape
+three-terms σ [] e = no-third Wrong Wrong
+three-terms σ (x ∷ []) e = no-third (σ x) Wrong
+three-terms σ (x ∷ y ∷ []) e = no-third (σ x) (σ y)
+three-terms σ (x ∷ y ∷ z ∷ []) e = refl
+three-terms σ (x ∷ y ∷ z ∷ w ∷ cs) e = absurd (let q : _≡_ {A = ℕ} 0 1 = cc in omega arith)
+
+module _ {s : List ℕ} {i : ℕ} {f : Found} (C : ChildPost s i 3 f) where
+  pub choice-many : {c : ℕ} → f ≡ At c → Wrong ≡ choiceOf (shapesIn s) (childrenOf s i)
+  choice-many {c} q = four-terms (shapesIn s) (childrenOf s i) c (sym (C .is) ∙ q)
+
+  pub choice-three : f ≡ Nothing → {a b c r : TypeHead} → a ≡ partShape (shapesIn s) 0 (childrenOf s i) → b ≡ partShape (shapesIn s) 1 (childrenOf s i) →
+      c ≡ partShape (shapesIn s) 2 (childrenOf s i) → r ≡ choiceShape a b c → r ≡ choiceOf (shapesIn s) (childrenOf s i)
+  choice-three q ea eb ec h = h ∙ rw (ea, eb, ec) (three-terms (shapesIn s) (childrenOf s i) (sym (C .is) ∙ q))
+
+pub operator-is : (f : Fun) {a : TypeHead} (σ : ℕ → TypeHead) (cs : List ℕ) → a ≡ choiceOf σ cs → a ≡ appShape (funOf f) σ cs
+unfolding appShape
+operator-is Choice σ cs h = h
 
 -- ---- the parts of a record
 siblings-front : (s : List ℕ) (n e : ℕ) (cs : List ℕ) → siblings s n e cs ≡ siblings s n e [] ++ cs
@@ -368,7 +411,7 @@ module _ (b : Bool) (s : List ℕ) (i : ℕ) {n x : QueryNode} (H : LookPost s i
 
 -- the variants of a node that are no qualifiers
 abbrev pub terms : List ℕ
-terms = 0 ∷ 1 ∷ 2 ∷ 3 ∷ 4 ∷ 5 ∷ 6 ∷ 7 ∷ 8 ∷ 12 ∷ []
+terms = 0 ∷ 1 ∷ 2 ∷ 3 ∷ 4 ∷ 5 ∷ 6 ∷ 7 ∷ 8 ∷ 12 ∷ 13 ∷ []
 
 module _ (J : Rule) (I : Known) (N : Nodes) (σ : ℕ → TypeHead) (m : Sy.Monoid) where
   no-qual : (s : List ℕ) (c : ℕ) (n : QueryNode) → OneOf terms (tagOf node.the-type n) → false ≡ qualFits J I N σ m (nodeNamed s c n)
@@ -384,6 +427,7 @@ module _ (J : Rule) (I : Known) (N : Nodes) (σ : ℕ → TypeHead) (m : Sy.Mono
   no-qual s c (No.Gen a) h = absurd (miss terms 9 tt h)
   no-qual s c (No.Bind a) h = absurd (miss terms 10 tt h)
   no-qual s c (No.Cond a) h = absurd (miss terms 11 tt h)
+  no-qual s c (No.Operator f) h = refl
   no-qual s c No.Bad h = refl
 
   quals-append : (l r : List ℕ) → qualsFit J I N σ m (l ++ r) ≡ qualsFit J I N σ m l && qualsFit J I N σ m r

@@ -6,11 +6,11 @@ use Prim.Native.Nat.{ℕ, zero, suc, _<_}
 use native.Mathlib.Omega.{arith}
 use lib.Dec.{eqb}
 use Rattle.spec_calculus.specs.Lists.{pick, upd}
-use Rattle.spec_calculus.specs.Syntax.{Collection, Monoid, Term, Terms, Quals, num, truth, name, field, rec, bin, negate, comp, table, tnil, tcons, qnil, gen, bind, cond, Question, asTerm}
+use Rattle.spec_calculus.specs.Syntax.{Collection, Monoid, Term, Terms, Quals, num, truth, name, field, rec, bin, negate, app, comp, table, tnil, tcons, qnil, gen, bind, cond, Question, asTerm}
 use Rattle.spec_calculus.specs.Value.{Tables}
-use Rattle.spec_checks.specs.Types.{Ty, number, record′, coll, Typed, wrong, has, fieldType, ofTruth, binType, compType, ranges, typedAs, record″, consType, Context, typeOf, typesOf, typeOfQ}
+use Rattle.spec_checks.specs.Types.{Ty, number, record′, coll, Typed, wrong, has, fieldType, ofTruth, binType, appType, compType, ranges, typedAs, record″, allTyped, consType, Context, typeOf, typesOf, typeOfQ}
 use Rattle.spec_checks.specs.Types as Ty
-use Rattle.front_theory.specs.NodeTable.{Node, Nodes, nnum, ntruth, nname, nfield, nrec, nbin, nnegate, ncomp, ntable, ngen, nbind, ncond, nbad, Below, Inside, PostOrder}
+use Rattle.front_theory.specs.NodeTable.{Node, Nodes, nnum, ntruth, nname, nfield, nrec, nbin, nnegate, napp, ncomp, ntable, ngen, nbind, ncond, nbad, Below, Inside, PostOrder}
 use Rattle.front_theory.specs.QuestionNodes.{Slots, slot, noNames, firstOf, restOf, behind, Holds, HoldsL, HoldsQ}
 use Rattle.front_typing.specs.NodeTypes.{Rule, typesBy, behindQual, behindQuals, typeBy, typeUpTo, nodeType}
 
@@ -31,6 +31,7 @@ module _ (J : Rule) (T : Tables) (N : Nodes) (P : PostOrder N) where
     qual-local m c (nname x d) l h t = refl
     qual-local m c (nfield k a) l h t = refl
     qual-local m c (nrec cs) l h t = refl
+    qual-local m c (napp f cs) l h t = refl
     qual-local m c (nbin o a b) l h t = refl
     qual-local m c (nnegate a) l h t = refl
     qual-local m c (ncomp n cs k) l h t = refl
@@ -48,6 +49,7 @@ module _ (J : Rule) (T : Tables) (N : Nodes) (P : PostOrder N) where
     type-local (nname x d) h = same x h
     type-local (nfield k c) h = ap (fieldType k) (same c h)
     type-local (nrec cs) h = ap record″ (types-local cs h)
+    type-local (napp f cs) h = ap (λ s. allTyped s (appType f)) (types-local cs h)
     type-local (nbin o a b) h = ap₂ (binType o) (same a (h .0)) (same b (h .1))
     type-local (nnegate c) h = ap (λ s. ofTruth s (has Ty.truth)) (same c h)
     type-local (ncomp m cs k) h = ap (compType m) (quals-local m cs (h .0) (τ k) ∙ ap (behindQuals J N τ′ m cs) (same k (h .1)))
@@ -114,6 +116,7 @@ module _ (J : Rule) (T : Tables) (N : Nodes) (P : PostOrder N) where
       type-at (name x) i D S H Γ F = type-is (H .1) ∙ F x (H .0) (H .2)
       type-at (field k t) i D S H Γ F = type-is (H .1) ∙ ap (fieldType k) (type-at t (H .0) D S (H .2) Γ F)
       type-at (rec ts) i D S H Γ F = type-is (H .1) ∙ ap record″ (types-at ts (H .0) D S (H .2) Γ F)
+      type-at (app f ts) i D S H Γ F = type-is (H .1) ∙ ap (λ s. allTyped s (appType f)) (types-at ts (H .0) D S (H .2) Γ F)
       type-at (bin o s t) i D S H Γ F = type-is (H .2) ∙ ap₂ (binType o) (type-at s (H .0) D S (H .3) Γ F) (type-at t (H .1) D S (H .4) Γ F)
       type-at (negate t) i D S H Γ F = type-is (H .1) ∙ ap (λ s. ofTruth s (has Ty.truth)) (type-at t (H .0) D S (H .2) Γ F)
       type-at (comp m qs h) i D S H Γ F =

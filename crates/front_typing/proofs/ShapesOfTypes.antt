@@ -9,14 +9,14 @@ use lib.ListN.{length}
 use borrow.Author.Tests.{ltb-true}
 use Rattle.spec_calculus.specs.Lists.{pick}
 use Rattle.spec_calculus.specs.Syntax as Sy
-use Rattle.spec_calculus.specs.Syntax.{Collection, Monoid, of, sum, max, some, all, Bin, plus, minus, times, equal, less, and, or}
+use Rattle.spec_calculus.specs.Syntax.{Collection, Monoid, of, sum, max, some, all, Bin, plus, minus, times, equal, less, and, or, Fun, choice}
 use Rattle.spec_calculus.specs.Value.{Tables, kindOf, columnsOf}
-use Rattle.spec_checks.specs.Types.{Ty, Tys, number, truth, record′, coll, ynil, ycons, Typed, wrong, has, Typeds, wrongs, hass, cells, typeAt, fieldType, ofNumber, ofTruth, binType, gathers, compType, ranges, typedAs, record″, consType, isTyped}
-use Rattle.front_theory.specs.NodeTable.{Node, Nodes, nnum, ntruth, nname, nfield, nrec, nbin, nnegate, ncomp, ntable, ngen, nbind, ncond, nbad, Below, Inside, PostOrder}
+use Rattle.spec_checks.specs.Types.{Ty, Tys, number, truth, record′, coll, ynil, ycons, Typed, wrong, has, Typeds, wrongs, hass, cells, typeAt, fieldType, ofNumber, ofTruth, binType, ofThree, choiceType, appType, gathers, compType, ranges, typedAs, record″, allTyped, consType, isTyped}
+use Rattle.front_theory.specs.NodeTable.{Node, Nodes, nnum, ntruth, nname, nfield, nrec, nbin, nnegate, napp, ncomp, ntable, ngen, nbind, ncond, nbad, Below, Inside, PostOrder}
 use Rattle.front_typing.specs.declared.TypeHead.{TypeHead}
 use Rattle.front_typing.specs.declared.TypeHead.the-variants.{Wrong, Number, Truth, Record, Row, Table, Coll}
 use Rattle.front_typing.specs.NodeTypes.{Rule, typesBy, behindQual, behindQuals, tableType, typeBy, nodeType}
-use Rattle.front_typing.specs.Shapes.{Known, fits, isNumber, isTruth, collectionOf, partShape, fieldShape, elementShape, stands, twoNumbers, twoTruths, binShape, truthShape, compShape, allFit, qualFits, qualsFit, shapeBy}
+use Rattle.front_typing.specs.Shapes.{Known, fits, isNumber, isTruth, collectionOf, partShape, fieldShape, elementShape, stands, twoNumbers, twoTruths, binShape, truthShape, alikeShape, choiceShape, choiceOf, appShape, compShape, allFit, qualFits, qualsFit, shapeBy}
 use Rattle.front_typing.proofs.NodeTypes.{node-type}
 
 -- what is known of the tables is right
@@ -67,6 +67,72 @@ unfolding consType
 cons-from wrong r ts e = absurd (let z : _≡_ {A = ℕ} 0 1 = cc in omega arith)
 cons-from (has v) wrongs ts e = absurd (let z : _≡_ {A = ℕ} 0 1 = cc in omega arith)
 cons-from (has v) (hass ws) ts e = (v, ws, refl, refl, cc)
+
+-- the type of a choice's second and third terms, where they are alike
+alike : Typed → Typed → Typed
+alike wrong w = wrong
+alike (has number) w = ofNumber w (has number)
+alike (has truth) w = ofTruth w (has truth)
+alike (has (record′ ts)) w = wrong
+alike (has (coll c t)) w = wrong
+
+no-truth : (u : Typed) → ofTruth u wrong ≡ wrong
+unfolding ofTruth
+no-truth wrong = refl
+no-truth (has number) = refl
+no-truth (has truth) = refl
+no-truth (has (record′ ts)) = refl
+no-truth (has (coll c t)) = refl
+
+alike-none : (v : Typed) → alike v wrong ≡ wrong
+unfolding alike ofNumber ofTruth
+alike-none wrong = refl
+alike-none (has number) = refl
+alike-none (has truth) = refl
+alike-none (has (record′ ts)) = refl
+alike-none (has (coll c t)) = refl
+
+choice-type : (a b c : Ty) → choiceType a b c ≡ ofTruth (has a) (alike (has b) (has c))
+unfolding choiceType alike
+choice-type a number c = refl
+choice-type a truth c = refl
+choice-type a (record′ ts) c = sym (no-truth (has a))
+choice-type a (coll d t) c = sym (no-truth (has a))
+
+-- a choice's type, by the types of its terms: three, or there is none
+abbrev chosen : Typeds → Typed
+chosen r = allTyped r (appType choice)
+
+three-chosen : (u v w : Typed) → chosen (consType u (consType v (consType w (hass ynil)))) ≡ ofTruth u (alike v w)
+unfolding allTyped consType appType ofThree ofTruth alike
+three-chosen wrong v w = refl
+three-chosen (has a) wrong w = sym (no-truth (has a))
+three-chosen (has a) (has b) wrong = sym (ap (ofTruth (has a)) (alike-none (has b)) ∙ no-truth (has a))
+three-chosen (has a) (has b) (has c) = choice-type a b c
+
+none-chosen : chosen (hass ynil) ≡ wrong
+unfolding allTyped appType ofThree
+none-chosen = refl
+
+one-chosen : (u : Typed) → chosen (consType u (hass ynil)) ≡ wrong
+unfolding allTyped consType appType ofThree
+one-chosen wrong = refl
+one-chosen (has a) = refl
+
+two-chosen : (u v : Typed) → chosen (consType u (consType v (hass ynil))) ≡ wrong
+unfolding allTyped consType appType ofThree
+two-chosen wrong v = refl
+two-chosen (has a) wrong = refl
+two-chosen (has a) (has b) = refl
+
+many-chosen : (u v w x : Typed) (r : Typeds) → chosen (consType u (consType v (consType w (consType x r)))) ≡ wrong
+unfolding allTyped consType appType ofThree
+many-chosen wrong v w x r = refl
+many-chosen (has a) wrong w x r = refl
+many-chosen (has a) (has b) wrong x r = refl
+many-chosen (has a) (has b) (has c) wrong r = refl
+many-chosen (has a) (has b) (has c) (has d) wrongs = refl
+many-chosen (has a) (has b) (has c) (has d) (hass ts) = refl
 
 module _ (J : Rule) (T : Tables) (N : Nodes) where
   abbrev τ : ℕ → Typed
@@ -183,6 +249,39 @@ module _ (J : Rule) (T : Tables) (N : Nodes) where
   unfolding truthShape
   rep-truth a u p = subst (Rep (pick (isTruth a) Truth Wrong)) (sym (truth-is a u p (has truth))) (rep-pick (isTruth a) Truth (has truth) refl)
 
+  -- ---- a choice
+  rep-alike : (b c : TypeHead) (v w : Typed) → Rep b v → Rep c w → Rep (alikeShape b c) (alike v w)
+  unfolding alikeShape alike pick
+  rep-alike Wrong c v w p q = ap (λ x. alike x w) p
+  rep-alike Number c v w p q = subst (Rep (pick (isNumber c) Number Wrong)) (sym (ap (λ x. alike x w) p)) (rep-number c w q)
+  rep-alike Truth c v w p q = subst (Rep (truthShape c)) (sym (ap (λ x. alike x w) p)) (rep-truth c w q)
+  rep-alike (Record j) c v w p q = ap (λ x. alike x w) (p .4)
+  rep-alike (Row k) c v w p q = ap (λ x. alike x w) (p .1)
+  rep-alike (Table k) c v w p q = ap (λ x. alike x w) (p .1)
+  rep-alike (Coll j) c v w p q = ap (λ x. alike x w) (p .6)
+
+  rep-choice : (a b c : TypeHead) (u v w : Typed) → Rep a u → Rep b v → Rep c w → Rep (choiceShape a b c) (ofTruth u (alike v w))
+  unfolding choiceShape
+  rep-choice a b c u v w p q r =
+      subst (Rep (pick (isTruth a) (alikeShape b c) Wrong)) (sym (truth-is a u p (alike v w))) (rep-pick (isTruth a) (alikeShape b c) (alike v w) (rep-alike b c v w q r))
+
+  within-either : (i : ℕ) (t : Bool) (a b : TypeHead) → Within i a → Within i b → Within i (pick t a b)
+  unfolding pick
+  within-either i true a b h k = h
+  within-either i false a b h k = k
+
+  within-choice : (i : ℕ) (σ : ℕ → TypeHead) (cs : List ℕ) → Within i (choiceOf σ cs)
+  unfolding choiceOf choiceShape alikeShape truthShape
+  within-choice i σ [] = tt
+  within-choice i σ (a ∷ []) = tt
+  within-choice i σ (a ∷ b ∷ []) = tt
+  within-choice i σ (a ∷ b ∷ c ∷ []) = within-pick i (isTruth (σ a)) (alikeShape (σ b) (σ c)) (within-either i (isNumber (σ b)) (pick (isNumber (σ c)) Number Wrong) (pick (isTruth (σ b)) (truthShape (σ c)) Wrong) (within-pick i (isNumber (σ c)) Number tt) (within-pick i (isTruth (σ b)) (truthShape (σ c)) (within-pick i (isTruth (σ c)) Truth tt)))
+  within-choice i σ (a ∷ b ∷ c ∷ d ∷ cs) = tt
+
+  within-app : (f : Fun) (i : ℕ) (σ : ℕ → TypeHead) (cs : List ℕ) → Within i (appShape f σ cs)
+  unfolding appShape
+  within-app choice i σ cs = within-choice i σ cs
+
   -- ---- a comprehension's node i
   gathered : (c : Collection) (i h : ℕ) (cs : List ℕ) (a : TypeHead) → N i ≡ ncomp (of c) cs h → Rep a (τ h) → (u : Typed) → τ h ≡ u → Rep (pick (fits a) (Coll i) Wrong) (gathers c u)
   unfolding gathers pick isTyped
@@ -231,6 +330,7 @@ module _ (J : Rule) (T : Tables) (N : Nodes) where
       qual-is m c (nname x d) l h t = refl
       qual-is m c (nfield k a) l h t = refl
       qual-is m c (nrec cs) l h t = refl
+      qual-is m c (napp f cs) l h t = refl
       qual-is m c (nbin o a b) l h t = refl
       qual-is m c (nnegate a) l h t = refl
       qual-is m c (ncomp n cs k) l h t = refl
@@ -268,6 +368,21 @@ module _ (J : Rule) (T : Tables) (N : Nodes) where
           go : (r : Typeds) → typesBy τ cs ≡ r → Rep (pick (areTyped r) (Record i) Wrong) (record″ r)
           go wrongs q = refl
           go (hass ts) q = (cs, ts, e, q, refl)
+
+      -- the terms of an operator
+      rep-chosen : (cs : List ℕ) → Below i cs → Rep (choiceOf σ cs) (chosen (typesBy τ cs))
+      unfolding choiceOf typesBy Below
+      rep-chosen [] b = none-chosen
+      rep-chosen (a ∷ []) b = one-chosen (τ a)
+      rep-chosen (a ∷ c ∷ []) b = two-chosen (τ a) (τ c)
+      rep-chosen (a ∷ c ∷ d ∷ []) b =
+          subst (Rep (choiceShape (σ a) (σ c) (σ d))) (sym (three-chosen (τ a) (τ c) (τ d)))
+          (rep-choice (σ a) (σ c) (σ d) (τ a) (τ c) (τ d) (good a (b .0) .0) (good c (b .1 .0) .0) (good d (b .1 .1 .0) .0))
+      rep-chosen (a ∷ c ∷ d ∷ e ∷ cs) b = many-chosen (τ a) (τ c) (τ d) (τ e) (typesBy τ cs)
+
+      rep-app : (f : Fun) (cs : List ℕ) → Below i cs → Rep (appShape f σ cs) (allTyped (typesBy τ cs) (appType f))
+      unfolding appShape
+      rep-app choice cs b = rep-chosen cs b
 
       -- a part of a record
       rep-part : (cs : List ℕ) (k : ℕ) (ts : Tys) → Below i cs → typesBy τ cs ≡ hass ts → Rep (partShape σ k cs) (typeAt k ts) × Within i (partShape σ k cs)
@@ -349,6 +464,7 @@ module _ (J : Rule) (T : Tables) (N : Nodes) where
       shape-by (nname x d) e h = before x h
       shape-by (nfield k c) e h = let g = before c h in rep-field k (σ c) (τ c) (g .0) (g .1)
       shape-by (nrec cs) e h = (rep-record cs e h, within-pick i (allFit σ cs) (Record i) (omega arith))
+      shape-by (napp f cs) e h = (rep-app f cs h, within-app f i σ cs)
       shape-by (nbin o a b) e h = (rep-bin o (σ a) (σ b) (τ a) (τ b) (good a (h .0) .0) (good b (h .1) .0), within-bin o (σ a) (σ b))
       shape-by (nnegate c) e h = (rep-truth (σ c) (τ c) (good c h .0), within-truth (σ c))
       shape-by (ncomp m cs k) e h = (rep-comp-at m cs k e (h .0) (h .1), within-pick i (qualsFit J I N σ m cs) (compShape i m (σ k)) (within-comp m i (σ k)))

@@ -8,8 +8,8 @@ use lib.ListN.{length}
 use Rattle.spec_calculus.specs.Lists.{pick}
 use Rattle.spec_calculus.specs.Syntax.{Collection, Monoid}
 use Rattle.spec_calculus.specs.Value.{Tables, kindOf, columnsOf}
-use Rattle.spec_checks.specs.Types.{Typed, wrong, has, Typeds, hass, ynil, record′, coll, cells, number, truth, fieldType, ofTruth, binType, compType, ranges, typedAs, record″, consType}
-use Rattle.front_theory.specs.NodeTable.{Node, Nodes, nnum, ntruth, nname, nfield, nrec, nbin, nnegate, ncomp, ntable, ngen, nbind, ncond, nbad}
+use Rattle.spec_checks.specs.Types.{Typed, wrong, has, Typeds, hass, ynil, record′, coll, cells, number, truth, fieldType, ofTruth, binType, appType, compType, ranges, typedAs, record″, allTyped, consType}
+use Rattle.front_theory.specs.NodeTable.{Node, Nodes, nnum, ntruth, nname, nfield, nrec, nbin, nnegate, napp, ncomp, ntable, ngen, nbind, ncond, nbad}
 
 -- which collections' generators may stand in a monoid
 abbrev pub Rule : Type 0
@@ -29,6 +29,7 @@ behindQual J τ m (ntruth b) t = wrong
 behindQual J τ m (nname x d) t = wrong
 behindQual J τ m (nfield k c) t = wrong
 behindQual J τ m (nrec cs) t = wrong
+behindQual J τ m (napp f cs) t = wrong
 behindQual J τ m (nbin o a b) t = wrong
 behindQual J τ m (nnegate c) t = wrong
 behindQual J τ m (ncomp n cs h) t = wrong
@@ -50,6 +51,7 @@ typeBy J T N τ (ntruth b) = has truth
 typeBy J T N τ (nname x d) = τ x
 typeBy J T N τ (nfield k c) = fieldType k (τ c)
 typeBy J T N τ (nrec cs) = record″ (typesBy τ cs)
+typeBy J T N τ (napp f cs) = allTyped (typesBy τ cs) (appType f)
 typeBy J T N τ (nbin o a b) = binType o (τ a) (τ b)
 typeBy J T N τ (nnegate c) = ofTruth (τ c) (has truth)
 typeBy J T N τ (ncomp m cs h) = compType m (behindQuals J N τ m cs (τ h))

@@ -11,7 +11,7 @@ use Rattle.spec_encoding.specs.Data as Data
 use Rattle.spec_checks.specs.Types.{mayStand}
 use Rattle.front_nodes.specs.NodeTable.{childrenOf, qualifiersOf, nodesOf}
 use Rattle.base_syntax.specs.MonoidWord.{monoidOf}
-use Rattle.front_theory.specs.NodeTable.{Node, nnum, ntruth, nname, nfield, nrec, nbin, nnegate, ncomp, ntable, ngen, nbind, ncond, nbad}
+use Rattle.front_theory.specs.NodeTable.{Node, nnum, ntruth, nname, nfield, nrec, nbin, nnegate, napp, ncomp, ntable, ngen, nbind, ncond, nbad}
 use Rattle.base_scratch.specs.Map.{shapesAt}
 use Rattle.base_tables.specs.Description.{collectionIn, columnsIn}
 use Rattle.front_typing.specs.declared.TypeHead.{TypeHead}
@@ -61,6 +61,7 @@ Plain (ntruth b) = Unit {0}
 Plain (nname x d) = Unit {0}
 Plain (nfield k c) = Unit {0}
 Plain (nrec cs) = ⊥
+Plain (napp f cs) = Unit {0}
 Plain (nbin o a b) = Unit {0}
 Plain (nnegate c) = Unit {0}
 Plain (ncomp m cs h) = ⊥

@@ -5,8 +5,8 @@ use Prim.Native.Nat.{ℕ, zero, suc}
 use lib.Dec.{ltb, eqb}
 use Rattle.spec_calculus.specs.Lists.{pick}
 use Rattle.spec_calculus.specs.Syntax as Sy
-use Rattle.spec_calculus.specs.Syntax.{Collection, list, Monoid, of, sum, max, some, all, Bin, plus, minus, times, equal, less, and, or}
-use Rattle.front_theory.specs.NodeTable.{Node, Nodes, nnum, ntruth, nname, nfield, nrec, nbin, nnegate, ncomp, ntable, ngen, nbind, ncond, nbad}
+use Rattle.spec_calculus.specs.Syntax.{Collection, list, Monoid, of, sum, max, some, all, Bin, plus, minus, times, equal, less, and, or, Fun, choice}
+use Rattle.front_theory.specs.NodeTable.{Node, Nodes, nnum, ntruth, nname, nfield, nrec, nbin, nnegate, napp, ncomp, ntable, ngen, nbind, ncond, nbad}
 use Rattle.front_typing.specs.declared.TypeHead.{TypeHead}
 use Rattle.front_typing.specs.declared.TypeHead.the-variants.{Wrong, Number, Truth, Record, Row, Table, Coll}
 use Rattle.front_typing.specs.NodeTypes.{Rule}
@@ -42,6 +42,7 @@ partsOf (nrec cs) = cs
 partsOf (nnum z) = []
 partsOf (ntruth b) = []
 partsOf (nname x d) = []
+partsOf (napp f cs) = []
 partsOf (nfield k c) = []
 partsOf (nbin o a b) = []
 partsOf (nnegate c) = []
@@ -67,6 +68,7 @@ collectionOf (ntruth b) = list
 collectionOf (nname x d) = list
 collectionOf (nfield k c) = list
 collectionOf (nrec cs) = list
+collectionOf (napp f cs) = list
 collectionOf (nbin o a b) = list
 collectionOf (nnegate c) = list
 collectionOf (ntable k) = list
@@ -82,6 +84,7 @@ headOf (ntruth b) = 0
 headOf (nname x d) = 0
 headOf (nfield k c) = 0
 headOf (nrec cs) = 0
+headOf (napp f cs) = 0
 headOf (nbin o a b) = 0
 headOf (nnegate c) = 0
 headOf (ntable k) = 0
@@ -152,6 +155,24 @@ truthShape a = pick (isTruth a) Truth Wrong
 abbrev pub numberShape : TypeHead → TypeHead
 numberShape a = pick (isNumber a) Number Wrong
 
+-- "two numbers or two truths" (document 02, E2)
+unfoldable pub alikeShape : TypeHead → TypeHead → TypeHead
+alikeShape b c = pick (isNumber b) (numberShape c) (pick (isTruth b) (truthShape c) Wrong)
+
+unfoldable pub choiceShape : TypeHead → TypeHead → TypeHead → TypeHead
+choiceShape a b c = pick (isTruth a) (alikeShape b c) Wrong
+
+-- "three terms"
+unfoldable pub choiceOf : (ℕ → TypeHead) → List ℕ → TypeHead
+choiceOf σ [] = Wrong
+choiceOf σ (a ∷ []) = Wrong
+choiceOf σ (a ∷ b ∷ []) = Wrong
+choiceOf σ (a ∷ b ∷ c ∷ []) = choiceShape (σ a) (σ b) (σ c)
+choiceOf σ (a ∷ b ∷ c ∷ d ∷ cs) = Wrong
+
+unfoldable pub appShape : Fun → (ℕ → TypeHead) → List ℕ → TypeHead
+appShape choice σ cs = choiceOf σ cs
+
 -- the collection that node i makes of heads like a
 abbrev pub gathersShape : ℕ → TypeHead → TypeHead
 gathersShape i a = pick (fits a) (Coll i) Wrong
@@ -179,6 +200,7 @@ qualFits J I N σ m (ntruth b) = false
 qualFits J I N σ m (nname x d) = false
 qualFits J I N σ m (nfield k c) = false
 qualFits J I N σ m (nrec cs) = false
+qualFits J I N σ m (napp f cs) = false
 qualFits J I N σ m (nbin o a b) = false
 qualFits J I N σ m (nnegate c) = false
 qualFits J I N σ m (ncomp n cs h) = false
@@ -196,6 +218,7 @@ shapeBy J I N σ i (ntruth b) = Truth
 shapeBy J I N σ i (nname x d) = σ x
 shapeBy J I N σ i (nfield k c) = fieldShape I N σ k (σ c)
 shapeBy J I N σ i (nrec cs) = pick (allFit σ cs) (Record i) Wrong
+shapeBy J I N σ i (napp f cs) = appShape f σ cs
 shapeBy J I N σ i (nbin o a b) = binShape o (σ a) (σ b)
 shapeBy J I N σ i (nnegate c) = truthShape (σ c)
 shapeBy J I N σ i (ncomp m cs h) = pick (qualsFit J I N σ m cs) (compShape i m (σ h)) Wrong

@@ -4,17 +4,18 @@ ghost use mathlib.Core.Bool.{true, false};
 ghost use Prim.Native.Nat.{_+_, _≤_, _<_};
 ghost use lib.ListN.{getD};
 ghost use Rattle.spec_checks.specs.Types.{mayStand};
-ghost use Rattle.front_nodes.specs.NodeTable.{nodesOf};
+ghost use Rattle.front_nodes.specs.NodeTable.{childrenOf, nodesOf};
 ghost use Rattle.base_syntax.specs.MonoidWord.{monoidOf};
-ghost use Rattle.base_syntax.specs.Numbers.{binOf};
+ghost use Rattle.base_syntax.specs.Numbers.{binOf, funOf};
 ghost use Rattle.base_tables.specs.Description.{collectionNumber};
-ghost use Rattle.front_typing.specs.Shapes.{classOf, fits, isNumber, isTruth, collects, collectionOf, headOf, cellShape, numberShape, truthShape, gathersShape, twoNumbers, twoTruths, binShape, compShape};
+ghost use Rattle.front_typing.specs.Shapes.{classOf, fits, isNumber, isTruth, collects, collectionOf, headOf, cellShape, numberShape, truthShape, gathersShape, twoNumbers, twoTruths, binShape, partShape, choiceShape, choiceOf, appShape, compShape};
 ghost use Rattle.front_typing.specs.ShapeWords.{numbered as numberedWord, shapeWord, shapeIn, shapesIn, collectionBy, rules, MakerPost, tableAt, partAt, fieldAt, elementAt, partsFit, mayRange, qualFitsAt, qualsFitAt, recordAt, compAt, shapeOf, shapedUpTo, Judges};
 use base_scratch::SHAPES;
 use base_scratch::TABLES;
 use base_scratch::load;
 use base_scratch::load_at;
 use base_scratch::store;
+use base_syntax::Fun;
 use base_syntax::Monoid;
 use base_syntax::Op;
 use front_nodes::Found;
@@ -157,15 +158,22 @@ fn maker(s: &[u64], j: usize) -> Made
     }
 }
 
+// Term k of the record or operator at node i.
+fn operand(s: &[u64], i: usize, k: usize) -> TypeHead
+    ensures { λ r. ⌜ r ≡ partShape (shapesIn (now (s .entry))) k (childrenOf (now (s .entry)) i) ⌝ }
+{
+    match front_nodes::child(s, i, k) {
+        Found::At(c) => shape_at(s, c),
+        Found::Nothing => TypeHead::Wrong,
+    }
+}
+
 // Part k of the record that node j makes.
 fn part(s: &[u64], j: usize, k: usize) -> TypeHead
     ensures { λ r. ⌜ r ≡ partAt (now (s .entry)) j k ⌝ }
 {
     match maker(s, j) {
-        Made::Record => match front_nodes::child(s, j, k) {
-            Found::At(c) => shape_at(s, c),
-            Found::Nothing => TypeHead::Wrong,
-        },
+        Made::Record => operand(s, j, k),
         Made::Comp(_, _) => TypeHead::Wrong,
         Made::Other => TypeHead::Wrong,
     }
@@ -329,6 +337,39 @@ fn binary(o: Op, a: TypeHead, b: TypeHead) -> TypeHead
     }
 }
 
+// "a truth, then two numbers or two truths" (document 02, E2)
+fn choice(a: TypeHead, b: TypeHead, c: TypeHead) -> TypeHead
+    ensures { λ r. ⌜ r ≡ choiceShape a b c ⌝ }
+{
+    if is_truth(a) {
+        if is_number(b) {
+            return number(c);
+        }
+        if is_truth(b) {
+            return truth(c);
+        }
+    }
+    TypeHead::Wrong
+}
+
+// The choice at node i, of no more than three terms.
+fn choice_at(s: &[u64], i: usize) -> TypeHead
+    ensures { λ r. ⌜ r ≡ choiceOf (shapesIn (now (s .entry))) (childrenOf (now (s .entry)) i) ⌝ }
+{
+    match front_nodes::child(s, i, 3) {
+        Found::At(_) => TypeHead::Wrong,
+        Found::Nothing => choice(operand(s, i, 0), operand(s, i, 1), operand(s, i, 2)),
+    }
+}
+
+fn operator(s: &[u64], i: usize, f: Fun) -> TypeHead
+    ensures { λ r. ⌜ r ≡ appShape (funOf f) (shapesIn (now (s .entry))) (childrenOf (now (s .entry)) i) ⌝ }
+{
+    match f {
+        Fun::Choice => choice_at(s, i),
+    }
+}
+
 // ---- records and comprehensions
 
 // Whether every part of the record at node i has a type.
@@ -441,6 +482,7 @@ fn shape_of(s: &[u64], i: usize, rule: bool) -> TypeHead
         QueryNode::Gen(c) => element(s, shape_at(s, c)),
         QueryNode::Bind(c) => shape_at(s, c),
         QueryNode::Cond(c) => truth(shape_at(s, c)),
+        QueryNode::Operator(f) => operator(s, i, f),
         QueryNode::Bad => TypeHead::Wrong,
     }
 }

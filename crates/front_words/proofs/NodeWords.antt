@@ -11,8 +11,8 @@ use lib.Seq.{getD-set-same, set-out}
 use lib.Dec.{eqb, leb}
 use borrow.Author.Tests.{le-leb, lt-leb, lt-ltb, le-ltb}
 use Rattle.spec_calculus.specs.Lists.{pick}
-use Rattle.spec_calculus.specs.Syntax.{Term, Terms, Quals, num, truth, name, field, rec, bin, negate, comp, table, tnil, tcons, qnil, gen, bind, cond}
-use Rattle.spec_encoding.specs.Reader.{Kind, kinds, unknown, number, truthK, nameK, fieldK, record′, not, tableK, comprehension, generator, binding, condition, two-terms}
+use Rattle.spec_calculus.specs.Syntax.{choice, Term, Terms, Quals, num, truth, name, field, rec, bin, negate, app, comp, table, tnil, tcons, qnil, gen, bind, cond}
+use Rattle.spec_encoding.specs.Reader.{Kind, kinds, unknown, number, truthK, nameK, fieldK, record′, not, tableK, comprehension, generator, binding, condition, choiceK, two-terms}
 use Rattle.base_scratch.specs.Map.{nodesAt, bindersAt, names}
 use Rattle.front_words.specs.Binders.{binderWord}
 use Rattle.front_words.specs.NodeWord.{kindOf, argOf, startOf, depthOf, pack, nodeWord}
@@ -52,6 +52,7 @@ module _ (s s′ : List ℕ) (b : ℕ) (some : 1 ≤ b) (same : (i : ℕ) → i 
     term-by-same i h nameK = ap name (arg-same i h)
     term-by-same i h fieldK = ap₂ field (arg-same i h) (hT i (omega arith))
     term-by-same i h record′ = ap rec (ap (λ (a : ℕ). L′ a i tnil) (start-same i h) ∙ hL (startAt s i) i tnil (omega arith))
+    term-by-same i h choiceK = ap (app choice) (ap (λ (a : ℕ). L′ a i tnil) (start-same i h) ∙ hL (startAt s i) i tnil (omega arith))
     term-by-same i h (two-terms o) = ap₂ (bin o) (ap T′ (start-same (i - 1) (omega arith)) ∙ hT (startAt s (i - 1)) (omega arith)) (hT i (omega arith))
     term-by-same i h not = ap negate (hT i (omega arith))
     term-by-same i h comprehension =
@@ -72,6 +73,7 @@ module _ (s s′ : List ℕ) (b : ℕ) (some : 1 ≤ b) (same : (i : ℕ) → i 
     qual-by-same i h nameK qs = refl
     qual-by-same i h fieldK qs = refl
     qual-by-same i h record′ qs = refl
+    qual-by-same i h choiceK qs = refl
     qual-by-same i h (two-terms o) qs = refl
     qual-by-same i h not qs = refl
     qual-by-same i h comprehension qs = refl
@@ -125,6 +127,8 @@ module _ (s s′ : List ℕ) (b : ℕ) (same : (i : ℕ) → i < b → nodeWord 
         let e = same (a + nodes t) (omega arith) in (laid-same t d a (omega arith) (L .0), node-same e (L .1), ap argOf e ∙ L .2)
     laid-same (rec ts) d a h L =
         let e = same (a + nodesL ts) (omega arith) in (laid-same-terms ts d a (omega arith) (L .0), node-same e (L .1), ap argOf e ∙ L .2)
+    laid-same (app f ts) d a h L =
+        let e = same (a + nodesL ts) (omega arith) in (laid-same-terms ts d a (omega arith) (L .0), node-same e (L .1), ap argOf e ∙ L .2)
     laid-same (bin o t u) d a h L =
         (laid-same t d a (omega arith) (L .0), laid-same u d (a + nodes t) (omega arith) (L .1), node-same (same (a + nodes t + nodes u) (omega arith)) (L .2))
     laid-same (negate t) d a h L = (laid-same t d a (omega arith) (L .0), node-same (same (a + nodes t) (omega arith)) (L .1))
@@ -162,6 +166,7 @@ some-nodes (truth b) = omega arith
 some-nodes (name x) = omega arith
 some-nodes (field i t) = omega arith
 some-nodes (rec ts) = omega arith
+some-nodes (app f ts) = omega arith
 some-nodes (bin o t u) = omega arith
 some-nodes (negate t) = omega arith
 some-nodes (comp m qs h) = omega arith
@@ -178,6 +183,7 @@ laid-start (truth b) s d a L = last-start (L .0) (omega arith) _ (omega arith)
 laid-start (name x) s d a L = last-start (L .0) (omega arith) _ (omega arith)
 laid-start (field i t) s d a L = last-start (L .1) (omega arith) _ (omega arith)
 laid-start (rec ts) s d a L = last-start (L .1) (omega arith) _ (omega arith)
+laid-start (app f ts) s d a L = last-start (L .1) (omega arith) _ (omega arith)
 laid-start (bin o t u) s d a L = last-start (L .2) (omega arith) _ (omega arith)
 laid-start (negate t) s d a L = last-start (L .1) (omega arith) _ (omega arith)
 laid-start (comp m qs h) s d a L = last-start (L .2) (omega arith) _ (omega arith)
@@ -266,6 +272,10 @@ mutual
   laid-tree (rec ts) s d a L f h =
       node-tree (L .1) _ (omega arith) f (omega arith)
       (λ g p. ap rec (ap (λ (x : ℕ). termsAt g s x (a + nodesL ts) tnil) (last-start (L .1) (omega arith) _ refl) ∙
+      laid-terms ts s d a a (omega arith) (L .0) tnil (λ k l. terms-end s a (ontoL ts tnil) k ∙ onto-nil ts) g (omega arith)))
+  laid-tree (app choice ts) s d a L f h =
+      node-tree (L .1) _ (omega arith) f (omega arith)
+      (λ g p. ap (app choice) (ap (λ (x : ℕ). termsAt g s x (a + nodesL ts) tnil) (last-start (L .1) (omega arith) _ refl) ∙
       laid-terms ts s d a a (omega arith) (L .0) tnil (λ k l. terms-end s a (ontoL ts tnil) k ∙ onto-nil ts) g (omega arith)))
   laid-tree (bin o t u) s d a L f h =
       node-tree (L .2) _ (omega arith) f (omega arith)

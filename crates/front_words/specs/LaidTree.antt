@@ -4,8 +4,8 @@ use mathlib.Core.Path.{_≡_}
 use mathlib.Core.List.{List}
 use Prim.Native.Nat.{ℕ, suc, _+_, _≤_}
 use Rattle.spec_calculus.specs.Lists.{pick}
-use Rattle.spec_calculus.specs.Syntax.{Term, Terms, Quals, num, truth, name, field, rec, bin, negate, comp, table, tnil, tcons, qnil, gen, bind, cond}
-use Rattle.spec_encoding.specs.Reader.{Kind, number, truthK, nameK, fieldK, record′, not, tableK, comprehension, generator, binding, condition, two-terms}
+use Rattle.spec_calculus.specs.Syntax.{Fun, choice, Term, Terms, Quals, num, truth, name, field, rec, bin, negate, app, comp, table, tnil, tcons, qnil, gen, bind, cond}
+use Rattle.spec_encoding.specs.Reader.{Kind, number, truthK, nameK, fieldK, record′, not, tableK, comprehension, generator, binding, condition, choiceK, two-terms}
 use Rattle.front_words.specs.NodeWord.{startOf, depthOf, nodeWord}
 use Rattle.front_words.specs.NodeTree.{numberOf, monoidAt, kindAt, argAt}
 
@@ -17,6 +17,7 @@ unfoldable mutual
   nodes (name x) = 1
   nodes (field i t) = nodes t + 1
   nodes (rec ts) = nodesL ts + 1
+  nodes (app f ts) = nodesL ts + 1
   nodes (bin o t u) = nodes t + nodes u + 1
   nodes (negate t) = nodes t + 1
   nodes (comp m qs h) = nodesQ qs + nodes h + 1
@@ -36,6 +37,10 @@ unfoldable pub countL : Terms → ℕ
 countL tnil = 0
 countL (tcons t ts) = suc (countL ts)
 
+-- the kind of each of document 02's operators
+abbrev pub operator : Fun → Kind
+operator choice = choiceK
+
 -- node i: its kind, the first node of its subtree, and how many comprehensions are around it
 pub record Node (s : List ℕ) (d a i : ℕ) (K : Kind) : Type 0 where
   pub kind : kindAt s i ≡ K
@@ -51,6 +56,7 @@ abbrev mutual
   Laid s d a (name x) = Node s d a a nameK × (argAt s a ≡ x)
   Laid s d a (field i t) = Laid s d a t × Node s d a (a + nodes t) fieldK × (argAt s (a + nodes t) ≡ i)
   Laid s d a (rec ts) = LaidL s d a ts × Node s d a (a + nodesL ts) record′ × (argAt s (a + nodesL ts) ≡ countL ts)
+  Laid s d a (app f ts) = LaidL s d a ts × Node s d a (a + nodesL ts) (operator f) × (argAt s (a + nodesL ts) ≡ countL ts)
   Laid s d a (bin o t u) = Laid s d a t × Laid s d (a + nodes t) u × Node s d a (a + nodes t + nodes u) (two-terms o)
   Laid s d a (negate t) = Laid s d a t × Node s d a (a + nodes t) not
   Laid s d a (comp m qs h) =

@@ -8,8 +8,8 @@ use lib.Dec.{leb, ltb, eqb}
 use lib.ListN.{getD}
 use lib.IntN.{ℤ, pos, negsuc}
 use Rattle.spec_calculus.specs.Lists.{pick}
-use Rattle.spec_calculus.specs.Syntax.{Monoid, Term, Terms, Quals, num, truth, name, field, rec, bin, negate, comp, table, tnil, tcons, qnil, gen, bind, cond}
-use Rattle.spec_encoding.specs.Reader.{Kind, kinds, unknown, number, truthK, nameK, fieldK, record′, not, tableK, comprehension, generator, binding, condition, two-terms}
+use Rattle.spec_calculus.specs.Syntax.{Monoid, choice, Term, Terms, Quals, num, truth, name, field, rec, bin, negate, app, comp, table, tnil, tcons, qnil, gen, bind, cond}
+use Rattle.spec_encoding.specs.Reader.{Kind, kinds, unknown, number, truthK, nameK, fieldK, record′, not, tableK, comprehension, generator, binding, condition, choiceK, two-terms}
 use Rattle.base_syntax.specs.MonoidWord.{monoidOf}
 use Rattle.base_syntax.specs.Numbers.{monoidNumbered}
 use Rattle.front_words.specs.NodeWord.{kindOf, argOf, startOf, nodeWord}
@@ -39,6 +39,7 @@ termBy T L Q s i truthK = truth (eqb (argAt s i) 1)
 termBy T L Q s i nameK = name (argAt s i)
 termBy T L Q s i fieldK = field (argAt s i) (T i)
 termBy T L Q s i record′ = rec (L (startAt s i) i tnil)
+termBy T L Q s i choiceK = app choice (L (startAt s i) i tnil)
 termBy T L Q s i (two-terms o) = bin o (T (startAt s (i - 1))) (T i)
 termBy T L Q s i not = negate (T i)
 termBy T L Q s i comprehension = comp (monoidAt (argAt s i)) (Q (startAt s i) (startAt s (i - 1)) qnil) (T i)
@@ -58,6 +59,7 @@ qualBy T s i truthK qs = qs
 qualBy T s i nameK qs = qs
 qualBy T s i fieldK qs = qs
 qualBy T s i record′ qs = qs
+qualBy T s i choiceK qs = qs
 qualBy T s i (two-terms o) qs = qs
 qualBy T s i not qs = qs
 qualBy T s i comprehension qs = qs

@@ -7,10 +7,10 @@ use Rattle.front_nodes.proofs.ReaderExits.{recast, looked-inside}
 use Rattle.front_resolve.specs.Place.{under}
 use Rattle.front_resolve.proofs.Exits.{picks-cast}
 use Rattle.front_emit.proofs.WriterExits.{moved, movedF, movedQ, one-done, qual-source, qual-condition}
-use Rattle.front_emit.proofs.TermCalls.{term-place, term-done, has-place, two-below, not-below, comp-below, ends, ends-later, two-first, two-second, two-done, not-first, not-done, record-first, record-done, field-first, FieldsLeft, left-all, left-none, left-less, one-has-place, one-first}
+use Rattle.front_emit.proofs.TermCalls.{term-place, term-done, has-place, two-below, not-below, comp-below, ends, ends-later, two-first, two-second, two-done, not-first, not-done, headed-small, record-first, record-done, field-first, FieldsLeft, left-all, left-none, left-less, one-has-place, one-first}
 use Rattle.front_emit.proofs.QualifierCalls.{copy-ok, copy-starts, copy-done, comp-first, comp-second, comp-written, quals-end, quals-first, quals-second, quals-written, qual-skipped, qual-silent, qual-source-first, qual-condition-first}
 use Rattle.front_emit.proofs.ConditionCalls.{source-comp, source-table, source-never, spliced-written, table-written, never-written, single-starts, both-first, some-first, split-cast, yields-starts, ClauseLeft, left-first, left-source, left-sourced, left-condition, left-one, left-and, left-some}
-use Rattle.front_emit.proofs.LeafForms.{simple-starts, simple-written}
+use Rattle.front_emit.proofs.LeafForms.{heading-terms, heading-other, simple-starts, simple-written}
 use borrow.Author.Needs.{needs}
 use Prim.Native.Nat.{ℕ, _<_}
 use borrow.Fn.Kinds.{In}
@@ -58,6 +58,7 @@ use Rattle.front_emit.proofs.below.Reads as below-reads
 use Rattle.front_emit.proofs.close.Reads as close-reads
 use Rattle.front_emit.proofs.copy.Reads as copy-reads
 use Rattle.front_emit.proofs.generator.Reads as generator-reads
+use Rattle.front_emit.proofs.heading_of.Reads as heading-of-reads
 use Rattle.base_syntax.proofs.Monoid.bits.Reads as bits-reads
 use Rattle.front_emit.proofs.never.Reads as never-reads
 use Rattle.base_syntax.proofs.Op.number.Reads as number-reads
@@ -322,18 +323,20 @@ pub +binary+clause+comprehension+copied+emit+fields+negated+placed+qualifier+qua
     (λ c κs. let E = ends (c .before .before .before .before .below .ensures) (not-first (c .before .before .before .before .before .before .before .pre .1 .0) (c .before .before .before .before .before .before .before .pre .1 .1) (c .before .before .before .before .below .ensures) .room) (moved (c .before .before .before .emit .ensures)) in (omega arith, omega arith, E .0, E .1))
     (λ c. search needs)
     (λ c. not-done (c .before .before .before .before .before .before .before .before .before .before .pre .1 .0) (c .before .before .before .before .before .before .before .before .before .before .pre .1 .1) (c .before .before .before .before .before .before .before .below .ensures) (c .before .before .before .before .before .before .emit .ensures) (c .before .before .close .ensures)))
-    (λ t. placed-lts.spec (recorded-below t, recorded.Post, binary-below t, binary.Post, negated-below t, negated.Post, comprehension-below t, comprehension.Post, simple-reads.Asked, simple-reads.Learnt)
+    (λ t. placed-lts.spec (heading-of-reads.Asked, heading-of-reads.Learnt, recorded-below t, recorded.Post, binary-below t, binary.Post, negated-below t, negated.Post, comprehension-below t, comprehension.Post, simple-reads.Asked, simple-reads.Learnt)
     (placed-at t)
     placed.Post
+    (λ c κs. search needs)
     (λ c. search needs)
-    (λ c κs. (omega (arith, c .before .before .before .before .before .pre .0), (c .before .before .before .before .before .pre .1, c .before .before .enum-told .given .1)))
+    (λ c κs. (omega (arith, c .before .before .before .before .before .before .before .pre .0), (c .before .before .before .before .before .before .before .pre .1, heading-terms (c .before .before .before .before .before .heading-of .ensures) (c .before .before .before .k .given .1))))
     (λ c. search needs)
-    (λ c κs. (omega (arith, c .before .before .before .before .before .before .pre .0), (c .before .before .before .before .before .before .pre .1, c .before .before .before .f .given .1)))
     (λ c. search needs)
-    (λ c κs. (omega (arith, c .before .before .before .before .before .before .pre .0), (c .before .before .before .before .before .before .pre .1, c .before .before .before .f2 .given .1)))
+    (λ c κs. (omega (arith, c .before .before .before .before .before .before .before .before .before .pre .0), (c .before .before .before .before .before .before .before .before .before .pre .1, c .before .before .before .f .given .1)))
     (λ c. search needs)
-    (λ c κs. (omega (arith, c .before .before .before .before .before .before .pre .0), (c .before .before .before .before .before .before .pre .1, c .before .before .before .f3 .given .1)))
-    (λ c κs. simple-starts (under (c .before .before .before .args .env .now) (c .before .before .before .args .h)) (c .before .match .keys5) (c .before .before .before .pre .1))
+    (λ c κs. (omega (arith, c .before .before .before .before .before .before .before .before .before .pre .0), (c .before .before .before .before .before .before .before .before .before .pre .1, c .before .before .before .f2 .given .1)))
+    (λ c. search needs)
+    (λ c κs. (omega (arith, c .before .before .before .before .before .before .before .before .before .pre .0), (c .before .before .before .before .before .before .before .before .before .pre .1, c .before .before .before .f3 .given .1)))
+    (λ c κs. simple-starts (under (c .before .before .before .before .before .before .args .env .now) (c .before .before .before .before .before .before .args .h)) (heading-other (c .before .before .before .before .heading-of .ensures) (c .before .before .enum-told .given .1)) (c .before .match2 .keys4) (c .before .before .before .before .before .before .pre .1))
     (λ c. search needs)
     (λ c. c .before .before .recorded .ensures)
     (λ c. search needs)
@@ -343,7 +346,7 @@ pub +binary+clause+comprehension+copied+emit+fields+negated+placed+qualifier+qua
     (λ c. search needs)
     (λ c. c .before .before .comprehension .ensures)
     (λ c. search needs)
-    (λ c. simple-written (under (c .before .before .before .before .before .before .args .env .now) (c .before .before .before .before .before .before .args .h)) (c .before .before .before .before .match .keys5) (c .before .before .simple .ensures)))
+    (λ c. simple-written (under (c .before .before .before .before .before .before .before .before .before .args .env .now) (c .before .before .before .before .before .before .before .before .before .args .h)) (heading-other (c .before .before .before .before .before .before .before .heading-of .ensures) (c .before .before .before .before .before .enum-told .given .1)) (c .before .before .before .before .match2 .keys4) (c .before .before .simple .ensures)))
     (λ t. qualifier-lts.spec (condition-count-reads.Asked, condition-count-reads.Learnt, look-reads.Asked, look-reads.Learnt, clause-below t, clause.Post)
     (qualifier-at t)
     qualifier.Post
@@ -375,8 +378,8 @@ pub +binary+clause+comprehension+copied+emit+fields+negated+placed+qualifier+qua
     (recorded-at t)
     recorded.Post
     (λ c κs. has-place (c .before .before .pre .1 .0))
-    (λ c κs. (omega (arith, c .before .before .before .pre .0), (record-first (c .before .before .before .pre .1 .0) (c .before .before .before .pre .1 .1) (c .below .ensures), c .before .before .before .pre .1 .1)))
-    (λ c κs. let E = ends (c .before .before .before .before .below .ensures) (record-first (c .before .before .before .before .before .before .before .pre .1 .0) (c .before .before .before .before .before .before .before .pre .1 .1) (c .before .before .before .before .below .ensures) .starts .room) (movedF (c .before .before .before .fields .ensures)) in (omega arith, omega arith, E .0, E .1))
+    (λ c κs. (omega (arith, c .before .before .before .pre .0), (record-first (c .before .before .before .pre .1 .0) (c .before .before .before .pre .1 .1) (c .below .ensures), (_, _, c .before .before .before .pre .1 .1))))
+    (λ c κs. let E = ends (c .before .before .before .before .below .ensures) (record-first (c .before .before .before .before .before .before .before .pre .1 .0) (c .before .before .before .before .before .before .before .pre .1 .1) (c .before .before .before .before .below .ensures) .starts .room) (movedF (c .before .before .before .fields .ensures)) in let W = headed-small (c .before .before .before .before .before .before .before .pre .1 .1) in (W .0, W .1, E .0, E .1))
     (λ c. search needs)
     (λ c. record-done (c .before .before .before .before .before .before .before .before .before .before .pre .1 .0) (c .before .before .before .before .before .before .before .before .before .before .pre .1 .1) (c .before .before .before .before .before .before .before .below .ensures) (c .before .before .before .before .before .before .fields .ensures) (c .before .before .close .ensures)))
     (λ t. single-lts.spec (below-reads.Asked, below-reads.Learnt, placed-below t, placed.Post, close-reads.Asked, close-reads.Learnt)

@@ -51,6 +51,11 @@ returns-9 c =
 
 returns-10 : tie.Need-returns-10
 returns-10 c =
+    form-kept (c .before .before .before .before .before .args .s .now) (c .before .before .before .before .before .args .j)
+    (c .before .before .f9 .given .1) (c .copy8 .ensures)
+
+returns-11 : tie.Need-returns-11
+returns-11 c =
     form-kept (c .before .before .before .before .args .s .now) (c .before .before .before .before .args .j) (c .before .enum-told2 .given .1)
     (c .scalar3 .ensures)
 
@@ -58,6 +63,8 @@ pub form-spec : {M : Type 1} → statement M
 form-spec =
     tie.close
     (tie.spec
+    (λ c. search needs)
+    (λ c κs. search needs)
     (λ c. search needs)
     (λ c κs. search needs)
     (λ c. search needs)
@@ -87,4 +94,5 @@ form-spec =
     returns-7
     returns-8
     returns-9
-    returns-10)
+    returns-10
+    returns-11)

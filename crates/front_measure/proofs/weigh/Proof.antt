@@ -1,5 +1,5 @@
 -- `front_measure::weigh` meets its contract, by WeighExits.
-use Rattle.front_measure.proofs.WeighExits.{weigh-number, weigh-truth, weigh-name, weigh-field, weigh-record, weigh-two, weigh-not, weigh-comp, weigh-table, weigh-gen, weigh-bind, weigh-cond, weigh-bad}
+use Rattle.front_measure.proofs.WeighExits.{weigh-number, weigh-truth, weigh-name, weigh-field, weigh-record, weigh-app, weigh-two, weigh-not, weigh-comp, weigh-table, weigh-gen, weigh-bind, weigh-cond, weigh-bad}
 use borrow.Author.Needs.{needs}
 use Rattle.front_measure.proofs.weigh.Statement.{statement}
 use Rattle.front_measure.proofs.weigh.Tie as tie
@@ -51,7 +51,12 @@ returns-12 c =
     (c .qualifier3 .ensures)
 
 returns-13 : tie.Need-returns-13
-returns-13 c = weigh-bad (c .before .before .before .look .ensures) (c .before .enum-told2 .given .1) (c .scalar5 .ensures)
+returns-13 c =
+    weigh-app (c .before .before .before .before .before .before .look .ensures) (c .before .before .before .before .f .given .1)
+    (c .before .before .terms2 .ensures) (c .before .raise3 .ensures) (c .scalar5 .ensures)
+
+returns-14 : tie.Need-returns-14
+returns-14 c = weigh-bad (c .before .before .before .look .ensures) (c .before .enum-told2 .given .1) (c .scalar6 .ensures)
 
 pub weigh-spec : {M : Type 1} → statement M
 weigh-spec =
@@ -91,6 +96,10 @@ weigh-spec =
     (λ c κs. search needs)
     (λ c. search needs)
     (λ c κs. search needs)
+    (λ c κs. search needs)
+    (λ c κs. search needs)
+    (λ c. search needs)
+    (λ c κs. search needs)
     returns
     returns-2
     returns-3
@@ -103,4 +112,5 @@ weigh-spec =
     returns-10
     returns-11
     returns-12
-    returns-13)
+    returns-13
+    returns-14)

@@ -26,7 +26,10 @@ returns-12 : tie.Need-returns-12
 returns-12 c = kind-at (c .match .keys12)
 
 returns-19 : tie.Need-returns-19
-returns-19 c = no-kind (c .before .args .k) (c .match .rest)
+returns-19 c = kind-at (c .match .keys19)
+
+returns-20 : tie.Need-returns-20
+returns-20 c = no-kind (c .before .args .k) (c .match .rest)
 
 pub kind-of-spec : {M : Type 1} → statement M
 kind-of-spec =
@@ -50,4 +53,5 @@ kind-of-spec =
     (λ c. search needs)
     (λ c. search needs)
     (λ c. search needs)
-    returns-19)
+    returns-19
+    returns-20)

@@ -30,6 +30,9 @@ returns-9 c = form-comp (c .before .before .n7 .given .1) (c .if1 .left)
 returns-10 : tie.Need-returns-10
 returns-10 c = sym (ap (formFor (c .before .before .before .args .depth)) (c .before .n8 .given .1))
 
+returns-14 : tie.Need-returns-14
+returns-14 c = sym (ap (formFor (c .before .before .before .args .depth)) (c .before .n12 .given .1))
+
 pub form-of-spec : {M : Type 1} → statement M
 form-of-spec =
     tie.close
@@ -48,6 +51,7 @@ form-of-spec =
     (λ c. search needs)
     (λ c. search needs)
     (λ c. search needs)
+    (λ c. search needs)
     returns-2
     returns-3
     (λ c. search needs)
@@ -60,4 +64,5 @@ form-of-spec =
     (λ c. search needs)
     (λ c. search needs)
     (λ c. search needs)
+    returns-14
     (λ c. search needs))

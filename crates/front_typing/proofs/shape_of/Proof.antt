@@ -45,7 +45,10 @@ returns-12 : tie.Need-returns-12
 returns-12 c = shape-by (c .before .before .before .before .before .before .before .args .rule) (c .before .before .before .before .before .before .before .args .s .now) (c .before .before .before .before .before .before .before .args .i) (c .before .before .before .before .before .look .ensures) (c .before .before .before .c4 .given .1) (c .truth2 .ensures ∙ ap truthShape (c .before .shape-at8 .ensures))
 
 returns-13 : tie.Need-returns-13
-returns-13 c = shape-by (c .before .before .before .before .args .rule) (c .before .before .before .before .args .s .now) (c .before .before .before .before .args .i) (c .before .before .look .ensures) (c .enum-told4 .given .1) (refl)
+returns-13 c = shape-by (c .before .before .before .before .before .before .args .rule) (c .before .before .before .before .before .before .args .s .now) (c .before .before .before .before .before .before .args .i) (c .before .before .before .before .look .ensures) (c .before .before .f .given .1) (c .operator .ensures)
+
+returns-14 : tie.Need-returns-14
+returns-14 c = shape-by (c .before .before .before .before .args .rule) (c .before .before .before .before .args .s .now) (c .before .before .before .before .args .i) (c .before .before .look .ensures) (c .enum-told4 .given .1) (refl)
 
 pub shape-of-spec : {M : Type 1} → statement M
 shape-of-spec =
@@ -81,6 +84,8 @@ shape-of-spec =
     (λ c κs. search needs)
     (λ c κs. search needs)
     (λ c. search needs)
+    (λ c κs. search needs)
+    (λ c. search needs)
     returns
     returns-2
     returns-3
@@ -93,4 +98,5 @@ shape-of-spec =
     returns-10
     returns-11
     returns-12
-    returns-13)
+    returns-13
+    returns-14)

@@ -2,7 +2,7 @@
 use mathlib.Core.Path.{refl}
 use native.Mathlib.Omega.{arith}
 use Rattle.front_parser.specs.RecordKinds.{is-table, of-field, of-record, of-not}
-use Rattle.front_parser.proofs.LeafRecords.{shaped-at, shaped-none, shaped-value, shaped-over, shaped-two}
+use Rattle.front_parser.proofs.LeafRecords.{shaped-at, shaped-none, shaped-value, shaped-two}
 use Rattle.front_parser.proofs.value.shape_of.Statement.{statement}
 use Rattle.front_parser.proofs.value.shape_of.Tie as tie
 
@@ -12,8 +12,11 @@ returns c = shaped-at (c .if1 .taken) shaped-none
 returns-2 : tie.Need-returns-2
 returns-2 c = shaped-value (c .before .if1 .left) (c .if2 .taken)
 
+later-shape-requires : tie.Need-later-shape-requires
+later-shape-requires c κs = c .if3 .taken
+
 returns-3 : tie.Need-returns-3
-returns-3 c = shaped-over (c .if3 .taken)
+returns-3 c = c .later-shape .ensures
 
 returns-4 : tie.Need-returns-4
 returns-4 c = shaped-at (c .match .keys1) (record { is = (of-field, omega arith) })
@@ -39,6 +42,7 @@ shape-of-spec =
     (tie.spec
     returns
     returns-2
+    later-shape-requires
     returns-3
     returns-4
     returns-5
