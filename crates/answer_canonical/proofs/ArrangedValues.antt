@@ -1,13 +1,13 @@
 -- Laws of arranging: it keeps types, leaves a collection no more elements and a value without a collection as it is, and does not
 -- see how many columns a row has.
-use mathlib.Core.Path.{_≡_, refl, sym, ap, ap₂, subst, fun-ext}
+use mathlib.Core.Path.{_≡_, refl, sym, ap, ap₂, subst, _∙_, fun-ext}
 use mathlib.Core.Bool.{Bool, true, false}
 use mathlib.Core.List.{List, [], _∷_, map}
 use Prim.Native.Nat.{ℕ, suc, _≤_}
 use native.Mathlib.Omega.{arith}
 use lib.ListN.{length}
 use Rattle.spec_calculus.specs.Syntax as Sy
-use Rattle.spec_calculus.specs.Syntax.{Collection, list, bag, set, Monoid, of, sum, max, some, all}
+use Rattle.spec_calculus.specs.Syntax.{Collection, list, bag, set, Monoid, of, sum, max, some, all, Fun}
 use Rattle.spec_calculus.specs.Value.{Value, Values, vnil, vcons, count, toList, fromList}
 use Rattle.spec_calculus.specs.Value as Va
 use Rattle.spec_calculus.specs.Order.{leV, put}
@@ -17,14 +17,14 @@ use Rattle.spec_calculus.proofs.Sorting.{rearranged-sym, all-rearranged, all-re
 use Rattle.spec_calculus.proofs.Order.{V-total}
 use Rattle.spec_calculus.proofs.Folds.{arranged}
 use Rattle.spec_checks.specs.Types.{Ty, Tys, number, truth, record′, coll, ynil, ycons, cells}
-use Rattle.spec_checks.proofs.Refold.{onParts, refold, refolds, gathered, arrangeAs, arrange-coll, by-parts}
-use Rattle.spec_normal_form.specs.Form.{Form, Forms, row, cell, rec, bin, negate, comp, fnil, fcons}
+use Rattle.spec_checks.proofs.Refold.{onParts, refold, refolds, gives, gathered, arrangeAs, arrange-coll, by-parts}
+use Rattle.spec_normal_form.specs.Form.{Form, Forms, row, cell, rec, bin, negate, app, comp, fnil, fcons}
 use Rattle.spec_normal_form.specs.Form as Fo
 use Rattle.spec_normal_form.proofs.RawArranged.{shape, shapes, arrange}
 use Rattle.answer_types.specs.FlatTypes.{Flat, FlatEach}
 use Rattle.answer_types.specs.Shape.{typeOf, typesOf}
 use Rattle.answer_types.specs.TypedValues.{Of, a-number, a-truth, a-record, a-collection, OfEach, no-field, field, AllOf, no-element, element}
-use Rattle.answer_types.proofs.Types.{row-width}
+use Rattle.answer_types.proofs.Types.{row-width, single-has, single-gives}
 use Rattle.answer_types.proofs.RawValueType.{from-all}
 use Rattle.answer_types.proofs.Elements.{rearranged-count}
 
@@ -99,6 +99,10 @@ mutual
   flat-sames (ycons t ts) vnil h = refl
   flat-sames (ycons t ts) (vcons v vs) h = ap₂ vcons (flat-same t v (h .0)) (flat-sames ts vs (h .1))
 
+-- a choice gives a number or a truth
+single-same : (f : Fun) (us : Tys) (v : Value) → arrangeAs (gives f us) v ≡ v
+single-same f us v = flat-same (gives f us) v (single-has (gives f us) (single-gives f us) .0)
+
 gathered-same : (m : Monoid) (t u : Ty) → ((w : Value) → arrangeAs t w ≡ arrangeAs u w) → (v : Value) → arrangeAs (gathered m t) v ≡ arrangeAs (gathered m u) v
 unfolding gathered refold
 gathered-same (of c) t u h v = ap (λ (f : Value → Value). onParts Va.rec (λ vs. foldBy ordered (of c) (map f (toList vs))) v) (fun-ext h)
@@ -120,6 +124,7 @@ mutual
   arrange-type C (rec ts) v = ap (λ r. onParts r Va.coll v) (fun-ext λ vs. ap Va.rec (arrange-types C ts vs))
   arrange-type C (bin o t u) v = refl
   arrange-type C (negate t) v = refl
+  arrange-type C (app f ts) v = single-same f (typesOf C ts) v ∙ sym (single-same f (shapes ts) v)
   arrange-type C (comp m q h) v = gathered-same m (typeOf C h) (shape h) (λ w. arrange-type C h w) v
 
   arrange-types : (C : ℕ → ℕ) (ts : Forms) (vs : Values) → refolds ordered (typesOf C ts) vs ≡ refolds ordered (shapes ts) vs

@@ -23,13 +23,13 @@ use Rattle.answer_types.proofs.RawValueType.{Rooted}
 use Rattle.answer_canonical.specs.CompactingWalk.{FinishPost}
 use Rattle.answer_canonical.proofs.WrittenAnswer.{Answered, normal-written, answer-front}
 use Rattle.answer_settle.specs.SettleContract.{Still, SettlePost}
-use Rattle.answer_settle.proofs.PreparedQuestion.{tables-are, well-formed, form-in-scope, solid}
+use Rattle.answer_settle.proofs.PreparedQuestion.{tables-are, well-formed, form-in-scope, even, solid}
 use Rattle.answer_settle.proofs.FormTypes.{rooted}
 
 module _ {d : Bytes} {a : Accepted} {s t : List ℕ} (P : Prepared d a s) (S : Still d a t) where
   -- each row is of a generator that encloses it, with the columns of its table
   all-rooted : Rooted (columns t) (a .tables) (λ g. false) (asForm (a .form))
-  all-rooted = subst (λ (T : Tables). Rooted (columns t) T (λ g. false) (asForm (a .form))) (tables-are P) (rooted (S .held) (asForm (a .form)) (λ g. false) 0 (form-in-scope P) (S .named))
+  all-rooted = subst (λ (T : Tables). Rooted (columns t) T (λ g. false) (asForm (a .form))) (tables-are P) (rooted (S .held) (asForm (a .form)) (λ g. false) 0 (form-in-scope P) (S .named) (even P (columns t)))
 
   module _ {o₁ o₂ : List ℤ} {n : ℕ} (K : FinishPost t 0 o₁ o₂ n) (o : List ℤ) (e : o₁ ≡ words (normalValue raw (a .tables) (a .form)) ++ drop (G a) o) (q : Bytes) (r : readQuestion q ≡ got (a .question)) where
     finished : Answered (a .tables) (a .form) (drop (G a) o) o₂ n

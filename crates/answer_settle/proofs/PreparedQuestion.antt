@@ -11,7 +11,7 @@ use Rattle.spec_calculus.proofs.WellFormed.{WellFormed}
 use Rattle.spec_encoding.specs.Record.{Bytes, got}
 use Rattle.spec_encoding.specs.Reader.{readQuestion}
 use Rattle.spec_encoding.proofs.Data.{read-well-formed}
-use Rattle.spec_normal_form.specs.Form.{Form, Forms, row, cell, rec, bin, negate, comp, fnil, fcons, asForm, value, normalValue}
+use Rattle.spec_normal_form.specs.Form.{Form, Forms, row, cell, rec, bin, negate, app, comp, fnil, fcons, asForm, value, normalValue}
 use Rattle.spec_normal_form.specs.Form as Fo
 use Rattle.spec_normal_form.specs.NoRule.{Ordered}
 use Rattle.spec_normal_form.proofs.NoRuleApplies.{normal-in-scope}
@@ -23,7 +23,8 @@ use Rattle.form_words.proofs.ReadBack.{read-back}
 use Rattle.form_prepared.specs.PreparedQuestion.{Prepared}
 use Rattle.form_env.specs.Environment.{envOf, tablesIn, Held}
 use Rattle.form_env.proofs.BoundRows.{tables-in, env-empty}
-use Rattle.answer_types.proofs.RawValueType.{SomeF, Solid, SolidF}
+use Rattle.answer_types.proofs.RawValueType.{SomeF, Solid, SolidF, Even}
+use Rattle.answer_settle.proofs.ChoiceSorts.{normal-even}
 use Rattle.answer_writer.specs.RecordFields.{filled, someF, filledF}
 use Rattle.answer_writer.proofs.RecordFields.{read-filled}
 
@@ -39,6 +40,7 @@ mutual
   filled-solid (rec ts) e = let p = and-eq-true-iff (someF ts) (filledF ts) .0 e in (some-solid ts (p .0), fields-solid ts (p .1))
   filled-solid (bin o t u) e = tt
   filled-solid (negate t) e = tt
+  filled-solid (app f ts) e = tt
   filled-solid (comp m q h) e = filled-solid h e
 
   some-solid : (ts : Forms) → someF ts ≡ true → SomeF ts
@@ -81,6 +83,9 @@ module _ {d : Bytes} {a : Accepted} {s : List ℕ} (P : Prepared d a s) where
 
   pub form-in-scope : Ordered (asForm (a .form)) (λ g. false) 0
   form-in-scope = subst (λ t. Ordered (asForm t) (λ g. false) 0) (sym (passed .form-is)) (normal-in-scope (kindOf (a .tables)) (a .question) (passed .names))
+
+  pub even : (C : ℕ → ℕ) → Even C (asForm (a .form))
+  even C = subst (λ t. Even C (asForm t)) (sym (passed .form-is)) (normal-even C (a .tables) (a .question) (passed .generators))
 
   -- "5 record (1 to 8 terms)"
   pub no-empty : (l : Bytes) → readQuestion l ≡ got (a .question) → filled (asForm (a .form)) ≡ true

@@ -9,20 +9,20 @@ use lib.Dec.{T, ltb, eqb, eqb→eq}
 use borrow.Author.Tests.{ltb-true, ltb-false}
 use lib.IntN.{ℤ, pos}
 use lib.ListN.{length}
-use Rattle.spec_calculus.specs.Lists.{guard, upd}
+use Rattle.spec_calculus.specs.Lists.{guard, pick, upd}
 use Rattle.spec_calculus.specs.Syntax as Sy
-use Rattle.spec_calculus.specs.Syntax.{Monoid, of, sum, max, some, all, Bin, plus, minus, times, equal, less, and, or}
-use Rattle.spec_calculus.specs.Value.{Value, Values, toList, fromList, junk, asBool, nth, fieldOf, binV, notV, Tables, columnsOf, rowsOf}
+use Rattle.spec_calculus.specs.Syntax.{Monoid, of, sum, max, some, all, Bin, plus, minus, times, equal, less, and, or, Fun, choice}
+use Rattle.spec_calculus.specs.Value.{Value, Values, toList, fromList, junk, asBool, nth, fieldOf, binV, notV, scalar, choiceV, appV, Tables, columnsOf, rowsOf}
 use Rattle.spec_calculus.specs.Value as Va
 use Rattle.spec_calculus.specs.Monoid.{start, step, total, finish, foldBy, raw}
 use Rattle.spec_calculus.specs.Meaning.{Env}
 use Rattle.spec_calculus.proofs.Lists.{All, all-imp, all-bind}
 use Rattle.spec_calculus.proofs.Folds.{raw-of}
 use Rattle.spec_calculus.proofs.WellFormed.{Row, WellFormed, rows-well-formed, columns-at-least, past-no-rows}
-use Rattle.spec_checks.specs.Types.{Ty, number, record′, coll, cells}
-use Rattle.spec_checks.proofs.Judgement.{result}
-use Rattle.spec_checks.proofs.Refold.{gathered}
-use Rattle.spec_normal_form.specs.Form.{Form, Forms, Clauses, NormalForm, asForm, row, cell, rec, bin, negate, comp, fnil, fcons, done, gen, cond, value, values, loops, normalValue}
+use Rattle.spec_checks.specs.Types.{Ty, Tys, number, truth, record′, coll, ynil, ycons, cells}
+use Rattle.spec_checks.proofs.Judgement.{result, Scalar, Takes}
+use Rattle.spec_checks.proofs.Refold.{gives, gathered}
+use Rattle.spec_normal_form.specs.Form.{Form, Forms, Clauses, NormalForm, asForm, row, cell, rec, bin, negate, app, comp, fnil, fcons, done, gen, cond, value, values, loops, normalValue}
 use Rattle.spec_normal_form.specs.Form as Fo
 use Rattle.base_signed.proofs.SignedWords.{by-test}
 use Rattle.answer_types.specs.Shape.{typeOf, typesOf}
@@ -89,6 +89,23 @@ ran done B = B
 ran (gen g k q) B = ran q (upd g true B)
 ran (cond t q) B = ran q B
 
+-- The branches of each choice that is written, in a head or in a field of it, are numbers or truths alike.
+abbrev mutual
+  pub Even : (ℕ → ℕ) → Form → Type 0
+  Even C (Fo.num z) = Unit {0}
+  Even C (Fo.truth b) = Unit {0}
+  Even C (row g) = Unit {0}
+  Even C (cell i g) = Unit {0}
+  Even C (rec ts) = EvenF C ts
+  Even C (bin o t u) = Unit {0}
+  Even C (negate t) = Unit {0}
+  Even C (app f ts) = Takes f (typesOf C ts) (gives f (typesOf C ts)) × EvenF C ts
+  Even C (comp m q h) = Even C h
+
+  pub EvenF : (ℕ → ℕ) → Forms → Type 0
+  EvenF C fnil = Unit {0}
+  EvenF C (fcons t ts) = Even C t × EvenF C ts
+
 -- Each row in the head, or in a field of it, is of a generator that has run (those in B), and each generator has as many columns
 -- as its table.
 abbrev mutual
@@ -100,6 +117,7 @@ abbrev mutual
   Rooted C T B (rec ts) = RootedF C T B ts
   Rooted C T B (bin o t u) = Unit {0}
   Rooted C T B (negate t) = Unit {0}
+  Rooted C T B (app f ts) = Even C (app f ts)
   Rooted C T B (comp m q h) = RootedC C T B q × Rooted C T (ran q B) h
 
   pub RootedF : (ℕ → ℕ) → Tables → (ℕ → Bool) → Forms → Type 0
@@ -125,6 +143,7 @@ abbrev mutual
   Solid (rec ts) = SomeF ts × SolidF ts
   Solid (bin o t u) = Unit {0}
   Solid (negate t) = Unit {0}
+  Solid (app f ts) = Unit {0}
   Solid (comp m q h) = Solid h
 
   pub SolidF : Forms → Type 0
@@ -159,6 +178,48 @@ fold-of some t (v ∷ l) h = a-truth _
 fold-of all t [] h = a-truth _
 fold-of all t (v ∷ l) h = a-truth _
 
+scalar-fold-of : (m : Monoid) (t : Ty) (l : List Value) → Scalar (gathered m t) → Of (gathered m t) (raw m l)
+unfolding gathered raw foldBy total finish start step
+scalar-fold-of (of c) t l s = absurd s
+scalar-fold-of sum t [] s = a-number _
+scalar-fold-of sum t (v ∷ l) s = a-number _
+scalar-fold-of max t l s = a-number _
+scalar-fold-of Sy.min t l s = a-number _
+scalar-fold-of some t [] s = a-truth _
+scalar-fold-of some t (v ∷ l) s = a-truth _
+scalar-fold-of all t [] s = a-truth _
+scalar-fold-of all t (v ∷ l) s = a-truth _
+
+-- a number or a truth, read as one
+scalar-same : (t : Ty) (v : Value) → Scalar t → Of t v → Of t (scalar v)
+unfolding scalar
+scalar-same number v s (a-number z) = a-number z
+scalar-same truth v s (a-truth b) = a-truth b
+scalar-same (record′ ts) v s h = absurd s
+scalar-same (coll c t) v s h = absurd s
+
+choice-of : (b : Bool) (t : Ty) (v w : Value) → Scalar t → Of t v → Of t w → Of t (scalar (pick b v w))
+unfolding pick
+choice-of true t v w s h k = scalar-same t v s h
+choice-of false t v w s h k = scalar-same t w s k
+
+choice-values : (t : Ty) (vs : Values) → Scalar t → OfEach (ycons truth (ycons t (ycons t ynil))) vs → Of t (appV choice vs)
+unfolding appV choiceV nth
+choice-values t vs s (field {v = c} h (field {v = v} a (field {v = w} b no-field))) = choice-of (asBool c) t v w s a b
+
+app-of : (f : Fun) (us : Tys) (t : Ty) (vs : Values) → Takes f us t → OfEach us vs → Of t (appV f vs)
+app-of choice us t vs h k = choice-values t vs (h .0) (subst (λ (ts : Tys). OfEach ts vs) (h .1) k)
+
+takes-scalar : (f : Fun) (us : Tys) (t : Ty) → Takes f us t → Scalar t
+takes-scalar choice us t h = h .0
+
+abbrev Scalars : Tys → Type 0
+Scalars ynil = Unit {0}
+Scalars (ycons t ts) = Scalar t × Scalars ts
+
+takes-scalars : (f : Fun) (us : Tys) (t : Ty) → Takes f us t → Scalars us
+takes-scalars choice us t h = subst Scalars (sym (h .1)) (tt, (h .0, (h .0, tt)))
+
 guard-all : (P : Value → Type 0) (b : Bool) (l : List Value) → All P l → All P (guard b l)
 unfolding guard
 guard-all P true l h = h
@@ -172,6 +233,25 @@ module _ {D : Tables} (W : WellFormed D) (C : ℕ → ℕ) where
       loops-of P (upd g true B) q k (upd g v ρ) (h .1) (stand-next C B ρ g v S (subst (λ (n : ℕ). Of (record′ (cells n)) v) (sym (h .0)) r)) f)
   loops-of P B (cond t q) k ρ h S f = guard-all P (asBool (value raw D t ρ)) (loops raw D q k ρ) (loops-of P B q k ρ h S f)
 
+  -- a number or a truth: nothing is asked of what is inside
+  mutual
+    unfolding value typeOf notV
+
+    scalar-of : (B : ℕ → Bool) (t : Form) (ρ : Env) → Scalar (typeOf C t) → Even C t → Stand C B ρ → Of (typeOf C t) (value raw D t ρ)
+    scalar-of B (Fo.num z) ρ s e S = a-number z
+    scalar-of B (Fo.truth b) ρ s e S = a-truth b
+    scalar-of B (row g) ρ s e S = absurd s
+    scalar-of B (cell i g) ρ s e S = cell-of (B g) (C g) i (ρ g) (S g)
+    scalar-of B (rec ts) ρ s e S = absurd s
+    scalar-of B (bin o t u) ρ s e S = bin-of o (value raw D t ρ) (value raw D u ρ)
+    scalar-of B (negate t) ρ s e S = a-truth _
+    scalar-of B (app f ts) ρ s e S = app-of f (typesOf C ts) (gives f (typesOf C ts)) (values raw D ts ρ) (e .0) (scalars-of B ts ρ (takes-scalars f (typesOf C ts) (gives f (typesOf C ts)) (e .0)) (e .1) S)
+    scalar-of B (comp m q t) ρ s e S = scalar-fold-of m (typeOf C t) (loops raw D q (λ σ. value raw D t σ ∷ []) ρ) s
+
+    scalars-of : (B : ℕ → Bool) (ts : Forms) (ρ : Env) → Scalars (typesOf C ts) → EvenF C ts → Stand C B ρ → OfEach (typesOf C ts) (values raw D ts ρ)
+    scalars-of B fnil ρ s e S = no-field
+    scalars-of B (fcons t ts) ρ s e S = field (scalar-of B t ρ (s .0) (e .0) S) (scalars-of B ts ρ (s .1) (e .1) S)
+
   mutual
     unfolding value typeOf notV
 
@@ -183,6 +263,7 @@ module _ {D : Tables} (W : WellFormed D) (C : ℕ → ℕ) where
     value-of B (rec ts) ρ n h S = a-record (some-types C ts (n .0)) (values-of B ts ρ (n .1) h S)
     value-of B (bin o t u) ρ n h S = bin-of o (value raw D t ρ) (value raw D u ρ)
     value-of B (negate t) ρ n h S = a-truth _
+    value-of B (app f ts) ρ n h S = scalar-of B (app f ts) ρ (takes-scalar f (typesOf C ts) (gives f (typesOf C ts)) (h .0)) h S
     value-of B (comp m q t) ρ n h S = fold-of m (typeOf C t) (loops raw D q (λ σ. value raw D t σ ∷ []) ρ) (loops-of (Of (typeOf C t)) B q (λ σ. value raw D t σ ∷ []) ρ (h .0) S (λ σ Z. (value-of (ran q B) t σ n (h .1) Z, tt)))
 
     values-of : (B : ℕ → Bool) (ts : Forms) (ρ : Env) → SolidF ts → RootedF C D B ts → Stand C B ρ → OfEach (typesOf C ts) (values raw D ts ρ)

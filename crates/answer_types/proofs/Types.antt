@@ -5,17 +5,17 @@ use mathlib.Core.List.{List}
 use Prim.Native.Nat.{ℕ, zero, suc, _+_, _-_, _/_, _≤_, _<_}
 use native.Mathlib.Omega.{arith}
 use lib.ListN.{length}
-use Rattle.spec_calculus.specs.Syntax.{of, Bin, plus, minus, times, equal, less, and, or}
+use Rattle.spec_calculus.specs.Syntax.{of, Bin, plus, minus, times, equal, less, and, or, Fun, choice}
 use Rattle.spec_checks.specs.Types.{Ty, Tys, number, truth, record′, coll, ynil, ycons, cells}
 use Rattle.spec_checks.proofs.Judgement.{result}
-use Rattle.spec_checks.proofs.Refold.{gathered}
+use Rattle.spec_checks.proofs.Refold.{second, single, gives, gathered}
 use Rattle.spec_normal_form.specs.Form.{Form}
 use Rattle.base_syntax.specs.declared.Monoid.{Monoid}
 use Rattle.base_syntax.specs.declared.Monoid.the-variants as Mo
 use Rattle.base_syntax.specs.MonoidWord.{monoidOf}
-use Rattle.base_syntax.specs.Numbers.{binOf}
+use Rattle.base_syntax.specs.Numbers.{binOf, funOf}
 use Rattle.form_words.specs.declared.FormNode.{FormNode}
-use Rattle.form_words.specs.declared.FormNode.the-variants.{Number, Truth, Row, Cell, Record, Binary, Negation, Comprehension, Generator, Condition, Nothing}
+use Rattle.form_words.specs.declared.FormNode.the-variants.{Number, Truth, Row, Cell, Record, Binary, Negation, Operator, Comprehension, Generator, Condition, Nothing}
 use Rattle.form_words.specs.NodeWord.{next}
 use Rattle.form_words.specs.FormTree.{formTree, headTree, left}
 use Rattle.base_scratch.specs.Map.{places}
@@ -113,6 +113,7 @@ OneWord (Cell c g) = Unit {0}
 OneWord (Record e) = ⊥
 OneWord (Binary o j) = Unit {0}
 OneWord Negation = Unit {0}
+OneWord (Operator f e) = Unit {0}
 OneWord (Comprehension Mo.List) = ⊥
 OneWord (Comprehension Mo.Bag) = ⊥
 OneWord (Comprehension Mo.Set) = ⊥
@@ -151,6 +152,17 @@ single-result less = refl
 single-result and = refl
 single-result or = refl
 
+single-one : (t : Ty) → true ≡ isSingle (single t)
+unfolding single
+single-one number = refl
+single-one truth = refl
+single-one (record′ ts) = refl
+single-one (coll c t) = refl
+
+pub single-gives : (f : Fun) (us : Tys) → true ≡ isSingle (gives f us)
+unfolding gives
+single-gives choice us = single-one (second us)
+
 single-node : (s : List ℕ) (i f : ℕ) (n : FormNode) → OneWord n → true ≡ isSingle (typeOf (columns s) (formNode f s i n))
 unfolding typeOf gathered
 single-node s i f (Number z) p = refl
@@ -160,6 +172,7 @@ single-node s i f (Cell c g) p = refl
 single-node s i f (Record e) p = absurd p
 single-node s i f (Binary o j) p = single-result (binOf o)
 single-node s i f Negation p = refl
+single-node s i f (Operator g e) p = single-gives (funOf g) _
 single-node s i f (Comprehension Mo.List) p = absurd p
 single-node s i f (Comprehension Mo.Bag) p = absurd p
 single-node s i f (Comprehension Mo.Set) p = absurd p
@@ -181,6 +194,7 @@ one-shape C H i (Cell c g) p = refl
 one-shape C H i (Record e) p = absurd p
 one-shape C H i (Binary o j) p = refl
 one-shape C H i Negation p = refl
+one-shape C H i (Operator f e) p = refl
 one-shape C H i (Comprehension Mo.List) p = absurd p
 one-shape C H i (Comprehension Mo.Bag) p = absurd p
 one-shape C H i (Comprehension Mo.Set) p = absurd p

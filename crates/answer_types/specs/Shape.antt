@@ -6,13 +6,13 @@ use Prim.Native.Nat.{ℕ, suc, _+_, _<_, _≤_}
 use Rattle.spec_calculus.specs.Syntax.{Collection, list, bag, set}
 use Rattle.spec_checks.specs.Types.{Ty, Tys, number, truth, record′, coll, ynil, ycons, cells}
 use Rattle.spec_checks.proofs.Judgement.{result}
-use Rattle.spec_checks.proofs.Refold.{gathered}
-use Rattle.spec_normal_form.specs.Form.{Form, Forms, row, cell, rec, bin, negate, comp, fnil, fcons}
+use Rattle.spec_checks.proofs.Refold.{gives, gathered}
+use Rattle.spec_normal_form.specs.Form.{Form, Forms, row, cell, rec, bin, negate, app, comp, fnil, fcons}
 use Rattle.spec_normal_form.specs.Form as Fo
 use Rattle.base_syntax.specs.declared.Monoid.{Monoid}
 use Rattle.base_syntax.specs.declared.Monoid.the-variants as Mo
 use Rattle.form_words.specs.declared.FormNode.{FormNode}
-use Rattle.form_words.specs.declared.FormNode.the-variants.{Number, Truth, Row, Cell, Record, Binary, Negation, Comprehension, Generator, Condition, Nothing}
+use Rattle.form_words.specs.declared.FormNode.the-variants.{Number, Truth, Row, Cell, Record, Binary, Negation, Operator, Comprehension, Generator, Condition, Nothing}
 use Rattle.form_words.specs.declared.Clause.{Clause}
 use Rattle.form_words.specs.declared.Clause.the-variants as Cl
 use Rattle.base_scratch.specs.Map.{places}
@@ -37,6 +37,7 @@ unfoldable mutual
   typeOf C (rec ts) = record′ (typesOf C ts)
   typeOf C (bin o t u) = result o
   typeOf C (negate t) = truth
+  typeOf C (app f ts) = gives f (typesOf C ts)
   typeOf C (comp m q h) = gathered m (typeOf C h)
 
   pub typesOf : (ℕ → ℕ) → Forms → Tys
@@ -98,6 +99,7 @@ shapeBy C H i (Cell c g) = Word
 shapeBy C H i (Record e) = Fields e
 shapeBy C H i (Binary o j) = Word
 shapeBy C H i Negation = Word
+shapeBy C H i (Operator f e) = Word
 shapeBy C H i (Comprehension m) = gatherOf m (H (i + 1))
 shapeBy C H i (Generator g k) = Word
 shapeBy C H i (Condition j) = Word

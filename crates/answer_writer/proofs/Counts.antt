@@ -10,15 +10,15 @@ use lib.ListN.{length, length-append}
 use lib.IntN.{ℤ, pos}
 use Rattle.spec_calculus.specs.Lists.{upd}
 use Rattle.spec_calculus.specs.Syntax as Sy
-use Rattle.spec_calculus.specs.Syntax.{Monoid, of, sum, max, some, all, Bin, plus, minus, times, equal, less, and, or}
-use Rattle.spec_calculus.specs.Value.{Value, Values, vnil, vcons, num, truth, rec, coll, count, fromList, junk, fieldOf, binV, notV, rowsOf}
+use Rattle.spec_calculus.specs.Syntax.{Monoid, of, sum, max, some, all, Bin, plus, minus, times, equal, less, and, or, Fun, choice}
+use Rattle.spec_calculus.specs.Value.{Value, Values, vnil, vcons, num, truth, rec, coll, count, fromList, junk, fieldOf, binV, notV, scalar, choiceV, appV, rowsOf}
 use Rattle.spec_calculus.specs.Monoid.{raw}
 use Rattle.spec_calculus.specs.Meaning.{Env}
 use Rattle.spec_calculus.proofs.Lists.{All, all-guard, all-bind}
 use Rattle.spec_calculus.proofs.Folds.{raw-of}
 use Rattle.spec_calculus.proofs.WellFormed.{Row, row-field}
 use Rattle.spec_encoding.specs.Record.{Bytes}
-use Rattle.spec_normal_form.specs.Form.{Form, Forms, Clauses, row, cell, bin, negate, comp, fnil, fcons, done, gen, cond, value, values, loops}
+use Rattle.spec_normal_form.specs.Form.{Form, Forms, Clauses, row, cell, bin, negate, app, comp, fnil, fcons, done, gen, cond, value, values, loops}
 use Rattle.spec_normal_form.specs.Form as Fo
 use Rattle.base_syntax.proofs.MergedWords.{Made, fold-made}
 use Rattle.form_env.specs.Environment.{envOf, tablesIn, Held}
@@ -67,6 +67,17 @@ whole-bin or v w = whole-truth _
 whole-not : (v : Value) → Whole (notV v)
 unfolding notV
 whole-not v = whole-truth _
+
+whole-scalar : (v : Value) → Whole (scalar v)
+unfolding scalar
+whole-scalar (num z) = whole-num z
+whole-scalar (truth b) = whole-truth b
+whole-scalar (rec vs) = whole-num _
+whole-scalar (coll vs) = whole-num _
+
+whole-app : (f : Fun) (vs : Values) → Whole (appV f vs)
+unfolding appV choiceV
+whole-app choice vs = whole-scalar _
 
 -- two lists of words, one behind the other
 both-exact : {a b c d : List ℤ} → (length b ≤ big → a ≡ b) → (length d ≤ big → c ≡ d) → length (b ++ d) ≤ big → a ++ c ≡ b ++ d
@@ -154,6 +165,7 @@ module _ {d : Bytes} {s : List ℕ} (H : Held d s) where
     form-whole (Fo.rec ts) w ρ R = let p = tests (someF ts) (filledF ts) w in record { some = fields-some ts (p .0) (p .1) ρ R; exact = fields-exact ts (p .1) ρ R }
     form-whole (bin o t u) w ρ R = whole-bin o (valueOf d t ρ) (valueOf d u ρ)
     form-whole (negate t) w ρ R = whole-not (valueOf d t ρ)
+    form-whole (app f ts) w ρ R = whole-app f (values raw (tablesIn d) ts ρ)
     form-whole (comp m q h) w ρ R = whole-fold m (loops raw (tablesIn d) q (λ σ. valueOf d h σ ∷ []) ρ) (loops-whole (λ σ. valueOf d h σ ∷ []) (λ σ S. (form-whole h w σ S, tt)) q ρ R)
 
     fields-some : (ts : Forms) → someF ts ≡ true → filledF ts ≡ true → (ρ : Env) → Rows ρ → 1 ≤ length (wordsL (values raw (tablesIn d) ts ρ))

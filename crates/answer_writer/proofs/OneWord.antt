@@ -3,8 +3,9 @@ use mathlib.Core.Path.{_≡_, refl}
 use mathlib.Core.List.{[], _∷_}
 use mathlib.Core.Bool.{Bool, true, false}
 use lib.IntN.{ℤ}
-use Rattle.spec_calculus.specs.Syntax.{Bin, plus, minus, times, equal, less, and, or}
-use Rattle.spec_calculus.specs.Value.{Value, num, truth, asInt, asBool, binV}
+use Rattle.spec_calculus.specs.Syntax.{Bin, plus, minus, times, equal, less, and, or, Fun, choice}
+use Rattle.spec_calculus.specs.Value.{Value, Values, num, truth, rec, coll, nth, asInt, asBool, binV, scalar, choiceV, appV}
+use Rattle.spec_calculus.specs.Lists.{pick}
 use Rattle.spec_outcome.specs.WrittenForm.{truthWord}
 use Rattle.form_arith.specs.declared.Sort.{Sort}
 use Rattle.form_arith.specs.declared.Sort.the-variants as So
@@ -33,3 +34,15 @@ one-bin equal v w = one-truth _
 one-bin less v w = one-truth _
 one-bin and v w = one-truth _
 one-bin or v w = one-truth _
+
+one-scalar : (v : Value) → OneWord So.Either (scalar v)
+unfolding cutWords scalar truthWord
+one-scalar (num z) = refl
+one-scalar (truth true) = refl
+one-scalar (truth false) = refl
+one-scalar (rec vs) = refl
+one-scalar (coll vs) = refl
+
+pub one-app : (f : Fun) (vs : Values) → OneWord So.Either (appV f vs)
+unfolding appV choiceV
+one-app choice vs = one-scalar _

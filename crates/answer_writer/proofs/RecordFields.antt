@@ -4,7 +4,7 @@ use mathlib.Core.Bool.{Bool, true, false, _&&_, _||_, and-eq-true-iff}
 use Prim.Native.Nat.{ℕ, zero, suc, _+_}
 use lib.Dec.{eqb}
 use Rattle.spec_calculus.specs.Lists.{upd}
-use Rattle.spec_calculus.specs.Syntax.{Collection, Bin, plus, minus, times, equal, less, and, or, Term, Terms, Quals, num, truth, name, field, rec, bin, negate, comp, table, tnil, tcons, qnil, gen, bind, cond, Question}
+use Rattle.spec_calculus.specs.Syntax.{Collection, Bin, plus, minus, times, equal, less, and, or, Term, Terms, Quals, num, truth, name, field, rec, bin, negate, app, comp, table, tnil, tcons, qnil, gen, bind, cond, Question}
 use Rattle.spec_encoding.specs.Record.{Bytes, got}
 use Rattle.spec_encoding.specs.Reader.{readQuestion}
 use Rattle.spec_encoding.proofs.QuestionLimits.{Keeps, question-kept}
@@ -27,6 +27,7 @@ abbrev mutual
   FilledT (rec ts) = someT ts × FilledL ts
   FilledT (bin o t u) = Unit {0}
   FilledT (negate t) = Unit {0}
+  FilledT (app f ts) = Unit {0}
   FilledT (comp m qs h) = FilledQ qs × FilledT h
   FilledT (table k) = Unit {0}
 
@@ -49,6 +50,7 @@ reader-keeps = record {
   record′ = λ d t ts p q. (tt, (p, q));
   binary = λ d o t u p q. tt;
   negation = λ d t p. tt;
+  choice = λ d t u v p q r. tt;
   comprehension = λ d m qs h p q. (p, q);
   table = λ d k. tt;
   deeper = λ d t p. p;
@@ -158,6 +160,7 @@ module _ (K : ℕ → Collection) where
     norm-full (rec ts) p δ e = (norms-some ts (p .0) δ, norms-full ts (p .1) δ e)
     norm-full (bin o t u) p δ e = binary-full o (norm K t δ) (norm K u δ)
     norm-full (negate t) p δ e = λ n. refl
+    norm-full (app f ts) p δ e = λ n. refl
     norm-full (comp m qs h) p δ e = λ b n. walk-full qs (p .0) (b || idempotent m) (λ ε. norm K h ε) (λ ε f. norm-full h (p .1) ε f) δ e n
     norm-full (table k) p δ e = λ b n. tt
 

@@ -1,6 +1,6 @@
 -- Records that have fields.
 use mathlib.Core.Bool.{Bool, true, false, _&&_}
-use Rattle.spec_normal_form.specs.Form.{Form, Forms, num, truth, row, cell, rec, bin, negate, comp, fnil, fcons}
+use Rattle.spec_normal_form.specs.Form.{Form, Forms, num, truth, row, cell, rec, bin, negate, app, comp, fnil, fcons}
 
 -- no record of what is written is without fields: then each element has a word, and no count is above the answer's length
 unfoldable mutual
@@ -12,6 +12,7 @@ unfoldable mutual
   filled (rec ts) = someF ts && filledF ts
   filled (bin o t u) = true
   filled (negate t) = true
+  filled (app f ts) = true
   filled (comp m q h) = filled h
 
   pub someF : Forms → Bool

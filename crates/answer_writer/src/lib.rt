@@ -84,6 +84,7 @@ pub fn shape_at(s: &[u64], i: usize) -> WriteForm
         form_words::RECORD => WriteForm::Record(next(s, i)),
         form_words::BINARY => WriteForm::Word(result(Op::from_number(a))),
         form_words::NEGATION => WriteForm::Word(Sort::Truth),
+        form_words::OPERATOR => WriteForm::Word(Sort::Either),
         form_words::COMPREHENSION => comprehension_shape(Monoid::from_bits(a)),
         _ => WriteForm::Word(Sort::Number),
     }
