@@ -13,7 +13,9 @@ use Rattle.spec_calculus.specs.Syntax as Sy
 use Rattle.base_syntax.specs.declared.Monoid.{Monoid}
 use Rattle.base_syntax.specs.MonoidWord.{monoidOf}
 use Rattle.base_syntax.specs.declared.Op.{Op}
-use Rattle.base_syntax.specs.Numbers.{binOf}
+use Rattle.base_syntax.specs.declared.Fun.{Fun}
+use Rattle.base_syntax.specs.declared.Fun.the-variants.{Choice}
+use Rattle.base_syntax.specs.Numbers.{binOf, funOf}
 use Rattle.form_words.specs.declared.FormNode.{FormNode}
 use Rattle.form_words.specs.declared.FormNode.the-variants as N
 use Rattle.form_words.specs.declared.Clause.{Clause}
@@ -26,7 +28,7 @@ use Rattle.form_words.proofs.NodeWords.{next-past}
 use Rattle.spec_plan.specs.Plan.{PTerm, ptruth, Source, table, unit, nest}
 use Rattle.spec_plan.specs.Plan as Pl
 use Rattle.spec_plan.specs.Planner.{conj}
-use Rattle.spec_plan.specs.Lines.{ascii, digits, decimal, signedDecimal, monoidName, binName, showTerm, showTerms, showSource, showLast, showOp, showOps, lines}
+use Rattle.spec_plan.specs.Lines.{ascii, digits, decimal, signedDecimal, monoidName, binName, funName, showTerm, showTerms, showSource, showLast, showOp, showOps, lines}
 use Rattle.plan_marks.specs.Marks.{markAt, slotBy}
 use Rattle.plan_marks.specs.PlanIn.{termBy, termIn, termsIn, headBy, headIn, condsBy, condsIn, growsBy, growsIn, opIn, orElse, ownIn, opsBy, innerBy, opsIn, opsInF, innerIn, planAt}
 use Rattle.base_text.specs.LaidText.{Lays, Text}
@@ -105,6 +107,16 @@ unfolding showTerm
 term-binary {s} {i} {j} {lim} {p} {q} {r} {t} {u} {v} {w} H A B C D E = term-lays H (λ f l. lays-as
     (append-assoc (ascii "(") (ascii (binName (binOf w)) ++ ascii " ") _ ∙ ap (λ (x : List ℕ). ascii "(" ++ x) (append-assoc (ascii (binName (binOf w))) (ascii " ") _))
     (lays-two A (lays-two (B .is f (omega (arith, H .inside .0, H .inside .1))) (lays-two C (lays-two (D .is f (omega (arith, H .inside .0, H .inside .1))) E)))))
+
+-- of document 02's operators there is one
+opened : (w : Fun) (x : List ℕ) → ascii "(if" ++ x ≡ ascii "(" ++ (funName (funOf w) ++ x)
+unfolding ascii funName
+opened Choice x = refl
+
+pub term-operator : {s : List ℕ} {i e lim p q r t : ℕ} {w : Fun} {o o₁ o₂ o₃ : List ℕ} → Looks s i (N.Operator w e) → Lays lim (ascii "(if") o p o₁ q → Text (left (i + 1) + 1) (λ f. showTerms (termsIn f s (i + 1) e)) lim o₁ q o₂ r → Lays lim (ascii ")") o₂ r o₃ t →
+    Text (left i) (λ f. showTerm (termIn f s i)) lim o p o₃ t
+unfolding showTerm
+term-operator {w = w} H A B C = term-lays H (λ f l. lays-as (opened w _) (lays-two A (lays-two (B .is f (omega (arith, H .inside .0, H .inside .1))) C)))
 
 pub term-negation : {s : List ℕ} {i lim p q r t : ℕ} {o o₁ o₂ o₃ : List ℕ} → Looks s i N.Negation → Lays lim (ascii "(not ") o p o₁ q → Text (left (i + 1)) (λ f. showTerm (termIn f s (i + 1))) lim o₁ q o₂ r → Lays lim (ascii ")") o₂ r o₃ t →
     Text (left i) (λ f. showTerm (termIn f s i)) lim o p o₃ t
@@ -288,6 +300,9 @@ ops-record H A = ops-lays H (λ f l. A .is f (omega (arith, H .inside .0, H .ins
 
 pub ops-binary : {s : List ℕ} {i j lim p q r : ℕ} {w : Op} {o o₁ o₂ : List ℕ} → Looks s i (N.Binary w j) → Text (left (i + 1)) (λ f. showOps (opsIn f s (i + 1))) lim o p o₁ q → Text (left j) (λ f. showOps (opsIn f s j)) lim o₁ q o₂ r → Text (left i) (λ f. showOps (opsIn f s i)) lim o p o₂ r
 ops-binary {s} {i} {j} H A B = ops-lays H (λ f l. lays-as (sym (show-append (opsIn f s (i + 1)) (opsIn f s j))) (lays-two (A .is f (omega (arith, H .inside .0, H .inside .1))) (B .is f (omega (arith, H .inside .0, H .inside .1)))))
+
+pub ops-operator : {s : List ℕ} {i e lim p r : ℕ} {w : Fun} {o o′ : List ℕ} → Looks s i (N.Operator w e) → Text (left (i + 1) + 1) (λ f. showOps (opsInF f s (i + 1) e)) lim o p o′ r → Text (left i) (λ f. showOps (opsIn f s i)) lim o p o′ r
+ops-operator H A = ops-lays H (λ f l. A .is f (omega (arith, H .inside .0, H .inside .1)))
 
 pub ops-negation : {s : List ℕ} {i lim p r : ℕ} {o o′ : List ℕ} → Looks s i N.Negation → Text (left (i + 1)) (λ f. showOps (opsIn f s (i + 1))) lim o p o′ r → Text (left i) (λ f. showOps (opsIn f s i)) lim o p o′ r
 ops-negation H A = ops-lays H (λ f l. A .is f (omega (arith, H .inside)))

@@ -4,7 +4,7 @@ use mathlib.Core.Path.{refl}
 use Prim.Native.Nat.{_+_}
 use Rattle.form_words.specs.FormTree.{left}
 use Rattle.form_words.proofs.NodeWords.{recast, recastC, next-past}
-use Rattle.plan_lines.proofs.Exits.{ops-none, ops-record, ops-binary, ops-negation, ops-comprehension, upto-end, upto-more, inside-generator, inside-condition, inside-head}
+use Rattle.plan_lines.proofs.Exits.{ops-none, ops-record, ops-binary, ops-negation, ops-operator, ops-comprehension, upto-end, upto-more, inside-generator, inside-condition, inside-head}
 use borrow.Author.Needs.{needs}
 use Prim.Native.Nat.{ℕ, _<_}
 use borrow.Fn.Kinds.{In}
@@ -113,6 +113,9 @@ pub +inside+ops+ops-upto-spec : {M : Type 1} → statement M
     (λ c. let p = recast (c .before .before .before .look .ensures) (c .before .enum-told .given .1) .inside in omega (arith, p))
     (λ c κs. let p = recast (c .before .before .before .look .ensures) (c .before .enum-told .given .1) .inside in (omega (arith, p, c .before .before .before .before .before .before .pre .0), tt))
     (λ c. search needs)
+    (λ c. let p = recast (c .before .before .before .before .look .ensures) (c .before .before .f .given .1) .inside in omega (arith, p .0, p .1))
+    (λ c κs. let p = recast (c .before .before .before .before .look .ensures) (c .before .before .f .given .1) .inside in (omega (arith, p .0, p .1, c .before .before .before .before .before .before .before .pre .0), p .1))
+    (λ c. search needs)
     (λ c κs. recast (c .before .before .before .before .look .ensures) (c .before .before .m .given .1) .inside)
     (λ c. let p = recast (c .before .before .before .before .before .before .before .before .look .ensures) (c .before .before .before .before .before .before .m .given .1) .inside in omega (arith, p))
     (λ c κs. let p = recast (c .before .before .before .before .before .before .before .before .look .ensures) (c .before .before .before .before .before .before .m .given .1) .inside in (omega (arith, p, c .before .before .before .before .before .before .before .before .before .before .before .pre .0), tt))
@@ -130,6 +133,8 @@ pub +inside+ops+ops-upto-spec : {M : Type 1} → statement M
     (λ c. ops-binary (recast (c .before .before .before .before .before .before .before .before .before .before .before .look .ensures) (c .before .before .before .before .before .before .before .before .before .o .given .1)) (c .before .before .before .before .before .before .ops .ensures) (c .before .before .ops2 .ensures))
     (λ c. search needs)
     (λ c. ops-negation (recast (c .before .before .before .before .before .before .look .ensures) (c .before .before .before .before .enum-told .given .1)) (c .before .before .ops3 .ensures))
+    (λ c. search needs)
+    (λ c. ops-operator (recast (c .before .before .before .before .before .before .before .look .ensures) (c .before .before .before .before .before .f .given .1)) (c .before .before .ops-upto2 .ensures))
     (λ c. search needs)
     (λ c. ops-comprehension (recast (c .before .before .before .before .before .before .before .before .before .before .before .before .before .before .before .look .ensures) (c .before .before .before .before .before .before .before .before .before .before .before .before .before .m .given .1)) (c .before .before .before .before .before .before .before .before .before .before .own .ensures) (c .before .before .before .before .before .before .inside .ensures) (c .before .before .nest .ensures))
     (λ c. ops-none (recast (c .before .before .before .look .ensures) (c .before .g2 .given .1)) (λ f. refl))
