@@ -1,7 +1,7 @@
 -- Bytes that a normal form's terms and operators come to in its plan's lines: at most 64 for each node.
 use Prim.Native.Nat.{ℕ, _+_, _*_, _≤_}
 use native.Mathlib.Omega.{arith}
-use Rattle.spec_normal_form.specs.Form.{Form, Forms, Clauses, num, truth, row, cell, rec, bin, negate, comp, fnil, fcons, done, gen, cond}
+use Rattle.spec_normal_form.specs.Form.{Form, Forms, Clauses, num, truth, row, cell, rec, bin, negate, app, comp, fnil, fcons, done, gen, cond}
 use Rattle.spec_normal_form.specs.Size.{nodes, nodesF, nodesC}
 
 -- a term and a space; a comprehension in it is a place
@@ -12,6 +12,7 @@ abbrev mutual
   termBytes (row g) = 6
   termBytes (cell i g) = 15
   termBytes (rec ts) = 6 + termsBytes ts
+  termBytes (app f ts) = 6 + termsBytes ts
   termBytes (bin o s t) = 6 + (termBytes s + termBytes t)
   termBytes (negate t) = 6 + termBytes t
   termBytes (comp m q h) = 6
@@ -28,6 +29,7 @@ abbrev mutual
   opBytes (row g) = 0
   opBytes (cell i g) = 0
   opBytes (rec ts) = opsBytes ts
+  opBytes (app f ts) = opsBytes ts
   opBytes (bin o s t) = opBytes s + opBytes t
   opBytes (negate t) = opBytes t
   opBytes (comp m q h) = 40 + (clauseBytes q + (termBytes h + opBytes h))
@@ -50,6 +52,7 @@ mutual
   form-most (row g) = omega arith
   form-most (cell i g) = omega arith
   form-most (rec ts) = omega (arith, forms-most ts)
+  form-most (app f ts) = omega (arith, forms-most ts)
   form-most (bin o s t) = omega (arith, form-most s, form-most t)
   form-most (negate t) = omega (arith, form-most t)
   form-most (comp m q h) = omega (arith, clauses-most q, form-most h)

@@ -9,7 +9,7 @@ use lib.Dec.{eqb}
 use lib.ListN.{length, length-append}
 use Rattle.spec_calculus.specs.Lists.{pick}
 use Rattle.spec_calculus.specs.Syntax.{list, bag, set, Monoid, of, sum, max, min, some, all, and}
-use Rattle.spec_normal_form.specs.Form.{Form, Forms, Clauses, NormalForm, asForm, num, truth, row, cell, rec, bin, negate, comp, fnil, fcons, done, gen, cond}
+use Rattle.spec_normal_form.specs.Form.{Form, Forms, Clauses, NormalForm, asForm, num, truth, row, cell, rec, bin, negate, app, comp, fnil, fcons, done, gen, cond}
 use Rattle.spec_normal_form.specs.Size.{nodes, nodesF, nodesC, sizeFits}
 use Rattle.form_words.specs.FormWords.{Fits, FitsF, FitsC}
 use Rattle.spec_plan.specs.Plan.{PTerm, pbin, Source, Op, join, outer, nest}
@@ -306,6 +306,7 @@ mutual
   ops-most (row g) f n c S l = omega arith
   ops-most (cell i g) f n c S l = omega arith
   ops-most (rec ts) f n c S l = all-ops-most ts f n c S (omega arith)
+  ops-most (app o ts) f n c S l = all-ops-most ts f n c S (omega arith)
   ops-most (bin o s t) f n c S l = omega (
     arith,
     shown-both (ops s n c) (ops t (next s n) c),

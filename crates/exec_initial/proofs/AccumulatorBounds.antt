@@ -10,9 +10,9 @@ use lib.ListN.{length}
 use Rattle.spec_calculus.specs.Syntax as Sy
 use Rattle.spec_calculus.specs.Syntax.{Monoid, of, sum, max, some, all}
 use Rattle.spec_calculus.specs.Value.{Tables, rowsOf}
-use Rattle.spec_normal_form.specs.Form.{Form, Forms, Clauses, num, truth, row, cell, rec, bin, negate, comp, fnil, fcons, done, gen, cond}
+use Rattle.spec_normal_form.specs.Form.{Form, Forms, Clauses, num, truth, row, cell, rec, bin, negate, app, comp, fnil, fcons, done, gen, cond}
 use Rattle.spec_normal_form.specs.Bound.{ownGens, bound, compBound, within, withinF, withinC}
-use Rattle.spec_normal_form.proofs.Bounds.{within-bound, within-operands, within-negated, within-fields, within-field, within-gen, within-comp, within-cond}
+use Rattle.spec_normal_form.proofs.Bounds.{within-bound, within-operands, within-negated, within-app, within-fields, within-field, within-gen, within-comp, within-cond}
 use Rattle.form_words.specs.declared.FormNode.{FormNode}
 use Rattle.form_words.specs.declared.FormNode.the-variants as N
 use Rattle.form_words.specs.declared.Clause.{Clause}
@@ -108,6 +108,7 @@ module _ (s : List ℕ) (T : Tables) (few : (k : ℕ) → length (rowsOf T k) �
     takes-inners (row g) i p = refl
     takes-inners (cell j g) i p = refl
     takes-inners (rec ts) i p = takes-innersF ts (i + 1) p
+    takes-inners (app f ts) i p = takes-innersF ts (i + 1) p
     takes-inners (bin o t u) i p = takes-inners t (i + 1) (inners u (i + 1 + size t) p) ∙ takes-inners u (i + 1 + size t) p
     takes-inners (negate t) i p = takes-inners t (i + 1) p
     takes-inners (comp m q h) i p = refl
@@ -195,6 +196,7 @@ module _ (s : List ℕ) (T : Tables) (few : (k : ℕ) → length (rowsOf T k) �
     fit-inners (row g) i p L n w h = h
     fit-inners (cell j g) i p L n w h = h
     fit-inners (rec ts) i p L n w h = fit-innersF ts (i + 1) p (L .1) (omega arith) (within-fields ts w) h
+    fit-inners (app f ts) i p L n w h = fit-innersF ts (i + 1) p (L .1) (omega arith) (within-app f ts w) h
     fit-inners (bin o t u) i p L n w h =
         let v = within-operands o t u w in
         fit-inners t (i + 1) (inners u (i + 1 + size t) p) (L .1 .0) (omega arith) (v .0) (fit-inners u (i + 1 + size t) p (L .1 .1) (omega arith) (v .1) h)

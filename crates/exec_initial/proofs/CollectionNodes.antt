@@ -58,6 +58,7 @@ collection-at (N.Truth b) e = absurd (subst IsCollection (sym e) tt)
 collection-at (N.Row g) e = absurd (subst IsCollection (sym e) tt)
 collection-at (N.Cell c g) e = absurd (subst IsCollection (sym e) tt)
 collection-at (N.Record j) e = absurd (subst IsCollection (sym e) tt)
+collection-at (N.Operator f j) e = absurd (subst IsCollection (sym e) tt)
 collection-at (N.Binary o j) e = absurd (subst IsCollection (sym e) tt)
 collection-at N.Negation e = absurd (subst IsCollection (sym e) tt)
 collection-at (N.Comprehension m) e = record { monoid = m; node = refl; collects = monoid-collects m e }

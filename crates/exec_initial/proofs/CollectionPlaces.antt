@@ -8,7 +8,7 @@ use Prim.Native.Nat.{ℕ, suc, _+_, _≤_}
 use lib.ListN.{length}
 use Rattle.spec_calculus.specs.Syntax.{Monoid}
 use Rattle.spec_encoding.specs.Record.{Bytes}
-use Rattle.spec_normal_form.specs.Form.{Form, Forms, Clauses, NormalForm, asForm, num, truth, row, cell, rec, bin, negate, comp, fnil, fcons, done, gen, cond}
+use Rattle.spec_normal_form.specs.Form.{Form, Forms, Clauses, NormalForm, asForm, num, truth, row, cell, rec, bin, negate, app, comp, fnil, fcons, done, gen, cond}
 use Rattle.base_scratch.specs.Map.{places}
 use Rattle.form_words.specs.NodeWord.{next, nodeAt}
 use Rattle.form_words.specs.FormTree.{formTree}
@@ -78,6 +78,7 @@ module _ (s : List ℕ) (c : ℕ → ℕ) where
         let W = withouts ts (i + 1) k j n (L .1) w b (omega (arith, l)) h x m in
         let r = parts-within ts (i + 1) j h in
         record { list = W .list; none = W .none; are = into-parts s fuel (omega arith) i j (i + 1 + sizeF ts) (W .list) (ap shapeOf (L .0)) (omega (arith, r .0)) (omega (arith, r .1, l)) (W .are) }
+    without (app f ts) i k j n L w b l h x m = here i j n h
     without (bin o t u) i k j n L w b l h x m = here i j n h
     without (negate t) i k j n L w b l h x m = here i j n h
     without (comp o q u) i k j n L w b l h x m = here i j n h
@@ -127,6 +128,7 @@ module _ (s : List ℕ) where
     term-based (row g) i k b c p L w d l h B = B
     term-based (cell x g) i k b c p L w d l h B = B
     term-based (rec ts) i k b c p L w d l h B = terms-based ts (i + 1) k b c p (L .1) w d (omega (arith, l)) h B
+    term-based (app f ts) i k b c p L w d l h B = terms-based ts (i + 1) k b c p (L .1) w d (omega (arith, l)) h B
     term-based (bin o t u) i k b c p L w d l h B =
         term-based t (i + 1) k b c (inners u (i + 1 + size t) p) (L .1 .0) (w .0) d (omega (arith, l)) (later-same (compOf p) (compOf (inners u (i + 1 + size t) p)) b (comp-inners u (i + 1 + size t) p) h)
         (term-based u (i + 1 + size t) (P.next t k) b c p (L .1 .1) (w .1) (λ g. omega (arith, d g, next-up t k)) (omega (arith, l)) h B)

@@ -8,7 +8,7 @@ use Prim.Native.Nat.{ℕ, suc, _+_, _≤_}
 use lib.ListN.{length}
 use Rattle.spec_calculus.specs.Lists.{upd}
 use Rattle.spec_calculus.specs.Syntax.{Monoid}
-use Rattle.spec_normal_form.specs.Form.{Form, Forms, Clauses, NormalForm, asForm, num, truth, row, cell, rec, bin, negate, comp, fnil, fcons, done, gen, cond, gens, gensC}
+use Rattle.spec_normal_form.specs.Form.{Form, Forms, Clauses, NormalForm, asForm, num, truth, row, cell, rec, bin, negate, app, comp, fnil, fcons, done, gen, cond, gens, gensC}
 use Rattle.spec_normal_form.proofs.Locality.{Grows}
 use Rattle.spec_normal_form.specs.NoRule.{behind, Ordered, OrderedF, OrderedC}
 use Rattle.spec_normal_form.proofs.NoRuleApplies.{behind-grows}
@@ -20,7 +20,7 @@ use Rattle.plan_marks.proofs.FormInWords.{Lies, LiesF, LiesC}
 use Rattle.plan_marks.proofs.FormMarks.{seatsOf, nextC, Marked, MarkedF, MarkedC, nextC-up, seats-most, behind-is}
 use Rattle.plan_marks.proofs.FormMarks as M
 use Rattle.plan_machine.specs.AnswerText.{collects}
-use Rattle.plan_machine.proofs.CollectionsInHeads.{Scalar, ScalarC, Either, Fitting, FittingF, scalar-fitting}
+use Rattle.plan_machine.proofs.CollectionsInHeads.{Scalar, ScalarF, ScalarC, Either, Fitting, FittingF, scalar-fitting}
 use Rattle.plan_links.specs.Spots.{Spots, end, compOf, gensAt, orUnit, inners, innersF, innersC, spotsOf}
 use Rattle.plan_links.proofs.FormLinks.{comp-inners, comp-innersF, comp-innersC, comp-own}
 use Rattle.exec_simulation.specs.WiredProgram.{Id, endI}
@@ -33,6 +33,10 @@ use Rattle.exec_initial.proofs.LoopPlaces.{loopIds, own-length, own-nam
 pub head-fits : (b : Bool) (t : Form) → Either b (Fitting t) (Scalar t) → Fitting t
 head-fits true t h = h
 head-fits false t h = scalar-fitting t h
+
+scalars-fitting : (ts : Forms) → ScalarF ts → FittingF ts
+scalars-fitting fnil h = tt
+scalars-fitting (fcons t ts) h = (scalar-fitting t (h .0), scalars-fitting ts (h .1))
 
 -- a comprehension planned at width k
 module _ (s : List ℕ) (m : Monoid) (q : Clauses) (u : Form) (c k j : ℕ) (d : ℕ → ℕ) (S : ℕ → Bool) (L : Lies s c (comp m q u)) (n : c + size (comp m q u) ≤ places) (z : Steps s c (comp m q u)) (w : Marked s c (comp m q u) d k)
@@ -97,6 +101,7 @@ module _ (s : List ℕ) where
     term-fills (row x) i k j B S F p L n y w o f g b e H K = K F H
     term-fills (cell x v) i k j B S F p L n y w o f g b e H K = K F H
     term-fills (rec ts) i k j B S F p L n y w o f g b e H K = terms-fills ts (i + 1) k j B S F p (L .1) (omega (arith, n)) y w o f g b e H K
+    term-fills (app φ ts) i k j B S F p L n y w o f g b e H K = terms-fills ts (i + 1) k j B S F p (L .1) (omega (arith, n)) y w o (scalars-fitting ts f) g b e H K
     term-fills (bin x t u) i k j B S F p L n y w o f g b e H K =
         term-fills t (i + 1) k j B S F (inners u (i + 1 + size t) p) (L .1 .0) (omega (arith, n)) (y .0) (w .0) (o .0) (scalar-fitting t (f .0)) g (λ x h. b x (inl h)) (comp-inners u (i + 1 + size t) p ∙ e) H
         (λ G J. term-fills u (i + 1 + size t) (P.next t k) (j + gens t) B S G p (L .1 .1) (omega (arith, n)) (y .1) (w .1) (o .1) (scalar-fitting u (f .1)) g (λ x h. b x (inr h)) e J K)

@@ -7,7 +7,7 @@ use mathlib.Core.List.{List}
 use Prim.Native.Nat.{ℕ, zero, suc, _+_, _≤_}
 use borrow.Author.Tests.{eqb-true}
 use lib.Dec.{eqb}
-use Rattle.spec_normal_form.specs.Form.{Form, Forms, num, truth, row, cell, rec, bin, negate, comp, fnil, fcons}
+use Rattle.spec_normal_form.specs.Form.{Form, Forms, num, truth, row, cell, rec, bin, negate, app, comp, fnil, fcons}
 use Rattle.form_words.specs.FormWords.{size}
 use Rattle.base_signed.proofs.SignedWords.{by-test, no}
 use Rattle.spec_plan.specs.Planner as P
@@ -41,6 +41,7 @@ module _ (s : List ℕ) (c : ℕ → ℕ) (n : ℕ) (low : (g : ℕ) → c g ≤
     found (row g) i k w e = absurd (omega (arith, low g, slot-part (c g) n e))
     found (cell x g) i k w e = no (sym e)
     found (rec ts) i k w e = founds ts (i + 1) k w e
+    found (app f ts) i k w e = no (sym e)
     found (bin o t u) i k w e = no (sym e)
     found (negate t) i k w e = no (sym e)
     found (comp m q u) i k w e = record { node = i; part = refl; top = refl; mark = w .0 ∙ ap suc (sym (eqb-true n k (sym (or-false (eqb n k)) ∙ e))) }

@@ -8,7 +8,7 @@ use borrow.Author.Tests.{ltb-true, ltb-false}
 use lib.Dec.{ltb}
 use lib.ListN.{length, length-append, List·getD-append}
 use lib.Seq.{getD-append-seam}
-use Rattle.spec_normal_form.specs.Form.{Form, Forms, num, truth, row, cell, rec, bin, negate, comp, fnil, fcons}
+use Rattle.spec_normal_form.specs.Form.{Form, Forms, num, truth, row, cell, rec, bin, negate, app, comp, fnil, fcons}
 use Rattle.form_words.specs.NodeWord.{nodeAt}
 use Rattle.form_words.specs.FormWords.{size}
 use Rattle.base_signed.proofs.SignedWords.{by-test}
@@ -53,6 +53,7 @@ module _ (s : List ℕ) (F : List Id) (b : ℕ) where
     part-named (row g) i j L h e l k = absurd (other i j (ap shapeOf (L .0)) e k)
     part-named (cell c g) i j L h e l k = absurd (other i j (ap shapeOf (L .0)) e k)
     part-named (rec ts) i j L h e l k = parts-named ts (i + 1) j (L .1) h e l k
+    part-named (app f ts) i j L h e l k = absurd (other i j (ap shapeOf (L .0)) e k)
     part-named (bin o t u) i j L h e l k = absurd (other i j (ap shapeOf (L .0)) e k)
     part-named (negate t) i j L h e l k = absurd (other i j (ap shapeOf (L .0)) e k)
     part-named (comp m q u) i j L h e l k = subst (λ y. NamesEnd F (markAt s y) y) (sym e) (h (omega (arith, l, e)))

@@ -5,7 +5,7 @@ use Prim.Native.Nat.{ℕ, suc, _+_, _≤_, _<_}
 use native.Mathlib.Omega.{arith}
 use borrow.Author.Tests.{ltb-true, ltb-false}
 use lib.Dec.{ltb}
-use Rattle.spec_normal_form.specs.Form.{Form, Forms, Clauses, num, truth, row, cell, rec, bin, negate, comp, fnil, fcons, done, gen, cond}
+use Rattle.spec_normal_form.specs.Form.{Form, Forms, Clauses, num, truth, row, cell, rec, bin, negate, app, comp, fnil, fcons, done, gen, cond}
 use Rattle.form_words.specs.declared.FormNode.{FormNode}
 use Rattle.form_words.specs.declared.FormNode.the-variants as N
 use Rattle.form_words.specs.NodeWord.{nodeAt}
@@ -54,6 +54,7 @@ module _ (C : ℕ → ℕ) (s : List ℕ) where
     says-term (row g) i h w = says-plain i (h .0) refl
     says-term (cell j g) i h w = says-plain i (h .0) refl
     says-term (rec ts) i h w = says-to (omega arith) (says-both (says-plain i (h .0) refl) (says-terms ts (i + 1) (h .1) w))
+    says-term (app f ts) i h w = says-to (omega arith) (says-both (says-plain i (h .0) refl) (says-terms ts (i + 1) (h .1) w))
     says-term (bin o t u) i h w = says-to (omega arith) (says-both (says-plain i (h .0) refl) (says-both (says-term t (i + 1) (h .1 .0) (w .0)) (says-term u (i + 1 + size t) (h .1 .1) (w .1))))
     says-term (negate t) i h w = says-to (omega arith) (says-both (says-plain i (h .0) refl) (says-term t (i + 1) (h .1) w))
     says-term (comp m q u) i h w = says-to (omega arith) (says-both (says-plain i (h .0) refl) (says-both (says-clauses q (i + 1) (h .1 .0) (w .0)) (says-term u (i + 1 + sizeC q) (h .1 .1 .1) (w .1))))

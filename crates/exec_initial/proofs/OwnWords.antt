@@ -79,6 +79,7 @@ generator-node (N.Truth b) g k e = cc
 generator-node (N.Row x) g k e = cc
 generator-node (N.Cell c x) g k e = cc
 generator-node (N.Record j) g k e = cc
+generator-node (N.Operator f j) g k e = cc
 generator-node (N.Binary o j) g k e = cc
 generator-node N.Negation g k e = cc
 generator-node (N.Comprehension m) g k e = cc

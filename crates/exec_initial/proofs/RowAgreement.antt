@@ -8,7 +8,7 @@ use Rattle.spec_calculus.specs.Syntax as Sy
 use Rattle.spec_calculus.specs.Syntax.{Monoid, of, sum, max, some, all}
 use Rattle.spec_calculus.specs.Value.{Value}
 use Rattle.spec_encoding.specs.Record.{Bytes}
-use Rattle.spec_normal_form.specs.Form.{Form, Forms, Clauses, num, truth, row, cell, rec, bin, negate, comp, fnil, fcons, done, gen, cond}
+use Rattle.spec_normal_form.specs.Form.{Form, Forms, Clauses, num, truth, row, cell, rec, bin, negate, app, comp, fnil, fcons, done, gen, cond}
 use Rattle.base_scratch.specs.Map.{places}
 use Rattle.form_words.specs.NodeWord.{wordAt, nodeAt}
 use Rattle.form_words.specs.FormTree.{formTree}
@@ -20,16 +20,16 @@ use Rattle.plan_marks.specs.PlanIn.{monoidBy}
 use Rattle.plan_marks.proofs.FormInWords.{Lies, LiesF, LiesC}
 use Rattle.plan_machine.specs.MachineWords.{Words}
 use Rattle.plan_machine.specs.AnswerText.{collects}
-use Rattle.plan_machine.proofs.CollectionsInHeads.{Scalar, ScalarC, Fitting, FittingF}
+use Rattle.plan_machine.proofs.CollectionsInHeads.{Scalar, ScalarF, ScalarC, Fitting, FittingF}
 use Rattle.plan_links.specs.Spots.{Spots}
 use Rattle.plan_links.specs.SpotWords.{fuel}
 use Rattle.form_env.specs.Environment.{envOf, tablesIn}
 use Rattle.form_env.proofs.SameForm.{node-same, form-same}
 use Rattle.exec_terms.specs.Agreement.{heldAt, Kept}
-use Rattle.exec_terms.proofs.FormAgreement.{tree-is, AgreesOn, AgreesOnC}
+use Rattle.exec_terms.proofs.FormAgreement.{tree-is, AgreesOn, AgreesOnF, AgreesOnC}
 use Rattle.exec_terms.proofs.PartsPre.{AgreesUpto, AgreesUptoF}
 use Rattle.exec_simulation.specs.WiredProgram.{Id}
-use Rattle.exec_initial.specs.PlaceFillers.{NamesRow, NamesEnd, Named, NamedC, NamedUpto, NamedUptoF}
+use Rattle.exec_initial.specs.PlaceFillers.{NamesRow, NamesEnd, Named, NamedF, NamedC, NamedUpto, NamedUptoF}
 use Rattle.exec_initial.specs.PlaceContents.{HoldsEnd, HoldsBy, Holding}
 
 held-place : (m n : ℕ) (r : Row) → m ≡ suc n → heldAt m r ≡ valueOf (at n r)
@@ -64,9 +64,14 @@ module _ (d : Bytes) (p : Spots) (b s : List ℕ) (same : (i : ℕ) → wordAt s
     agrees-named (row g) i L n f h = absurd f
     agrees-named (cell c g) i L n f h = row-agrees i g h
     agrees-named (rec ts) i L n f h = absurd f
+    agrees-named (app o ts) i L n f h = agrees-operands ts (i + 1) (L .1) (omega (arith, n)) f h
     agrees-named (bin o t u) i L n f h = (agrees-named t (i + 1) (L .1 .0) (omega (arith, n)) (f .0) (h .0), agrees-named u (i + 1 + size t) (L .1 .1) (omega (arith, n)) (f .1) (h .1))
     agrees-named (negate t) i L n f h = agrees-named t (i + 1) (L .1) (omega (arith, n)) f h
     agrees-named (comp m q u) i L n f h = comp-agrees m q u i L (omega (arith, n)) (f .0) h
+
+    agrees-operands : (ts : Forms) (i : ℕ) → LiesF b i ts → i + sizeF ts ≤ places → ScalarF ts → NamedF b F i ts → AgreesOnF d s r i ts
+    agrees-operands fnil i L n f h = tt
+    agrees-operands (fcons t ts) i L n f h = (agrees-named t i (L .1 .0) (omega (arith, n)) (f .0) (h .0), agrees-operands ts (i + size t) (L .1 .1) (omega (arith, n)) (f .1) (h .1))
 
   -- ---- conditions
   pub agrees-conditions : (q : Clauses) (m i : ℕ) → LiesC b i q → i + sizeC q ≤ places → ScalarC q → NamedC b F m i q → AgreesOnC d s r m i q
@@ -97,6 +102,7 @@ module _ (d : Bytes) (p : Spots) (b s : List ℕ) (same : (i : ℕ) → wordAt s
     agrees-named-upto (row g) e i L n f h = λ l. row-agrees i g (h l)
     agrees-named-upto (cell c g) e i L n f h = λ l. row-agrees i g (h l)
     agrees-named-upto (rec ts) e i L n f h = agrees-each-upto ts e (i + 1) (L .1) (omega (arith, n)) f h
+    agrees-named-upto (app o ts) e i L n f h = λ l. agrees-named (app o ts) i L (omega (arith, n)) f (h l)
     agrees-named-upto (bin o t u) e i L n f h = λ l. agrees-named (bin o t u) i L (omega (arith, n)) f (h l)
     agrees-named-upto (negate t) e i L n f h = λ l. agrees-named (negate t) i L (omega (arith, n)) f (h l)
     agrees-named-upto (comp m q u) e i L n f h = comp-upto e m q u i L (omega (arith, n)) h

@@ -7,7 +7,7 @@ use mathlib.Core.List.{List, [], _∷_, _++_}
 use Prim.Native.Nat.{ℕ, suc, _+_, _≤_, _<_}
 use lib.ListN.{length, length-append, List·getD-append}
 use lib.Seq.{getD-append-seam}
-use Rattle.spec_normal_form.specs.Form.{Form, Forms, num, truth, row, cell, rec, bin, negate, comp, fnil, fcons, gens}
+use Rattle.spec_normal_form.specs.Form.{Form, Forms, num, truth, row, cell, rec, bin, negate, app, comp, fnil, fcons, gens}
 use Rattle.spec_normal_form.specs.NoRule.{Ordered, OrderedF}
 use Rattle.base_syntax.specs.declared.Monoid.{Monoid}
 use Rattle.form_words.specs.declared.FormNode.the-variants.{Comprehension, Generator}
@@ -71,6 +71,7 @@ module _ (s : List ℕ) (F : List Id) (c : ℕ → ℕ) (S : ℕ → Bool) (R : 
     named-in (row g) i k j w o l E = named-row i g w o l
     named-in (cell x g) i k j w o l E = named-row i g w o l
     named-in (rec ts) i k j w o l E = named-each ts (i + 1) k j w o l E
+    named-in (app f ts) i k j w o l E = named-each ts (i + 1) k j w o l E
     named-in (bin x t u) i k j w o l E = (
       named-in t (i + 1) k j (w .0) (o .0) (omega (arith, l)) (λ b h. E b (inl h)),
       named-in u (i + 1 + size t) (P.next t k) (j + gens t) (w .1) (o .1) (omega (arith, l)) (λ b h. E b (inr h)),
@@ -93,6 +94,7 @@ mutual
   upto-whole s F b (row g) i h = λ l. h
   upto-whole s F b (cell c g) i h = λ l. h
   upto-whole s F b (rec ts) i h = uptos-whole s F b ts (i + 1) h
+  upto-whole s F b (app f ts) i h = λ l. h
   upto-whole s F b (bin o t u) i h = λ l. h
   upto-whole s F b (negate t) i h = λ l. h
   upto-whole s F b (comp m q u) i h = λ l. h
@@ -108,6 +110,7 @@ mutual
   upto-past s F b (row g) i h = λ l. absurd (omega (arith, l, h))
   upto-past s F b (cell c g) i h = λ l. absurd (omega (arith, l, h))
   upto-past s F b (rec ts) i h = uptos-past s F b ts (i + 1) (omega (arith, h))
+  upto-past s F b (app f ts) i h = λ l. absurd (omega (arith, l, h))
   upto-past s F b (bin o t u) i h = λ l. absurd (omega (arith, l, h))
   upto-past s F b (negate t) i h = λ l. absurd (omega (arith, l, h))
   upto-past s F b (comp m q u) i h = λ l. absurd (omega (arith, l, h))
@@ -128,6 +131,7 @@ module _ (s : List ℕ) (F : List Id) (c : ℕ → ℕ) (S : ℕ → Bool) (R : 
     upto-in (row g) i k j L w o l h E = upto-past s F b (row g) i (omega (arith, h))
     upto-in (cell y g) i k j L w o l h E = upto-past s F b (cell y g) i (omega (arith, h))
     upto-in (rec ts) i k j L w o l h E = uptos-in ts (i + 1) k j (L .1) w o l h E
+    upto-in (app f ts) i k j L w o l h E = upto-past s F b (app f ts) i (omega (arith, h))
     upto-in (bin y t u) i k j L w o l h E = upto-past s F b (bin y t u) i (omega (arith, h))
     upto-in (negate t) i k j L w o l h E = upto-past s F b (negate t) i (omega (arith, h))
     upto-in (comp n q u) i k j L w o l h E = upto-past s F b (comp n q u) i (omega (arith, h))

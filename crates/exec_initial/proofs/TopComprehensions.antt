@@ -5,7 +5,7 @@ use mathlib.Core.Logic.{_⊎_, inl, inr}
 use mathlib.Core.Bool.{true}
 use mathlib.Core.List.{List}
 use Prim.Native.Nat.{ℕ, suc, _+_, _≤_, _<_}
-use Rattle.spec_normal_form.specs.Form.{Form, Forms, Clauses, num, truth, row, cell, rec, bin, negate, comp, fnil, fcons, done, gen, cond}
+use Rattle.spec_normal_form.specs.Form.{Form, Forms, Clauses, num, truth, row, cell, rec, bin, negate, app, comp, fnil, fcons, done, gen, cond}
 use Rattle.base_syntax.specs.declared.Monoid.{Monoid}
 use Rattle.form_words.specs.declared.FormNode.{FormNode}
 use Rattle.form_words.specs.declared.FormNode.the-variants as N
@@ -25,6 +25,7 @@ abbrev mutual
   TopAt i (row g) b = ⊥
   TopAt i (cell c g) b = ⊥
   TopAt i (rec ts) b = TopAtF (i + 1) ts b
+  TopAt i (app f ts) b = TopAtF (i + 1) ts b
   TopAt i (bin o t u) b = TopAt (i + 1) t b ⊎ TopAt (i + 1 + size t) u b
   TopAt i (negate t) b = TopAt (i + 1) t b
   TopAt i (comp m q h) b = b ≡ i
@@ -53,6 +54,7 @@ mutual
   free-top (row g) i b e h = h
   free-top (cell c g) i b e h = h
   free-top (rec ts) i b e h = frees-top ts (i + 1) b e h
+  free-top (app f ts) i b e h = frees-top ts (i + 1) b e h
   free-top (bin o t u) i b e (inl h) = free-top t (i + 1) b (and-left (P.free t) (P.free u) e) h
   free-top (bin o t u) i b e (inr h) = free-top u (i + 1 + size t) b (and-right (P.free t) (P.free u) e) h
   free-top (negate t) i b e h = free-top t (i + 1) b e h
@@ -73,6 +75,7 @@ mutual
   top-within (row g) i b h = absurd h
   top-within (cell c g) i b h = absurd h
   top-within (rec ts) i b h = let w = tops-within ts (i + 1) b h in (omega (arith, w .0), omega (arith, w .1))
+  top-within (app f ts) i b h = let w = tops-within ts (i + 1) b h in (omega (arith, w .0), omega (arith, w .1))
   top-within (bin o t u) i b (inl h) = let w = top-within t (i + 1) b h in (omega (arith, w .0), omega (arith, w .1))
   top-within (bin o t u) i b (inr h) = let w = top-within u (i + 1 + size t) b h in (omega (arith, w .0), omega (arith, w .1))
   top-within (negate t) i b h = let w = top-within t (i + 1) b h in (omega (arith, w .0), omega (arith, w .1))
@@ -90,6 +93,7 @@ Inner (N.Truth z) = ⊥
 Inner (N.Row g) = ⊥
 Inner (N.Cell c g) = ⊥
 Inner (N.Record j) = ⊥
+Inner (N.Operator f j) = ⊥
 Inner (N.Binary o j) = ⊥
 Inner N.Negation = ⊥
 Inner (N.Comprehension m) = Unit {0}
@@ -108,6 +112,7 @@ module _ (s : List ℕ) {m : Monoid} (b : ℕ) (e : nodeAt s b ≡ N.Comprehensi
     part-top (row g) i l h = other i h (l .0)
     part-top (cell c g) i l h = other i h (l .0)
     part-top (rec ts) i l h = parts-top ts (i + 1) (l .1) h
+    part-top (app f ts) i l h = absurd (other i h (l .0))
     part-top (bin o t u) i l h = absurd (other i h (l .0))
     part-top (negate t) i l h = absurd (other i h (l .0))
     part-top (comp n q u) i l h = h
@@ -131,6 +136,7 @@ module _ (s : List ℕ) (c : ℕ → ℕ) where
     top-range (row g) i k b w h = absurd h
     top-range (cell j g) i k b w h = absurd h
     top-range (rec ts) i k b w h = tops-range ts (i + 1) k b w h
+    top-range (app f ts) i k b w h = tops-range ts (i + 1) k b w h
     top-range (bin o t u) i k b w (inl h) = let r = top-range t (i + 1) k b (w .0) h in (r .0, omega (arith, r .1, next-up u (P.next t k)))
     top-range (bin o t u) i k b w (inr h) = let r = top-range u (i + 1 + size t) (P.next t k) b (w .1) h in (omega (arith, r .0, next-up t k), r .1)
     top-range (negate t) i k b w h = top-range t (i + 1) k b w h
@@ -158,6 +164,7 @@ module _ (s : List ℕ) (c : ℕ → ℕ) where
     top-one (row x) i k b d w h g e = absurd h
     top-one (cell j x) i k b d w h g e = absurd h
     top-one (rec ts) i k b d w h g e = tops-one ts (i + 1) k b d w h g e
+    top-one (app f ts) i k b d w h g e = tops-one ts (i + 1) k b d w h g e
     top-one (bin o t u) i k b d w (inl h) (inl g) e = top-one t (i + 1) k b d (w .0) h g e
     top-one (bin o t u) i k b d w (inl h) (inr g) e = absurd (omega (arith, e, top-range t (i + 1) k b (w .0) h .1, top-range u (i + 1 + size t) (P.next t k) d (w .1) g .0))
     top-one (bin o t u) i k b d w (inr h) (inl g) e = absurd (omega (arith, e, top-range t (i + 1) k d (w .0) g .1, top-range u (i + 1 + size t) (P.next t k) b (w .1) h .0))

@@ -4,7 +4,7 @@ use mathlib.Core.Path.{_≡_, _∙_}
 use mathlib.Core.List.{List, [], _∷_}
 use Prim.Native.Nat.{ℕ, _+_, _≤_, _<_}
 use Rattle.spec_calculus.proofs.Lists.{All, all-front, all-behind}
-use Rattle.spec_normal_form.specs.Form.{Form, Forms, Clauses, NormalForm, num, truth, row, cell, rec, bin, negate, comp, fnil, fcons, done, gen, cond}
+use Rattle.spec_normal_form.specs.Form.{Form, Forms, Clauses, NormalForm, num, truth, row, cell, rec, bin, negate, app, comp, fnil, fcons, done, gen, cond}
 use Rattle.base_scratch.specs.Map.{places}
 use Rattle.form_words.specs.FormWords.{size, sizeC}
 use Rattle.plan_machine.specs.Program.{Program, programOf}
@@ -59,6 +59,7 @@ mutual
   shaped-inners (row g) i p l h = h
   shaped-inners (cell j g) i p l h = h
   shaped-inners (rec ts) i p l h = shaped-innersF ts (i + 1) p (omega arith) h
+  shaped-inners (app f ts) i p l h = shaped-innersF ts (i + 1) p (omega arith) h
   shaped-inners (bin o t u) i p l h = shaped-inners t (i + 1) (inners u (i + 1 + size t) p) (omega arith) (shaped-inners u (i + 1 + size t) p (omega arith) h)
   shaped-inners (negate t) i p l h = shaped-inners t (i + 1) p (omega arith) h
   shaped-inners (comp m q u) i p l h =

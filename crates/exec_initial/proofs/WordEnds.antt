@@ -3,7 +3,7 @@ use native.Mathlib.Omega.{arith}
 use mathlib.Core.Path.{_≡_, subst, _∙_}
 use mathlib.Core.List.{List, _++_}
 use Prim.Native.Nat.{ℕ, _+_, _≤_}
-use Rattle.spec_normal_form.specs.Form.{Form, Forms, Clauses, num, truth, row, cell, rec, bin, negate, comp, fnil, fcons, done, gen, cond}
+use Rattle.spec_normal_form.specs.Form.{Form, Forms, Clauses, num, truth, row, cell, rec, bin, negate, app, comp, fnil, fcons, done, gen, cond}
 use Rattle.base_scratch.specs.Map.{places}
 use Rattle.form_words.specs.NodeWord.{next}
 use Rattle.form_words.specs.FormWords.{size, sizeF, sizeC, flat, flatF, flatC, Holds}
@@ -16,6 +16,7 @@ abbrev mutual
   Steps s i (row g) = Unit {0}
   Steps s i (cell c g) = Unit {0}
   Steps s i (rec ts) = StepsF s (i + 1) ts
+  Steps s i (app f ts) = StepsF s (i + 1) ts
   Steps s i (bin o t u) = Steps s (i + 1) t × Steps s (i + 1 + size t) u
   Steps s i (negate t) = Steps s (i + 1) t
   Steps s i (comp m q h) = (next s i ≡ i + size (comp m q h)) × ((next s (i + 1 + sizeC q) ≡ i + 1 + sizeC q + size h) × (StepsC s (i + 1) q × Steps s (i + 1 + sizeC q) h))
@@ -40,6 +41,7 @@ module _ (s r : List ℕ) (n : (j : ℕ) → next r j ≡ next s j) where
     steps (row g) i l h = tt
     steps (cell c g) i l h = tt
     steps (rec ts) i l h = steps-each ts (i + 1) (omega (arith, l)) (subst (λ x. Holds s x (flatF ts)) (omega arith) (h .1))
+    steps (app f ts) i l h = steps-each ts (i + 1) (omega (arith, l)) (subst (λ x. Holds s x (flatF ts)) (omega arith) (h .1))
     steps (bin o t u) i l h =
         let h₀ : Holds s (i + 1) (flat t ++ flat u) = subst (λ x. Holds s x (flat t ++ flat u)) (omega arith) (h .1) in (
           steps t (i + 1) (omega (arith, l)) (holds-first s (flat t) (flat u) (i + 1) h₀),

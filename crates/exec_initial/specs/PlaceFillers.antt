@@ -6,7 +6,7 @@ use mathlib.Core.Bool.{true}
 use Prim.Native.Nat.{ℕ, suc, _+_, _≤_, _<_}
 use lib.ListN.{length, getD}
 use Rattle.spec_calculus.specs.Syntax.{Monoid}
-use Rattle.spec_normal_form.specs.Form.{Form, Forms, Clauses, num, truth, row, cell, rec, bin, negate, comp, fnil, fcons, done, gen, cond}
+use Rattle.spec_normal_form.specs.Form.{Form, Forms, Clauses, num, truth, row, cell, rec, bin, negate, app, comp, fnil, fcons, done, gen, cond}
 use Rattle.form_words.specs.declared.FormNode.the-variants.{Generator}
 use Rattle.base_scratch.specs.Map.{places}
 use Rattle.form_words.specs.NodeWord.{next, nodeAt}
@@ -58,6 +58,7 @@ abbrev mutual
   Named s F i (row g) = NamesRow s F (markAt s i) g
   Named s F i (cell c g) = NamesRow s F (markAt s i) g
   Named s F i (rec ts) = NamedF s F (i + 1) ts
+  Named s F i (app f ts) = NamedF s F (i + 1) ts
   Named s F i (bin o t u) = Named s F (i + 1) t × Named s F (i + 1 + size t) u
   Named s F i (negate t) = Named s F (i + 1) t
   Named s F i (comp m q h) = NamesEnd F (markAt s i) i
@@ -80,6 +81,7 @@ abbrev mutual
   NamedUpto s F b i (row g) = i < b → Named s F i (row g)
   NamedUpto s F b i (cell c g) = i < b → Named s F i (cell c g)
   NamedUpto s F b i (rec ts) = NamedUptoF s F b (i + 1) ts
+  NamedUpto s F b i (app f ts) = i < b → Named s F i (app f ts)
   NamedUpto s F b i (bin o t u) = i < b → Named s F i (bin o t u)
   NamedUpto s F b i (negate t) = i < b → Named s F i (negate t)
   NamedUpto s F b i (comp m q h) = i < b → Named s F i (comp m q h)

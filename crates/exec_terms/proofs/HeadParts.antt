@@ -6,8 +6,8 @@ use native.Mathlib.Omega.{arith}
 use borrow.Author.Tests.{le-leb, lt-leb}
 use Rattle.spec_calculus.specs.Lists.{pick}
 use Rattle.spec_calculus.specs.Syntax.{Monoid}
-use Rattle.spec_normal_form.specs.Form.{Form, Forms, num, truth, row, cell, rec, bin, negate, comp, fnil, fcons}
-use Rattle.spec_plan.specs.Plan.{PTerm, prec, pbin, pnegate, pnil, pcons}
+use Rattle.spec_normal_form.specs.Form.{Form, Forms, num, truth, row, cell, rec, bin, negate, app, comp, fnil, fcons}
+use Rattle.spec_plan.specs.Plan.{PTerm, prec, pbin, pnegate, papp, pnil, pcons}
 use Rattle.spec_plan.specs.Operators.{Row}
 use Rattle.form_words.specs.declared.FormNode.{FormNode}
 use Rattle.form_words.specs.NodeWord.{next, nodeAt}
@@ -15,7 +15,7 @@ use Rattle.form_words.specs.FormTree.{left}
 use Rattle.form_words.specs.FormWords.{size, sizeF}
 use Rattle.base_syntax.specs.declared.Monoid as Mo
 use Rattle.base_syntax.specs.declared.Monoid.the-variants as Mv
-use Rattle.base_syntax.specs.Numbers.{binOf, opArg, opAt, monoidArg, monoidAt}
+use Rattle.base_syntax.specs.Numbers.{binOf, opArg, opAt, funOf, funArg, funAt, monoidArg, monoidAt}
 use Rattle.base_scratch.specs.Map.{places}
 use Rattle.form_arith.specs.declared.Sort.the-variants as So
 use Rattle.form_arith.specs.WordSorts.{resultSort}
@@ -86,6 +86,8 @@ module _ (s : List ℕ) where
     term-same (bin o t u) i f g h l p q = term-at f i (h .0) (omega arith)
         ∙ ap₂ (pbin (binOf (opAt (opArg o)))) (term-same t (i + 1) (pred f) (pred g) (h .1 .0) (omega arith) (omega arith) (omega arith)) (term-same u (i + 1 + size t) (pred f) (pred g) (h .1 .1) (omega arith) (omega arith) (omega arith))
         ∙ sym (term-at g i (h .0) (omega arith))
+    term-same (app o ts) i f g h l p q = term-at f i (h .0) (omega arith)
+        ∙ ap (papp (funOf (funAt (funArg o)))) (terms-same ts (i + 1) (pred f) (pred g) (i + 1 + sizeF ts) (h .1) refl (omega arith) (omega arith) (omega arith)) ∙ sym (term-at g i (h .0) (omega arith))
     term-same (negate t) i f g h l p q = term-at f i (h .0) (omega arith) ∙ ap pnegate (term-same t (i + 1) (pred f) (pred g) (h .1) (omega arith) (omega arith) (omega arith)) ∙ sym (term-at g i (h .0) (omega arith))
     term-same (comp m c u) i f g h l p q = term-at f i (h .0) (omega arith) ∙ sym (term-at g i (h .0) (omega arith))
 
@@ -131,6 +133,7 @@ module _ (s : List ℕ) where
           ∙ parts-each ts (i + 1) (pred f) (pred g) (i + 1 + sizeF ts) (h .1) refl (omega arith) (omega arith) (omega arith) (subst (λ j. After j K) (omega arith) k)
           ∙ ap (λ z. z ++ K) (sym (ap parts (term-at g i (h .0) (omega arith)) ∙ refl))
       parts-in (bin o t u) i f g h n l p q k = single (Sh.Word (resultSort (binOf (opAt (opArg o))))) tt (bin o t u) i f g h n l p q (ap shapeOf (h .0)) (own-part (term-at g i (h .0) (omega arith)) refl) k
+      parts-in (app o ts) i f g h n l p q k = single (Sh.Word So.Either) tt (app o ts) i f g h n l p q (ap shapeOf (h .0)) (own-part (term-at g i (h .0) (omega arith)) refl) k
       parts-in (negate t) i f g h n l p q k = single (Sh.Word So.Truth) tt (negate t) i f g h n l p q (ap shapeOf (h .0)) (own-part (term-at g i (h .0) (omega arith)) refl) k
       parts-in (comp m c u) i f g h n l p q k = single (comprehensionShape (monoidAt (monoidArg m))) (single-comp (monoidAt (monoidArg m))) (comp m c u) i f g h n l p q (ap shapeOf (h .0)) (own-part (term-at g i (h .0) (omega arith)) (one-slot (markAt s i))) k
 

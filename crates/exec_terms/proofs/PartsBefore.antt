@@ -6,7 +6,7 @@ use mathlib.Core.Bool.{true, false}
 use Prim.Native.Nat.{ℕ, suc, pred, _+_, _≤_, _<_}
 use native.Mathlib.Omega.{arith}
 use borrow.Author.Tests.{eq-eqb}
-use Rattle.spec_normal_form.specs.Form.{Form, Forms, num, truth, row, cell, rec, bin, negate, comp, fnil, fcons}
+use Rattle.spec_normal_form.specs.Form.{Form, Forms, num, truth, row, cell, rec, bin, negate, app, comp, fnil, fcons}
 use Rattle.base_syntax.specs.declared.Monoid.{Monoid}
 use Rattle.spec_plan.specs.Plan.{PTerm}
 use Rattle.form_words.specs.declared.FormNode.the-variants as N
@@ -34,6 +34,7 @@ abbrev mutual
   PartAt i (rec ts) b = PartAtF (i + 1) ts b
   PartAt i (bin o t u) b = b ≡ i
   PartAt i (negate t) b = b ≡ i
+  PartAt i (app o ts) b = b ≡ i
   PartAt i (comp m q u) b = b ≡ i
 
   pub PartAtF : ℕ → Forms → ℕ → Type 0
@@ -51,6 +52,7 @@ mutual
   part-within (rec ts) i b h = let w = parts-within ts (i + 1) b h in (omega (arith, w .0), omega (arith, w .1))
   part-within (bin o t u) i b h = (omega arith, omega arith)
   part-within (negate t) i b h = (omega arith, omega arith)
+  part-within (app o ts) i b h = (omega arith, omega arith)
   part-within (comp m q u) i b h = (omega arith, omega arith)
 
   pub parts-within : (ts : Forms) (i b : ℕ) → PartAtF i ts b → (i ≤ b) × (b < i + sizeF ts)
@@ -122,6 +124,7 @@ module _ (s : List ℕ) (b : ℕ) (top : b ≤ places) {m : Monoid} (c : nodeAt 
     splits (rec ts) i g h l q e = into-record i g (i + 1 + sizeF ts) (h .0) q (omega (arith, parts-within ts (i + 1) b e .0)) (splits-in ts (i + 1) (pred g) (i + 1 + sizeF ts) (h .1) refl (omega arith) (omega arith) e)
     splits (bin o t u) i g h l q e = alone i g e (omega arith)
     splits (negate t) i g h l q e = alone i g e (omega arith)
+    splits (app o ts) i g h l q e = alone i g e (omega arith)
     splits (comp k p u) i g h l q e = alone i g e (omega arith)
 
     splits-in : (ts : Forms) (i g e : ℕ) → LiesF s i ts → e ≡ i + sizeF ts → e ≤ places → left i + 1 < g → PartAtF i ts b → Splits s b i (partsL (termsIn g s i e)) here

@@ -7,7 +7,7 @@ use native.Mathlib.Omega.{arith}
 use Rattle.spec_calculus.specs.Syntax as Sy
 use Rattle.spec_calculus.specs.Syntax.{Monoid, of, list, bag, set, sum, max, some, all}
 use Rattle.spec_encoding.specs.Record.{Bytes}
-use Rattle.spec_normal_form.specs.Form.{Form, Forms, Clauses, num, truth, row, cell, rec, bin, negate, comp, fnil, fcons}
+use Rattle.spec_normal_form.specs.Form.{Form, Forms, Clauses, num, truth, row, cell, rec, bin, negate, app, comp, fnil, fcons}
 use Rattle.spec_normal_form.specs.Bound.{within, withinF}
 use Rattle.spec_normal_form.proofs.Bounds.{within-fields, within-field}
 use Rattle.spec_plan.specs.Operators.{Row}
@@ -46,6 +46,7 @@ abbrev mutual
   AgreesUpto d s r b i (rec ts) = AgreesUptoF d s r b (i + 1) ts
   AgreesUpto d s r b i (bin o t u) = i < b → AgreesOn d s r i (bin o t u)
   AgreesUpto d s r b i (negate t) = i < b → AgreesOn d s r i (negate t)
+  AgreesUpto d s r b i (app o ts) = i < b → AgreesOn d s r i (app o ts)
   AgreesUpto d s r b i (comp m q u) = unlessCollection m (i < b → AgreesOn d s r i (comp m q u))
 
   pub AgreesUptoF : Bytes → List ℕ → Row → ℕ → ℕ → Forms → Type 0
@@ -101,6 +102,7 @@ module _ (d : Bytes) (s : List ℕ) (r : Row) (b : ℕ) where
     upto-in (cell c g) i f h n l v a p k = written (cell c g) i f h n l p k (Sh.Word So.Number) tt v a (ap shapeOf (h .0))
     upto-in (rec ts) i f h n l v a p k = agreesP-at f i (ap shapeOf (h .0)) (λ z. upto-each ts (i + 1) (pred f) (i + 1 + sizeF ts) (h .1) refl (omega arith) (within-fields ts v) a (omega arith) (subst Rest (omega arith) k))
     upto-in (bin o t u) i f h n l v a p k = written (bin o t u) i f h n l p k (Sh.Word (resultSort (binOf (opAt (opArg o))))) tt v a (ap shapeOf (h .0))
+    upto-in (app o ts) i f h n l v a p k = written (app o ts) i f h n l p k (Sh.Word So.Either) tt v a (ap shapeOf (h .0))
     upto-in (negate t) i f h n l v a p k = written (negate t) i f h n l p k (Sh.Word So.Truth) tt v a (ap shapeOf (h .0))
     upto-in (comp m q u) i f h n l v a p k = comp-agree m q u i f h n l v a p k
 

@@ -7,7 +7,7 @@ use native.Mathlib.Omega.{arith}
 use lib.IntN.{ℤ}
 use Rattle.spec_calculus.specs.Lists.{bindL}
 use Rattle.spec_calculus.proofs.Lists.{bind-append}
-use Rattle.spec_normal_form.specs.Form.{Form, Forms, num, truth, row, cell, rec, bin, negate, comp, fnil, fcons}
+use Rattle.spec_normal_form.specs.Form.{Form, Forms, num, truth, row, cell, rec, bin, negate, app, comp, fnil, fcons}
 use Rattle.spec_plan.specs.Plan.{PTerm}
 use Rattle.spec_plan.specs.Operators.{Row, evalP}
 use Rattle.base_syntax.specs.Numbers.{binOf, opArg, opAt, monoidArg, monoidAt}
@@ -113,6 +113,7 @@ module _ (lim : ℕ) (s : List ℕ) (r : Row) (b F : ℕ) (P : Point) (enough : 
         (λ j m y c us B. let w = parts-within fs (i + 1) j m in a j m y c us (into-parts s F enough i j (i + 1 + sizeF fs) us e (omega (arith, w .0)) (omega (arith, w .1)) B))
         (λ us B. subst (λ j. (g : ℕ) → left j + 1 < g → Walkable g lim s r j b (behind (ts ++ us))) (omega arith) (k us (subst (λ j. Between s i j us) (omega arith) (into-parts s F enough i (i + 1 + sizeF fs) (i + 1 + sizeF fs) us e (omega arith) (omega arith) B)))))
     settles (bin o t u) i f ts h n l p a k = single (Sh.Word (resultSort (binOf (opAt (opArg o))))) tt (bin o t u) i f ts h n l p (ap shapeOf (h .0)) (own-part (term-at s F i (h .0) (omega arith)) refl) a k
+    settles (app o us) i f ts h n l p a k = single (Sh.Word So.Either) tt (app o us) i f ts h n l p (ap shapeOf (h .0)) (own-part (term-at s F i (h .0) (omega arith)) refl) a k
     settles (negate t) i f ts h n l p a k = single (Sh.Word So.Truth) tt (negate t) i f ts h n l p (ap shapeOf (h .0)) (own-part (term-at s F i (h .0) (omega arith)) refl) a k
     settles (comp m q u) i f ts h n l p a k = single (comprehensionShape (monoidAt (monoidArg m))) (single-comp (monoidAt (monoidArg m))) (comp m q u) i f ts h n l p (ap shapeOf (h .0)) (own-part (term-at s F i (h .0) (omega arith)) (one-slot (markAt s i))) a k
 
