@@ -12,13 +12,14 @@ sys.dont_write_bytecode = True
 
 import edges  # noqa: E402
 import request_e1  # noqa: E402
+import request_e2  # noqa: E402
 import source_000  # noqa: E402
 import source_001  # noqa: E402
 import source_002  # noqa: E402
 import source_003  # noqa: E402
 import source_004  # noqa: E402
 
-SOURCES = [source_000, source_001, source_002, source_003, source_004, edges, request_e1]
+SOURCES = [source_000, source_001, source_002, source_003, source_004, edges, request_e1, request_e2]
 
 OPENING = '''# Example queries
 
@@ -38,7 +39,8 @@ reckoned again in plain Python; no engine was asked.
 
 Questions are in a small notation: `monoid{ head | qualifiers }` with `x <- term` for a generator,
 `let x = term` for a binding (the papers' ≡) and any other term for a condition; `(a, b)` is a
-record; `x.name` is the field of that column, `x.0` the first field. `a > b` is short for `b < a`,
+record; `x.name` is the field of that column, `x.0` the first field; `if c then a else b` is a choice
+(document 02, E2). `a > b` is short for `b < a`,
 `a <= b` for `not b < a`, `a >= b` for `not a < b`, `a != b` for `not a = b`. The tables of a case
 are numbered in the order in which they are given. Each case's plan is in `tests/examples/cases`,
 written by hand too.

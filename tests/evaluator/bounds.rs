@@ -20,6 +20,7 @@ fn bound_of(term: &Term) -> Result<Option<u128>, Stop> {
         // "a cell 2^31": in normal form each field left is a cell of a table row.
         Term::Field(_, _) => Some(1 << 31),
         Term::Binary(operation, left, right) => bound_of_binary(*operation, left, right)?,
+        Term::Choice(truth, first, second) => bound_of_choice(truth, first, second)?,
         Term::Truth(_) | Term::Name(_) | Term::Table(_) => None,
         Term::Record(_) | Term::Not(_) => {
             for part in term.below() {
@@ -42,6 +43,17 @@ fn bound_of_binary(operation: Operation, left: &Term, right: &Term) -> Result<Op
         Operation::Times => Some(left.ok_or(FAULT)?.saturating_mul(right.ok_or(FAULT)?)),
         _ => None,
     })
+}
+
+/// E2: "Its bound is the larger one", of the two numbers. Numbers in the truth and in both others are
+/// judged by themselves, whatever the truth; a choice of truths has no bound.
+fn bound_of_choice(truth: &Term, first: &Term, second: &Term) -> Result<Option<u128>, Stop> {
+    bound_of(truth)?;
+    match (bound_of(first)?, bound_of(second)?) {
+        (Some(first), Some(second)) => Ok(Some(first.max(second))),
+        (None, None) => Ok(None),
+        _ => Err(FAULT),
+    }
 }
 
 /// "max its head's; sum its head's times 1,024 for each generator"; E1: "The bound of a max is still its

@@ -138,6 +138,7 @@ impl Types<'_> {
                 truth(&found)?;
                 Ok(found)
             }
+            Term::Choice(truth, first, second) => self.choice(truth, first, second),
             Term::Comprehension(inner) => self.comprehension(inner),
             Term::Table(number) => self.table(*number),
         }
@@ -170,6 +171,16 @@ impl Types<'_> {
             Operation::Plus | Operation::Minus | Operation::Times => Type::Number,
             _ => Type::Truth,
         }))
+    }
+
+    /// E2: "a truth, then two numbers or two truths": nothing else fits.
+    fn choice(&mut self, decides: &Term, first: &Term, second: &Term) -> Result<Rc<Type>, Stop> {
+        truth(self.term(decides)?.as_ref())?;
+        let (first, second) = (self.term(first)?, self.term(second)?);
+        match (first.as_ref(), second.as_ref()) {
+            (Type::Number, Type::Number) | (Type::Truth, Type::Truth) => Ok(first),
+            _ => Err(MISFIT),
+        }
     }
 
     /// A table is a collection of records of as many numbers as it has columns.

@@ -1,4 +1,4 @@
-//! A second evaluator of document 01 with the landed requests of document 02 (E1), written from their
+//! A second evaluator of document 01 with the landed requests of document 02 (E1, E2), written from their
 //! text alone and as literally as it can be: trees are rewritten, streams are kept whole, and nothing
 //! is fast. It serves the four calls and says `Unknown` where an input would take it too long.
 

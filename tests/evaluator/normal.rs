@@ -183,6 +183,12 @@ impl Rewriting {
                 Term::Binary(operation, left, Box::new(self.term(*right)?))
             }
             Term::Not(inner) => Term::Not(Box::new(self.term(*inner)?)),
+            // No rule is about a choice: it stays, whatever its truth, also as a condition (E2).
+            Term::Choice(truth, first, second) => {
+                let truth = Box::new(self.term(*truth)?);
+                let first = Box::new(self.term(*first)?);
+                Term::Choice(truth, first, Box::new(self.term(*second)?))
+            }
             single => single,
         })
     }
@@ -218,6 +224,11 @@ impl Rewriting {
                 Term::Binary(*operation, left, Box::new(self.copy(right, names)?))
             }
             Term::Not(inner) => Term::Not(Box::new(self.copy(inner, names)?)),
+            Term::Choice(truth, first, second) => {
+                let truth = Box::new(self.copy(truth, names)?);
+                let first = Box::new(self.copy(first, names)?);
+                Term::Choice(truth, first, Box::new(self.copy(second, names)?))
+            }
             Term::Comprehension(inner) => {
                 let qualifiers = inner.qualifiers.iter();
                 let qualifiers = qualifiers.map(|qualifier| self.copy_qualifier(qualifier, names));
@@ -333,6 +344,11 @@ fn renumbered_term(term: &Term, names: &mut HashMap<Name, Name>) -> Term {
             Term::Binary(*operation, left, Box::new(renumbered_term(right, names)))
         }
         Term::Not(inner) => Term::Not(Box::new(renumbered_term(inner, names))),
+        Term::Choice(truth, first, second) => {
+            let truth = Box::new(renumbered_term(truth, names));
+            let first = Box::new(renumbered_term(first, names));
+            Term::Choice(truth, first, Box::new(renumbered_term(second, names)))
+        }
         Term::Comprehension(inner) => Term::Comprehension(Box::new(renumbered_below(inner, names))),
         Term::Number(_) | Term::Truth(_) | Term::Table(_) => term.clone(),
     }

@@ -16,6 +16,7 @@ pub enum PlanTerm {
     Record(Vec<PlanTerm>),
     Binary(Operation, Box<PlanTerm>, Box<PlanTerm>),
     Not(Box<PlanTerm>),
+    Choice(Box<PlanTerm>, Box<PlanTerm>, Box<PlanTerm>),
 }
 
 /// What a join or an outer ranges over.
@@ -138,6 +139,12 @@ impl Planner {
                 PlanTerm::Binary(*operation, left, Box::new(self.term(right)?))
             }
             Term::Not(inner) => PlanTerm::Not(Box::new(self.term(inner)?)),
+            // E2: "Comprehensions inside it are planned in written order", all of them.
+            Term::Choice(truth, first, second) => {
+                let truth = Box::new(self.term(truth)?);
+                let first = Box::new(self.term(first)?);
+                PlanTerm::Choice(truth, first, Box::new(self.term(second)?))
+            }
             Term::Comprehension(inner) => self.nest(inner)?,
             Term::Table(_) => return Err(FAULT),
         })
@@ -260,7 +267,7 @@ fn word_of_source(source: Source) -> String {
 }
 
 /// "terms are prefix: . (field, index first), rec, +, -, *, =, <, and, or, not; numbers decimal,
-/// truths true or false".
+/// truths true or false"; E2: a choice "prints as (if c a b)".
 fn text_of(term: &PlanTerm) -> String {
     match term {
         PlanTerm::Number(number) => number.to_string(),
@@ -283,5 +290,13 @@ fn text_of(term: &PlanTerm) -> String {
             )
         }
         PlanTerm::Not(inner) => format!("(not {})", text_of(inner)),
+        PlanTerm::Choice(truth, first, second) => {
+            format!(
+                "(if {} {} {})",
+                text_of(truth),
+                text_of(first),
+                text_of(second)
+            )
+        }
     }
 }

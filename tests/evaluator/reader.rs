@@ -141,6 +141,7 @@ impl Reader {
                 self.comprehension(content, level)?,
             ))),
             15 => Ok(Term::Table(only_byte(content)?)),
+            19 => self.choice(content, level),
             _ => Err(BYTES),
         }
     }
@@ -173,6 +174,18 @@ impl Reader {
         let (left, behind) = self.next_term(content, level)?;
         let right = self.only_term(behind, level)?;
         Ok(Term::Binary(operation, Box::new(left), Box::new(right)))
+    }
+
+    /// E2: "kind 19, three terms".
+    fn choice(&mut self, content: &[u8], level: usize) -> Result<Term, Stop> {
+        let (truth, behind) = self.next_term(content, level)?;
+        let (first, behind) = self.next_term(behind, level)?;
+        let second = self.only_term(behind, level)?;
+        Ok(Term::Choice(
+            Box::new(truth),
+            Box::new(first),
+            Box::new(second),
+        ))
     }
 }
 

@@ -112,6 +112,8 @@ pub enum Term {
     Record(Vec<Term>),
     Binary(Operation, Box<Term>, Box<Term>),
     Not(Box<Term>),
+    /// Request E2's "kind 19, three terms: a truth, then two numbers or two truths".
+    Choice(Box<Term>, Box<Term>, Box<Term>),
     Comprehension(Box<Comprehension>),
     Table(u8),
 }
@@ -148,6 +150,9 @@ impl Term {
             Term::Field(_, inner) | Term::Not(inner) => vec![inner.as_ref()],
             Term::Record(fields) => fields.iter().collect(),
             Term::Binary(_, left, right) => vec![left.as_ref(), right.as_ref()],
+            Term::Choice(truth, first, second) => {
+                vec![truth.as_ref(), first.as_ref(), second.as_ref()]
+            }
             Term::Comprehension(inner) => {
                 let mut terms: Vec<&Term> = inner.qualifiers.iter().map(Qualifier::term).collect();
                 terms.push(&inner.head);

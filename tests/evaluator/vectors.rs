@@ -23,10 +23,13 @@ fn main() -> ExitCode {
 fn compare_all(vectors: &[Recorded]) -> ExitCode {
     // No recorded question is over 4,096 bytes.
     let recorded = NUMBERS.into_iter().filter(|number| *number != 21);
-    let mut tally = Tally::new("vectors", recorded.collect());
+    let mut tally = Tally::of_questions("vectors", recorded.collect());
     for vector in vectors {
         tally.inputs += 1;
         tally.gave(u64::from(vector.check));
+        if vector.check == 0 {
+            tally.answered(&vector.question);
+        }
         let mut found = Vec::new();
         let compared = compare(vector, &mut found);
         if compared.is_err_and(|unknown| unknown.is_fault()) {

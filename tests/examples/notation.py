@@ -4,9 +4,10 @@
     monoid     list  bag  set  sum  max  some  all  min
     qualifier  x <- term (generator)   let x = term (binding)   term (condition)
     term       7  -3  true  false  x  Table  x.column  x.0  (a, b)  (a,)  a + b  a - b  a * b
-               a = b  a < b  a and b  a or b  not a  and a question inside the question
+               a = b  a < b  a and b  a or b  not a  if a then b else c
+               and a question inside the question
 
-Kinds 1 to 18 are all there is, so the other comparisons are short for these: a > b is b < a,
+Kinds 1 to 19 are all there is, so the other comparisons are short for these: a > b is b < a,
 a <= b is not b < a, a >= b is not a < b, a != b is not a = b. A column's name stands for its
 index. Names are numbered from 0 in the order of their qualifiers in the bytes; a name that is
 neither bound nor a table's is name 255, which is out of scope.
@@ -83,6 +84,13 @@ class Reader:
         return self.step()
 
     def term(self):
+        if self.next == 'if':
+            self.step()
+            truth = self.term()
+            self.take('then')
+            first = self.term()
+            self.take('else')
+            return ('choice', truth, first, self.term())
         return self.chain(lambda: self.chain(self.negation, ['and']), ['or'])
 
     def chain(self, part, operators):
@@ -197,6 +205,8 @@ class Writer:
             return record(5, b''.join(self.term(part, scope) for part in tree[1]))
         if sort == 'not':
             return record(13, self.term(tree[1], scope))
+        if sort == 'choice':
+            return record(19, b''.join(self.term(part, scope) for part in tree[1:]))
         if sort == 'comprehension':
             return self.comprehension(tree, scope)
         return record(BINARY[sort], self.term(tree[1], scope) + self.term(tree[2], scope))

@@ -432,7 +432,7 @@ LEFT_OUT = [
     ('§3', 'bag difference and element of a singleton',
      'The paper says itself that the calculus has neither; nor has 01.'),
     ('§4, rules N4 to N7', 'generators over `if`, zero, unit and merge',
-     '01 has no choice, no written-out collection and no union of two collections as a term.'),
+     'A choice is one of numbers or of truths (02, E2); 01 has no written-out collection and no union of two collections as a term.'),
     ('§5.1', '+{ 1 | x ← ({1} ∪ {1}) }',
      '01 has no union, and refuses a sum over a set (26) instead of giving it a meaning.'),
     ('§5.2', 'reverse, first, nth, sort, insert, P(f, v)',

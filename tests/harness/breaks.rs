@@ -48,7 +48,8 @@ fn change_kind(random: &mut Random, node: &mut Node) {
         PLUS..=OR => random.one_of(&[PLUS, MINUS, TIMES, EQUAL, LESS, AND, OR], PLUS),
         GENERATOR => BINDING,
         BINDING => GENERATOR,
-        NOT => RECORD,
+        NOT | CHOICE => RECORD,
+        RECORD if node.parts.len() == 3 => CHOICE,
         _ => return replace_term(random, node),
     };
 }
@@ -57,14 +58,26 @@ fn replace_term(random: &mut Random, node: &mut Node) {
     if !is_term(node.kind) || node.kind == COMPREHENSION {
         return random_swap(random, node);
     }
-    *node = match random.below(6) {
+    *node = match random.below(7) {
         0 => number(1),
         1 => truth(true),
         2 => name(u16::from(random.byte())),
         3 => table(random.one_of(&[0, 1, 2, 7, 8, 255], 0)),
         4 => record(vec![number(1), truth(false)]),
+        5 => misfit_choice(random),
         _ => comprehension(BAG, Vec::new(), number(1)),
     };
+}
+
+/// A choice whose three terms fit by chance only.
+fn misfit_choice(random: &mut Random) -> Node {
+    let mut part = || match random.below(6) {
+        0 | 1 => truth(true),
+        2 | 3 => number(1),
+        4 => record(vec![number(1)]),
+        _ => table(0),
+    };
+    choice(part(), part(), part())
 }
 
 /// Two parts change places.
@@ -82,6 +95,9 @@ fn random_swap(random: &mut Random, node: &mut Node) {
 pub fn break_record(random: &mut Random, question: &mut Node) {
     if random.chance(15) {
         return break_monoid(random, question);
+    }
+    if random.chance(15) {
+        return break_choice(random, question);
     }
     let position = random.below(question.count());
     let extra = random.byte();
@@ -124,6 +140,24 @@ fn break_monoid(random: &mut Random, question: &mut Node) {
 
 fn is_comprehension(node: &mut Node) -> bool {
     node.kind == COMPREHENSION
+}
+
+/// A term becomes a choice of any count of terms but three.
+fn break_choice(random: &mut Random, question: &mut Node) {
+    let position = random.between(1, question.count().saturating_sub(1));
+    let Some(node) = question.at(position).filter(|node| is_term(node.kind)) else {
+        return break_monoid(random, question);
+    };
+    let count = random.one_of(&[0, 1, 2, 2, 2, 4, 4, 4, 5], 2);
+    let mut parts = vec![node.clone(); count];
+    if let Some(first) = parts.first_mut() {
+        *first = truth(random.chance(50));
+    }
+    *node = Node {
+        kind: CHOICE,
+        fixed: Vec::new(),
+        parts,
+    };
 }
 
 /// Changes bytes without regard for records.
@@ -176,13 +210,8 @@ fn record_starts(bytes: &[u8]) -> Vec<usize> {
         starts.push(at);
         let length = usize::from(u16::from_le_bytes([*low, *high]));
         // Records with parts are entered behind their own bytes, others are passed over.
-        let step = match u16::from(*kind) {
-            NUMBER | TRUTH | NAME | TABLE => length.saturating_add(4),
-            FIELD | COMPREHENSION => 5,
-            GENERATOR | BINDING => 6,
-            _ => 4,
-        };
-        at = at.saturating_add(step);
+        let own = own_bytes(u16::from(*kind), length);
+        at = at.saturating_add(4).saturating_add(own);
     }
     starts
 }

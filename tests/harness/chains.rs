@@ -51,7 +51,9 @@ fn deep(random: &mut Random, around: fn(&mut Random, Node) -> Around) -> Node {
 }
 
 fn number_around(random: &mut Random, inner: Node) -> Around {
-    let term = match random.below(6) {
+    let term = match random.below(8) {
+        6 => choice(truth(random.chance(50)), inner, number(1)),
+        7 => choice(truth(random.chance(50)), number(1), inner),
         0 => two(PLUS, inner, number(1)),
         1 => two(MINUS, number(1), inner),
         2 => two(TIMES, inner, number(-1)),
@@ -66,8 +68,9 @@ fn number_around(random: &mut Random, inner: Node) -> Around {
 
 /// The first link tests the cell; all later ones are about truths.
 fn truth_around(random: &mut Random, inner: Node) -> Around {
-    let term = match random.below(6) {
+    let term = match random.below(7) {
         _ if inner.fixed == [1, 0] => two(LESS, inner, number(1)),
+        6 => choice(inner, truth(false), truth(true)),
         0 => two(AND, truth(true), inner),
         1 => two(OR, inner, truth(false)),
         2 => comprehension(SOME, vec![condition(inner)], truth(true)),

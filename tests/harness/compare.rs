@@ -64,7 +64,7 @@ impl<'a, T: Unit> Comparison<'a, T> {
             call,
             scratch: Lent::new(),
             buffer: Lent::new(),
-            tally: Tally::new(call.name, call.numbers()),
+            tally: Tally::of_questions(call.name, call.numbers()),
         }
     }
 
@@ -98,6 +98,9 @@ impl<'a, T: Unit> Comparison<'a, T> {
     }
 
     fn lengths(&mut self, mut case: Case<T>) -> Result<(), String> {
+        if case.reply.number == 0 {
+            self.tally.answered(&case.input.question);
+        }
         let most = self.call.too_short.map(|_| case.reply.written.len());
         for (scratch, buffer) in lengths(&mut case.random, most) {
             self.made(&mut case, scratch, buffer)?;

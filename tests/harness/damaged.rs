@@ -53,7 +53,7 @@ impl Damage {
         Damage {
             seats: [0, 1].map(|index| Seat::new(generate(0, index))),
             alone: Way::new(PLAN),
-            tally: Tally::new("damage", known),
+            tally: Tally::of_questions("damage", known),
         }
     }
 
@@ -183,6 +183,9 @@ impl Damage {
         let Input { data, question, .. } = &*input;
         let outcome = (PORTIONS.made)(data, question, way.scratch.again(), way.answer.again());
         let alone = self.alone.answers(input, (scratch, answer), salt ^ OTHER);
+        if alone.number == 0 {
+            self.tally.answered(question);
+        }
         agree([(&self.alone, alone), (way, outcome)])
             .map(|_| ())
             .map_err(|what| format!("begun anew: {what}"))

@@ -32,7 +32,7 @@ const FRONTS: [&str; 13] = [
 
 fn main() -> ExitCode {
     let [seed, count] = arguments("seed, count of inputs", [1, 2_000]);
-    let mut tally = Tally::new("desk", FRONTS.map(String::from).to_vec());
+    let mut tally = Tally::of_questions("desk", FRONTS.map(String::from).to_vec());
     for (name, input) in edges() {
         // The evaluator gives up at none of them.
         if let Err(unknown) = compare(&mut tally, &name, &input) {
@@ -54,6 +54,9 @@ fn compare(tally: &mut Tally<String>, name: &str, input: &[u8]) -> Result<(), Un
     let expected = expected(input)?;
     let front = expected.lines().next().unwrap_or_default();
     tally.gave(front.to_string());
+    if front == "one" {
+        tally.answered(&input[tables_end(input)..]);
+    }
     let text = printed(input).unwrap_or_else(|error| error.to_string().into_bytes());
     if text != expected.as_bytes() {
         let printed = format!("printed {:?}", String::from_utf8_lossy(&text));

@@ -42,23 +42,34 @@ fn chain(first: Node, count: u16, next: impl Fn(Node, Node) -> Node) -> Vec<Node
     bindings
 }
 
-/// Plus, minus or times of the last with itself: 27 or 28 where the chain is long.
+/// Plus, minus, times or a choice of the last with itself: 27 or 28 where the chain is long.
 fn numbers(random: &mut Random) -> Node {
-    let kind = random.one_of(&[PLUS, PLUS, MINUS, TIMES], PLUS);
+    let kind = random.one_of(&[PLUS, PLUS, MINUS, TIMES, CHOICE], PLUS);
     let first = number(random.one_of(&[0, 1, -1, 2, 256], 1));
     let count = steps(random, false, 10, 10);
-    let bindings = chain(first, count, |left, right| two(kind, left, right));
+    let bindings = chain(first, count, |left, right| doubled(kind, left, right));
     let end = name(u16::try_from(random.below(usize::from(count) + 1)).unwrap_or(0));
     let monoid = random.one_of(&[SUM, MAX, MIN, LIST, SET], SUM);
     comprehension(monoid, bindings, end)
 }
 
-/// "and" conditions that become many.
+/// A number of two, by an operation or by a choice.
+fn doubled(kind: u16, left: Node, right: Node) -> Node {
+    match kind {
+        CHOICE => choice(two(LESS, number(0), number(1)), left, right),
+        _ => two(kind, left, right),
+    }
+}
+
+/// "and" conditions that become many, and choices of truths, which stay.
 fn truths(random: &mut Random) -> Node {
-    let kind = random.one_of(&[AND, AND, OR], AND);
+    let kind = random.one_of(&[AND, AND, OR, CHOICE], AND);
     let count = steps(random, false, 9, 9);
     let first = two(LESS, number(0), number(random.one_of(&[0, 1], 1)));
-    let mut qualifiers = chain(first, count, |left, right| two(kind, left, right));
+    let mut qualifiers = chain(first, count, |left, right| match kind {
+        CHOICE => choice(left.clone(), right, left),
+        _ => two(kind, left, right),
+    });
     qualifiers.push(condition(name(count)));
     comprehension(
         random.one_of(&[ALL, SOME, BAG], BAG),
@@ -114,9 +125,9 @@ fn splices(random: &mut Random, long: bool) -> Node {
 
 /// A large term that stands in a field which is not taken, or is not used at all.
 fn dropped(random: &mut Random) -> Node {
-    let kind = random.one_of(&[PLUS, TIMES], PLUS);
+    let kind = random.one_of(&[PLUS, TIMES, CHOICE], PLUS);
     let count = u16::try_from(random.between(3, 40)).unwrap_or(3);
-    let mut qualifiers = chain(number(3), count, |left, right| two(kind, left, right));
+    let mut qualifiers = chain(number(3), count, |left, right| doubled(kind, left, right));
     let head = if random.chance(50) {
         field(1, record(vec![name(count), number(5)]))
     } else {
@@ -126,12 +137,19 @@ fn dropped(random: &mut Random) -> Node {
     comprehension(random.one_of(&[SUM, LIST], SUM), qualifiers, head)
 }
 
-/// "some" conditions in one another, each twice.
+/// "some" conditions in one another, each twice; in a choice they do not give way.
 fn somes(random: &mut Random, long: bool) -> Node {
     let count = steps(random, long, 4, 20);
     let first = comprehension(SOME, vec![generator(200, table(0))], truth(true));
-    let inner =
-        |left, right| comprehension(SOME, vec![condition(left), condition(right)], truth(true));
+    let chosen = random.chance(25);
+    let inner = |left: Node, right: Node| {
+        let qualifiers = if chosen {
+            vec![condition(choice(truth(true), left, right))]
+        } else {
+            vec![condition(left), condition(right)]
+        };
+        comprehension(SOME, qualifiers, truth(true))
+    };
     let mut qualifiers = chain(first, count, inner);
     qualifiers.push(condition(name(count)));
     comprehension(

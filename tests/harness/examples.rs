@@ -21,7 +21,7 @@ fn main() -> ExitCode {
         }
     };
     let mut held = Calls::new();
-    let mut examples = Tally::new("examples", CHECK.numbers());
+    let mut examples = Tally::of_questions("examples", CHECK.numbers());
     for line in text.lines() {
         examples.inputs += 1;
         let Some(example) = Example::of_line(line) else {
@@ -29,6 +29,9 @@ fn main() -> ExitCode {
             continue;
         };
         examples.gave(u64::from(example.number));
+        if example.number == 0 {
+            examples.answered(&example.question);
+        }
         if let Err(what) = example.compare(&mut held) {
             examples.differs(&[&example.name, &what]);
         }

@@ -18,7 +18,7 @@ pub fn random_extreme(random: &mut Random) -> (Vec<Stored>, Node) {
 }
 
 /// Few keys, so that some are shared and some are alone; mostly heights of one sign.
-fn random_heights(random: &mut Random) -> Stored {
+pub fn random_heights(random: &mut Random) -> Stored {
     let sign = random.one_of(&[-1, -1, -1, 1, 1, 0], -1);
     let count = random.one_of(&[0, 1, 2, 3, 3, 4, 4, 5], 3);
     let mut row = |_| {
@@ -141,10 +141,10 @@ impl Asked<'_> {
     }
 }
 
-fn key(own: u16) -> Node {
+pub fn key(own: u16) -> Node {
     field(0, name(own))
 }
 
-fn height(own: u16) -> Node {
+pub fn height(own: u16) -> Node {
     field(1, name(own))
 }

@@ -3,7 +3,7 @@
 use super::nodes::{data_bytes, Node, Stored};
 use super::random::Random;
 use super::typed::{random_tables, Size, Writer};
-use super::{breaks, chains, doublings, extremes, limits};
+use super::{breaks, chains, choices, doublings, extremes, limits};
 
 /// What an input was made to be. What it is, only an evaluator can tell.
 #[derive(Clone, Copy, Debug, PartialEq, Eq, PartialOrd, Ord)]
@@ -23,6 +23,7 @@ pub enum Family {
     Doubling,
     Chain,
     Extreme,
+    Choice,
 }
 
 /// One input of the calls, with the family it belongs to.
@@ -34,8 +35,8 @@ pub struct Input {
 }
 
 /// Families with their weights, of 1,000.
-const FAMILIES: [(Family, usize); 15] = [
-    (Family::WellTyped, 380),
+const FAMILIES: [(Family, usize); 16] = [
+    (Family::WellTyped, 340),
     (Family::ForbiddenGenerator, 40),
     (Family::BrokenMeaning, 120),
     (Family::BrokenRecord, 60),
@@ -50,6 +51,7 @@ const FAMILIES: [(Family, usize); 15] = [
     (Family::Doubling, 50),
     (Family::Chain, 40),
     (Family::Extreme, 50),
+    (Family::Choice, 40),
 ];
 
 /// The input of an index.
@@ -111,6 +113,7 @@ fn input_of(random: &mut Random, family: Family) -> (Vec<u8>, Vec<u8>) {
         Family::Doubling => perhaps_changed(random, doublings::random_doubling),
         Family::Chain => perhaps_changed(random, chains::random_chain),
         Family::Extreme => perhaps_changed(random, extremes::random_extreme),
+        Family::Choice => perhaps_changed(random, choices::random_choice),
     }
 }
 

@@ -19,7 +19,7 @@ fn main() -> ExitCode {
     let [seed, count] = arguments("seed, count of inputs", [1, 20_000]);
     let start = Instant::now();
     let mut histogram = Histogram {
-        tally: Tally::new("histogram", NUMBERS.to_vec()),
+        tally: Tally::of_questions("histogram", NUMBERS.to_vec()),
         families: BTreeMap::new(),
         lengths: BTreeMap::new(),
         set_shorter: 0,
@@ -94,6 +94,7 @@ impl Histogram {
         if loops.words != plan.words || loops.length > loops.greatest {
             self.fault(place, input, "loops and plan differ");
         }
+        self.tally.answered(question);
         *self.lengths.entry(class_of(loops.length)).or_default() += 1;
         self.set_shorter += u64::from(loops.length < loops.greatest);
         // The monoid's byte is the first of the question's content.

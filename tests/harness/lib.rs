@@ -4,11 +4,13 @@
 mod breaks;
 pub mod calls;
 mod chains;
+mod choices;
 pub mod compare;
 pub mod damaged;
 pub mod desk_edges;
 mod doublings;
 mod extremes;
+mod forms;
 pub mod generate;
 pub mod held;
 mod json;

@@ -30,13 +30,14 @@ impl Tower {
     /// Puts one or two levels on top.
     fn grow(&mut self, random: &mut Random, two_fit: bool) {
         let top = self.top.clone();
-        let (grown, levels) = match random.below(4) {
+        let (grown, levels) = match random.below(5) {
             0 if two_fit => (field(0, record(vec![top])), 2),
             1 if two_fit && self.of == Type::Truth => {
                 let monoid = random.one_of(&[SOME, ALL], SOME);
                 (comprehension(monoid, vec![condition(top)], truth(true)), 2)
             }
             2 => (self.wrap_scalar(random), 1),
+            3 => (self.wrap_choice(random), 1),
             _ if self.of == Type::Truth => match random.below(3) {
                 0 => (not(top), 1),
                 1 => (two(AND, truth(true), top), 1),
@@ -64,6 +65,18 @@ impl Tower {
         comprehension(random.one_of(monoids, SOME), Vec::new(), self.top.clone())
     }
 
+    /// A choice of the same type with the top among its terms.
+    fn wrap_choice(&mut self, random: &mut Random) -> Node {
+        let truths = self.of == Type::Truth;
+        let other = if truths { truth(false) } else { number(1) };
+        let decides = truth(random.chance(50));
+        match random.below(3) {
+            0 => choice(decides, self.top.clone(), other),
+            1 if truths => choice(self.top.clone(), decides, other),
+            _ => choice(decides, other, self.top.clone()),
+        }
+    }
+
     fn wrap(&mut self, random: &mut Random) -> Node {
         if random.chance(40) {
             let monoid = random.one_of(&[LIST, BAG, SET], BAG);
@@ -80,13 +93,16 @@ pub fn of_records(random: &mut Random) -> Node {
     let mut left = records.saturating_sub(1);
     let mut next: u16 = 0;
     while left > 2 {
-        if random.chance(50) {
-            qualifiers.push(binding(next, number(1)));
-            next = next.saturating_add(1);
-        } else {
-            qualifiers.push(condition(truth(true)));
-        }
-        left = left.saturating_sub(2);
+        let qualifier = match random.below(4) {
+            0 if left > 5 => condition(choice(truth(true), truth(true), truth(false))),
+            0 | 1 => condition(truth(true)),
+            _ => {
+                next = next.saturating_add(1);
+                binding(next, number(1))
+            }
+        };
+        left = left.saturating_sub(qualifier.count());
+        qualifiers.push(qualifier);
     }
     let head = if left == 2 {
         not(truth(false))
@@ -128,7 +144,13 @@ pub fn of_nodes(random: &mut Random) -> Node {
         let last = next.saturating_sub(1);
         qualifiers.push(binding(next, two(operation, name(last), name(last))));
     }
-    let head = sum_of_nodes(usize::saturating_sub(wanted, 1));
+    let left = usize::saturating_sub(wanted, 1);
+    let head = match random.below(4) {
+        // A choice is one node, its truth and the 1 are two more.
+        0 => choice(truth(true), number(1), sum_of_nodes(left - 3)),
+        1 => choice(truth(true), sum_of_nodes(left - 3), number(1)),
+        _ => sum_of_nodes(left),
+    };
     let monoid = random.one_of(&[SUM, MAX, MIN, BAG], SUM);
     comprehension(monoid, qualifiers, head)
 }
@@ -167,8 +189,22 @@ pub fn of_bounds(random: &mut Random) -> (Vec<Stored>, Node) {
         columns: 1,
         rows,
     }];
-    let total = wide_number(random);
+    let mut total = wide_number(random);
+    if random.chance(35) {
+        total = chosen(random, total);
+    }
     (tables, around_number(random, total))
+}
+
+/// The number beside a small one, taken or not: its bound is the larger one. Or it decides between
+/// two small ones.
+fn chosen(random: &mut Random, total: Node) -> Node {
+    let decides = truth(random.chance(50));
+    match random.below(3) {
+        0 => choice(decides, total, number(1)),
+        1 => choice(decides, number(1), total),
+        _ => choice(two(LESS, total, number(1)), number(2), number(-2)),
+    }
 }
 
 /// A sum, max or min over 0 to 3 generators, which count in the bound of a sum alone: cell or 1, times

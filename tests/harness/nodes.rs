@@ -27,6 +27,7 @@ pub const TABLE: u16 = 15;
 pub const GENERATOR: u16 = 16;
 pub const BINDING: u16 = 17;
 pub const CONDITION: u16 = 18;
+pub const CHOICE: u16 = 19;
 pub const STORED: u16 = 20;
 
 /// A record of a question: its kind, its own bytes, the records in it.
@@ -73,6 +74,10 @@ pub fn not(inner: Node) -> Node {
     node(NOT, &[], vec![inner])
 }
 
+pub fn choice(truth: Node, first: Node, second: Node) -> Node {
+    node(CHOICE, &[], vec![truth, first, second])
+}
+
 pub fn table(number: u8) -> Node {
     node(TABLE, &[number], Vec::new())
 }
@@ -96,6 +101,28 @@ pub fn comprehension(monoid: u8, qualifiers: Vec<Node>, head: Node) -> Node {
 }
 
 impl Node {
+    /// The record at the front, as far as its bytes keep the rules.
+    pub fn of_bytes(bytes: &[u8]) -> Option<Node> {
+        Node::first_of(bytes).map(|(read, _)| read)
+    }
+
+    /// The same, and what stands behind it.
+    fn first_of(bytes: &[u8]) -> Option<(Node, &[u8])> {
+        let [low, high, kind, 0, rest @ ..] = bytes else {
+            return None;
+        };
+        let (length, kind) = (u16::from_le_bytes([*low, *high]), u16::from(*kind));
+        let (content, behind) = rest.split_at_checked(usize::from(length))?;
+        let (own, mut left) = content.split_at_checked(own_bytes(kind, content.len()))?;
+        let mut read = node(kind, own, Vec::new());
+        while !left.is_empty() {
+            let (part, rest) = Node::first_of(left)?;
+            read.parts.push(part);
+            left = rest;
+        }
+        Some((read, behind))
+    }
+
     pub fn bytes(&self) -> Vec<u8> {
         let mut content = self.fixed.clone();
         for part in &self.parts {
@@ -112,6 +139,11 @@ impl Node {
             .fold(1, usize::saturating_add)
     }
 
+    /// Whether a record of the kind is in the tree.
+    pub fn holds(&self, kind: u16) -> bool {
+        self.kind == kind || self.parts.iter().any(|part| part.holds(kind))
+    }
+
     /// The record at a position of the written order; the first is 0.
     pub fn at(&mut self, position: usize) -> Option<&mut Node> {
         let Some(mut left) = position.checked_sub(1) else {
@@ -125,6 +157,16 @@ impl Node {
             left = left.saturating_sub(count);
         }
         None
+    }
+}
+
+/// Bytes of a content of so many that stand before the records in it.
+pub fn own_bytes(kind: u16, content: usize) -> usize {
+    match kind {
+        NUMBER | TRUTH | NAME | TABLE => content,
+        FIELD | COMPREHENSION => 1,
+        GENERATOR | BINDING => 2,
+        _ => 0,
     }
 }
 

@@ -52,7 +52,7 @@ impl Portions {
         let known = NUMBERS.into_iter().chain([31, 32, 47, 48, UNFINISHED]);
         Portions {
             seats: (0..SEATS).map(|_| Seat::new()).collect(),
-            tally: Tally::new("portions", known.collect()),
+            tally: Tally::of_questions("portions", known.collect()),
         }
     }
 
@@ -111,6 +111,9 @@ impl Portions {
             self.tally.called(number, start.elapsed(), place);
             if ended {
                 playing.remove(position);
+                if number == 0 {
+                    self.tally.answered(&games[at].0.question);
+                }
                 self.tally.gave(self.seats[at].over(games[at].0)?);
             }
         }

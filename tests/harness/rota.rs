@@ -90,7 +90,7 @@ impl Rounds {
         let told = [31, 32, 48, 49, UNFINISHED, IDLE, COUNTED];
         Rounds {
             desks: [(); SEATS].map(|_| Desk::new()),
-            tally: Tally::new("rounds", NUMBERS.into_iter().chain(told).collect()),
+            tally: Tally::of_questions("rounds", NUMBERS.into_iter().chain(told).collect()),
         }
     }
 
@@ -200,6 +200,9 @@ impl Rounds {
             };
             let told = told.map_err(|what| format!("{:?} at seat {at}: {what}", game.quotas))?;
             self.tally.called(told, taken, game.place);
+            if told == 0 {
+                self.tally.answered(&game.questions[desk.asked].0.question);
+            }
             if desk.seat.offered.is_none() && desk.rounds.take().is_some() {
                 self.tally.gave(COUNTED);
             }

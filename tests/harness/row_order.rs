@@ -75,7 +75,7 @@ impl RowOrder {
                 (Way::new(LOOPS), Way::new(LOOPS)),
                 (Way::new(PLAN), Way::new(PLAN)),
             ],
-            tally: Tally::new(name, known),
+            tally: Tally::of_questions(name, known),
         }
     }
 
@@ -137,6 +137,9 @@ impl RowOrder {
         let one = first.answers(input, lent, salt);
         let two = second.answers(other, lent, salt ^ OTHER);
         self.tally.called(one.number, start.elapsed(), place);
+        if one.number == 0 {
+            self.tally.answered(&input.question);
+        }
         agree([(&*first, one), (&*second, two)])
             .map_err(|what| format!("scratch and answer of {lent:?}: {what}"))
     }
@@ -157,6 +160,9 @@ impl RowOrder {
             return Ok(());
         }
         self.tally.called(one.number, start.elapsed(), place);
+        if one.number == 0 {
+            self.tally.answered(&input.question);
+        }
         let length = one.length as usize;
         if one != two || first.front(length) != second.front(length) {
             return Err(format!("{one:?}, and {two:?} in the other state"));

@@ -8,7 +8,7 @@ use super::lent::{Lent, SCRATCH};
 use super::recorded::read_lines;
 
 /// Requests that have landed, beside those whose calls are played here: a scene may need others.
-const LANDED: [&str; 1] = ["e1"];
+const LANDED: [&str; 2] = ["e1", "e2"];
 
 /// The field that has the tables in today's form. Only without tables all forms are one.
 const TABLES: &str = "data_01";

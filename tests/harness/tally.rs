@@ -6,6 +6,7 @@ use std::fmt::Debug;
 use std::process::ExitCode;
 use std::time::Duration;
 
+use super::forms::{forms_of, FORMS};
 use super::generate::Input;
 
 /// Inputs that are written out where they differ; further ones are counted.
@@ -25,6 +26,8 @@ pub struct Tally<Outcome = u64> {
     known: Vec<Outcome>,
     /// How often each outcome was given.
     given: BTreeMap<Outcome, u64>,
+    /// How often each form stood in an answered question, where that is counted.
+    forms: BTreeMap<&'static str, u64>,
     /// Inputs that were not compared, by the reason.
     skipped: BTreeMap<&'static str, u64>,
     /// The longest call and its input.
@@ -40,6 +43,21 @@ impl<Outcome: Debug + Default + Ord> Tally<Outcome> {
             name,
             known,
             ..Tally::default()
+        }
+    }
+
+    /// A run over questions, in which every form must be answered.
+    pub fn of_questions(name: &'static str, known: Vec<Outcome>) -> Tally<Outcome> {
+        Tally {
+            forms: FORMS.map(|form| (form, 0)).into(),
+            ..Tally::new(name, known)
+        }
+    }
+
+    /// Counts the forms of a question that was answered.
+    pub fn answered(&mut self, question: &[u8]) {
+        for form in forms_of(question) {
+            *self.forms.entry(form).or_default() += 1;
         }
     }
 
@@ -78,6 +96,9 @@ impl<Outcome: Debug + Default + Ord> Tally<Outcome> {
         for (outcome, calls) in other.given {
             *self.given.entry(outcome).or_default() += calls;
         }
+        for (form, questions) in other.forms {
+            *self.forms.entry(form).or_default() += questions;
+        }
         for (reason, inputs) in other.skipped {
             *self.skipped.entry(reason).or_default() += inputs;
         }
@@ -89,6 +110,9 @@ impl<Outcome: Debug + Default + Ord> Tally<Outcome> {
     /// What was counted, and whether the run ended well; where it did not, why.
     fn ended_well(&self) -> bool {
         println!("  outcomes: {:?}", self.given);
+        if !self.forms.is_empty() {
+            println!("  answered: {:?}", self.forms);
+        }
         println!("  skipped: {:?}", self.skipped);
         let (longest, (seed, index)) = self.slowest;
         if !longest.is_zero() {
@@ -124,6 +148,11 @@ impl<Outcome: Debug + Default + Ord> Tally<Outcome> {
         let never_given: Vec<_> = self.known.iter().filter(missing).collect();
         if !never_given.is_empty() {
             faults.push(format!("never given: {never_given:?}"));
+        }
+        let unanswered = self.forms.iter().filter(|(_, count)| **count == 0);
+        let unanswered: Vec<_> = unanswered.map(|(form, _)| form).collect();
+        if !unanswered.is_empty() {
+            faults.push(format!("never answered: {unanswered:?}"));
         }
         let other = |outcome: &&Outcome| !self.known.contains(outcome);
         let unheard_of: Vec<_> = self.given.keys().filter(other).collect();

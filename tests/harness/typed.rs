@@ -261,11 +261,11 @@ impl<'a> Writer<'a> {
         name
     }
 
-    /// A truth that is often a "some" comprehension, an "and", or met by many rows.
+    /// A truth that is often a "some" comprehension, an "and", a choice, or met by many rows.
     fn condition(&mut self, room: Room) -> Node {
         let tight = self.tight(room);
         let path = self.path(&Type::Number);
-        match (self.random.weighted(&[22, 10, 38, 30]), path) {
+        match (self.random.weighted(&[21, 10, 37, 27, 5]), path) {
             (0, _) if !tight && room.nesting > 0 => self.comprehension(SOME, &Type::Truth, room),
             (1, _) if !tight => {
                 self.left.records = self.left.records.saturating_sub(1);
@@ -273,6 +273,7 @@ impl<'a> Writer<'a> {
                 two(AND, left, self.condition(room.below()))
             }
             (2, Some(path)) => self.likely(path),
+            (4, _) if !tight => self.choice(&Type::Truth, room),
             _ => self.term(&Type::Truth, room),
         }
     }
@@ -406,7 +407,7 @@ impl<'a> Writer<'a> {
     fn number(&mut self, room: Room) -> Node {
         let room = room.below();
         let path = self.path(&Type::Number);
-        match (self.random.weighted(&[42, 12, 8, 7, 7, 24]), path) {
+        match (self.random.weighted(&[41, 11, 7, 7, 7, 23, 4]), path) {
             (0, Some(path)) => path,
             (2, _) => self.pair(PLUS, &Type::Number, room),
             (3, _) => self.pair(MINUS, &Type::Number, room),
@@ -415,6 +416,7 @@ impl<'a> Writer<'a> {
                 let monoid = self.random.one_of(&[SUM, MAX, MIN], SUM);
                 self.comprehension(monoid, &Type::Number, room)
             }
+            (6, _) => self.choice(&Type::Number, room),
             _ => number(self.constant()),
         }
     }
@@ -427,6 +429,15 @@ impl<'a> Writer<'a> {
                 .one_of(&[i32::MIN, i32::MAX, 1 << 30, 65_536], i32::MIN),
             _ => any_number(self.random),
         }
+    }
+
+    /// A choice of two numbers or two truths. Its truth is one that would be a condition, too.
+    fn choice(&mut self, of: &Type, room: Room) -> Node {
+        self.left.records = self.left.records.saturating_sub(1);
+        let room = room.below();
+        let truth = self.condition(room);
+        let first = self.term(of, room);
+        choice(truth, first, self.term(of, room))
     }
 
     fn pair(&mut self, kind: u16, operands: &Type, room: Room) -> Node {
@@ -445,7 +456,7 @@ impl<'a> Writer<'a> {
 
     fn truth(&mut self, room: Room) -> Node {
         let room = room.below();
-        let choice = self.random.weighted(&[15, 5, 14, 16, 7, 8, 10, 22, 15]);
+        let choice = self.random.weighted(&[15, 5, 14, 15, 7, 8, 9, 21, 15, 3]);
         let wanted = if choice == 8 {
             Type::Number
         } else {
@@ -459,6 +470,7 @@ impl<'a> Writer<'a> {
             (4, _) => self.pair(AND, &Type::Truth, room),
             (5, _) => self.pair(OR, &Type::Truth, room),
             (6, _) => not(self.term(&Type::Truth, room)),
+            (9, _) => self.choice(&Type::Truth, room),
             (7, _) if room.nesting > 0 => {
                 let monoid = self.random.one_of(&[SOME, ALL], SOME);
                 self.comprehension(monoid, &Type::Truth, room)

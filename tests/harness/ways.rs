@@ -51,7 +51,7 @@ impl Ways {
         Ways {
             loops: Way::new(LOOPS),
             plan: Way::new(PLAN),
-            tally: Tally::new("both", LOOPS.numbers()),
+            tally: Tally::of_questions("both", LOOPS.numbers()),
         }
     }
 
@@ -77,6 +77,9 @@ impl Ways {
         let by_loops = self.loops.answers(input, lent, salt);
         let by_plan = self.plan.answers(input, lent, salt ^ OTHER);
         self.tally.called(by_plan.number, start.elapsed(), place);
+        if by_plan.number == 0 {
+            self.tally.answered(&input.question);
+        }
         agree([(&self.loops, by_loops), (&self.plan, by_plan)])
             .map_err(|what| format!("scratch and answer of {lent:?}: {what}"))
     }

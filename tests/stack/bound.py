@@ -4,7 +4,7 @@
 A frame is what a function takes below its caller: return address, pushes, `sub rsp`. Functions that call each other
 or themselves are a group; how often each can stand on the stack at once follows from document 01's sizes, and GROUPS
 says it. The bound of a call is the dearest way down the call graph, each group counted whole. Fails where a bound
-passes the figure that HEADER publishes, and where a group is not in GROUPS. x86-64 only."""
+passes the figure that HEADER publishes, and where a group, or a function of one, is not in GROUPS. x86-64 only."""
 import re
 import subprocess
 import sys
@@ -21,8 +21,9 @@ def along(frames, terms, generators):
     return max(each * n + every * ((NODES - 1 - n) // 2) for n in range(NESTED + 1))
 
 
-def times(count, *functions):
-    return lambda frames: count * sum(map(frames, functions))
+def times(count, *lists):
+    """So many times the functions of the dearest of the lists."""
+    return lambda frames: count * max(sum(map(frames, functions)) for functions in lists)
 
 
 # Loops for collections, and below them loops for totals.
@@ -37,28 +38,28 @@ GROUPS = {
     'front_parser': lambda f: LEVELS * (f('term') + f('compound') + f('comprehension')) + RECORDS * max(f('terms'), f('parts')),
     'front_scope': lambda f: LEVELS * f('term') + RECORDS * max(f('terms'), f('quals')),
     # a record of the question is a term, a qualifier before the deep one, or a condition that is gone through
-    'front_emit': times(RECORDS, 'clause'),
-    'front_resolve': times(RECORDS, 'resolve'),
+    'front_emit': times(RECORDS, ['placed'], ['qualifiers'], ['clause']),
+    'front_resolve': times(RECORDS, ['resolve']),
     'front_bounds': lambda f: along(f, [['form_size', 'clauses_size']], [['clauses_size']]) + f('record_fits'),
     'loop_collect': loops,
     'loop_scalar': loops,
     'plan_marks': lambda f: along(f, [['term', 'seats', 'clauses']], [['seats', 'clauses']]) + f('terms'),
     'plan_links::term': lambda f: along(f, [['term', 'clauses']], [['clauses']]) + f('terms'),
-    'plan_links::loops': times(NODES // 2, 'loops'),
+    'plan_links::loops': times(NODES // 2, ['loops']),
     'plan_lines::ops': lambda f: along(f, [['inside', 'ops']], [['growers']]) + f('ops_upto'),
-    'plan_lines::term': times(NESTED, 'term', 'terms'),
-    'plan_lines::openings': times(NODES // 2, 'openings'),
-    'plan_lines::closings': times(NODES // 2, 'closings'),
-    'plan_lines::growers': times(NODES // 2, 'growers'),
-    'plan_lines::grows': times(NODES // 2, 'grows'),
-    'plan_lines::head': times(NODES // 2, 'head'),
-    'base_text': times(20, 'decimal'),
-    'exec_terms': times(NESTED, 'scalar', 'operand'),
-    'answer_canonical': times(NESTED, 'walk', 'walk_fields'),
-    'answer_compare': times(NESTED, 'compare', 'compare_fields'),
-    'answer_types::skip': times(NESTED, 'skip', 'skip_fields'),
-    'answer_types::width_fields': times(NESTED, 'width_fields'),
-    'answer_types::singles': times(NESTED, 'singles'),
+    'plan_lines::term': times(NESTED, ['term', 'terms']),
+    'plan_lines::openings': times(NODES // 2, ['openings']),
+    'plan_lines::closings': times(NODES // 2, ['closings']),
+    'plan_lines::growers': times(NODES // 2, ['growers']),
+    'plan_lines::grows': times(NODES // 2, ['grows']),
+    'plan_lines::head': times(NODES // 2, ['head']),
+    'base_text': times(20, ['decimal']),
+    'exec_terms': times(NESTED, ['scalar', 'operand']),
+    'answer_canonical': times(NESTED, ['walk', 'walk_fields']),
+    'answer_compare': times(NESTED, ['compare', 'compare_fields']),
+    'answer_types::skip': times(NESTED, ['skip', 'skip_fields']),
+    'answer_types::width_fields': times(NESTED, ['width_fields']),
+    'answer_types::singles': times(NESTED, ['singles']),
 }
 # In a portion the words of scratch may say anything: a term is one word at least, and what is below it stands behind it.
 ANY_WORDS = {key: (lambda rule: lambda f: rule(f) * WORDS // NESTED)(GROUPS[key])
@@ -128,14 +129,19 @@ def main():
         crate = sorted(members)[0].split('::')[0]
         for key in GROUPS:
             if key == crate or key in members:
+                counted = set()
+                GROUPS[key](lambda f: counted.add(whole(key, f)) or 0)
+                unknown.update(members - counted)
                 return key
-        unknown.add(', '.join(sorted(members)))
+        unknown.update(members)
         return None
 
+    def whole(key, function):
+        return function if '::' in function else key.split('::')[0] + '::' + function
+
     def cost(key, any_words):
-        crate = key.split('::')[0]
         table = ANY_WORDS if any_words and key in ANY_WORDS else GROUPS
-        return table[key](lambda f: functions.get(f if '::' in f else crate + '::' + f, {'frame': 0})['frame'])
+        return table[key](lambda f: functions.get(whole(key, f), {'frame': 0})['frame'])
 
     def bound(f, any_words, seen=frozenset(), memo={}):
         """The dearest way down from f, and the groups on it; `seen`: the chains that were counted above it."""
@@ -164,8 +170,8 @@ def main():
         needed, way = bound(call, portion)
         print(f'{call:28} {needed:7} of {most}: {", ".join(way)}')
         over += needed > most
-    for members in sorted(unknown):
-        print('no rule for', members)
+    for function in sorted(unknown):
+        print('no rule for', function)
     return over > 0 or len(unknown) > 0 or len(functions) < 50
 
 

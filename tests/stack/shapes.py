@@ -61,6 +61,10 @@ def cond(t):
     return rec(18, t)
 
 
+def choice(c, a, b):
+    return rec(19, c + a + b)
+
+
 def rows(collection, columns, cells):
     count = len(cells) // columns
     return rec(20, bytes([collection, columns]) + struct.pack('<H', count)
@@ -132,6 +136,8 @@ TRUTHS = [  # name, levels of a unit, unit, size in a head, size in a condition
     ('some', 1, lambda t: comp(SOME, [], t), 238, 236),
     ('not-all', 2, lambda t: no(comp(ALL, [], t)), 119, 117),
     ('or-all', 2, lambda t: two(OR, tru(0), comp(ALL, [], t)), 81, 80),
+    ('choice-truth', 1, lambda t: choice(t, tru(1), tru(0)), 83, 82),
+    ('choice-all', 2, lambda t: choice(comp(ALL, [], t), tru(1), tru(0)), 61, 61),
 ]
 for called, levels, unit, in_head, in_condition in TRUTHS:
     shape(called + '-head', in_head, NONE, headed(ALL, unit, tru(1), in_head, 28 // levels))
@@ -143,6 +149,9 @@ NUMBERS = [
     ('sum', 1, lambda t: comp(SUM, [], t), 238),
     ('max', 1, lambda t: comp(MAX, [], t), 238),
     ('plus-sum', 2, lambda t: two(PLUS, num(1), comp(SUM, [], t)), 81),
+    ('choice-first', 1, lambda t: choice(tru(1), t, num(1)), 83),
+    ('choice-second', 1, lambda t: choice(tru(0), num(1), t), 83),
+    ('choice-sum', 2, lambda t: choice(tru(0), num(1), comp(SUM, [], t)), 61),
 ]
 for called, levels, unit, size in NUMBERS:
     shape(called, size, NONE, headed(SUM, unit, num(1), size, 28 // levels))
