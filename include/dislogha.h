@@ -5,6 +5,10 @@
 // every input (late, perhaps, where a scratch was changed between portions); nothing here
 // allocates or throws. Several calls may run at once, each with a scratch and a buffer of its own.
 //
+// Questions are document 01's, with request E1's min (monoid 8) and request E2's choice (kind 19):
+// three terms (else 22), a truth and then two numbers or two truths (else 25); it is the first of the
+// two where the truth is true, else the second, and in the plan's lines (if c a b).
+//
 // What the engine promises holds for buffers that do not overlap. A wrapper tests that first:
 // where a span that is written shares a byte with another one, it makes no call, changes nothing
 // and gives `Outcome::overlapping`. Data and question are only read, and may overlap each other.
