@@ -6,21 +6,22 @@ use native.Mathlib.Omega.{arith}
 use lib.ListN.{length, drop, replicate, length-append, length-map}
 use lib.Seq.{drop-at}
 use lib.IntN.{ℤ, pos}
-use Rattle.spec_calculus.specs.Syntax.{Collection}
+use Rattle.spec_calculus.specs.Syntax.{Collection, list}
 use Rattle.spec_calculus.specs.Value.{Value, Values, count, toList, fromList}
 use Rattle.spec_calculus.specs.Value as Va
 use Rattle.spec_calculus.specs.Monoid.{ordered}
 use Rattle.spec_calculus.proofs.Lists.{All}
 use Rattle.spec_calculus.proofs.Folds.{arranged, from-to}
-use Rattle.spec_checks.specs.Types.{Ty, Tys, record′, coll, ynil, ycons}
+use Rattle.spec_checks.specs.Types.{Ty, Tys, number, truth, record′, coll, ynil, ycons}
 use Rattle.spec_checks.proofs.Refold.{onParts, refold, refolds, arrangeAs, arrange-coll}
 use Rattle.spec_outcome.specs.WrittenForm.{words, wordsL}
 use Rattle.base_scratch.specs.Map.{places}
 use Rattle.form_words.specs.NodeWord.{next}
 use Rattle.form_words.specs.FormTree.{left}
+use Rattle.form_words.proofs.NodeWords.{next-past}
 use Rattle.base_buffer.specs.TotalReads.{countAt, behind, times}
 use Rattle.base_buffer.specs.Blocks.{ShiftPost, MarkPost, ClearPost}
-use Rattle.base_buffer.proofs.TotalReads.{ahead-in}
+use Rattle.base_buffer.proofs.TotalReads.{behind-in, ahead-in}
 use Rattle.answer_types.specs.declared.CollectionKind.{CollectionKind}
 use Rattle.answer_types.specs.declared.ValueType.the-variants.{Words, Fields, Elements}
 use Rattle.answer_types.specs.declared.Layout.{Layout}
@@ -36,7 +37,7 @@ use Rattle.answer_types.proofs.Elements.{one-of, words-last}
 use Rattle.answer_sort.specs.declared.Kept.{Kept}
 use Rattle.answer_sort.specs.OrderStep.{Held, OrderPost}
 use Rattle.answer_canonical.specs.declared.Ends.{Ends}
-use Rattle.answer_canonical.specs.CompactingWalk.{Moved, CarryPost, WalkPost, WalkFieldsPost, WalkElementsPost, FinishPost}
+use Rattle.answer_canonical.specs.CompactingWalk.{Moved, CarryPost, unordered, WalkPost, ArrangePost, WalkFieldsPost, WalkElementsPost, FinishPost}
 use Rattle.answer_canonical.proofs.ArrangedValues.{count-from, arranged-count, arrange-list, flat-same}
 
 -- ---- carry
@@ -59,37 +60,51 @@ then-moved D M N R o e Z = record {
   at-src = Z .at-src;
 }
 
--- ---- a value of a type
-abbrev WalksAs : Ty → Ends → List ℤ → List ℤ → Ends → Type 0
-WalksAs t e o o′ r = (D G R : List ℤ) (v : Value) → Of t v → o ≡ D ++ (G ++ (words v ++ R)) → length D ≡ e .dst → length D + length G ≡ e .src → Moved D (words (arrangeAs t v)) R o′ r
+-- ---- a value of type t, written by type u
+abbrev WalksAs : Ty → Ty → Ends → List ℤ → List ℤ → Ends → Type 0
+WalksAs t u e o o′ r = (D G R : List ℤ) (v : Value) → Of t v → o ≡ D ++ (G ++ (words v ++ R)) → length D ≡ e .dst → length D + length G ≡ e .src → Moved D (words (arrangeAs u v)) R o′ r
 
 abbrev WalksEach : Tys → Ends → List ℤ → List ℤ → Ends → Type 0
 WalksEach ts e o o′ r = (D G R : List ℤ) (vs : Values) → OfEach ts vs → o ≡ D ++ (G ++ (wordsL vs ++ R)) → length D ≡ e .dst → length D + length G ≡ e .src → Moved D (wordsL (refolds ordered ts vs)) R o′ r
 
-words-by : {n : ℕ} {e r : Ends} {o o′ : List ℤ} → CarryPost n e o o′ r → (t : Ty) → Flat t → n ≡ widthOf t → WalksAs t e o o′ r
-words-by {r = r} {o′ = o′} C t h en D G R v k c ld ls = subst (λ (u : Value). Moved D (words u) R o′ r) (sym (flat-same t v h)) (C .is D G (words v) R (flat-words t v h k ∙ sym en) c ld ls)
+-- a type without a collection
+flat-unordered : (t : Ty) → Flat t → unordered t ≡ t
+flat-unordered number h = refl
+flat-unordered truth h = refl
+flat-unordered (record′ ts) h = refl
+flat-unordered (coll c t) h = absurd h
 
-record-by : {ts : Tys} {e r : Ends} {o o′ : List ℤ} → WalksEach ts e o o′ r → WalksAs (record′ ts) e o o′ r
+words-by : {n : ℕ} {e r : Ends} {o o′ : List ℤ} → CarryPost n e o o′ r → (t : Ty) → Flat t → n ≡ widthOf t → WalksAs t (unordered t) e o o′ r
+words-by {r = r} {o′ = o′} C t h en D G R v k c ld ls = subst (λ (u : Value). Moved D (words u) R o′ r) (sym (ap (λ u. arrangeAs u v) (flat-unordered t h) ∙ flat-same t v h)) (C .is D G (words v) R (flat-words t v h k ∙ sym en) c ld ls)
+
+record-by : {ts : Tys} {e r : Ends} {o o′ : List ℤ} → WalksEach ts e o o′ r → WalksAs (record′ ts) (record′ ts) e o o′ r
 unfolding words refold onParts
 record-by W D G R v (a-record {vs = vs} n h) c ld ls = W D G R vs h c ld ls
 
 module _ {s : List ℕ} {i : ℕ} {e r : Ends} {o o′ : List ℤ} where
   pub walk-words : {n : ℕ} → Shaped s i (Words n) → CarryPost n e o o′ r → WalkPost s i e o o′ r
-  walk-words H C = record { is = by-words (λ t. WalksAs t e o o′ r) H (words-by C) }
+  walk-words H C = record { is = by-words (λ t. WalksAs t (unordered t) e o o′ r) H (words-by C) }
 
   pub walk-record : {end : ℕ} → Shaped s i (Fields end) → WalkFieldsPost s (i + 1) end e o o′ r → WalkPost s i e o o′ r
-  walk-record H F = record { is = by-fields (λ t. WalksAs t e o o′ r) H (λ g l. record-by (F .is g l)) }
+  walk-record H F = record { is = by-fields (λ t. WalksAs t (unordered t) e o o′ r) H (λ g l. record-by (F .is g l)) }
 
--- what is walked by the layout of a place
-pub walked : {s : List ℕ} {i : ℕ} {t : Layout} {e r : Ends} {o o′ : List ℤ} → Laid s i t → WalkPost s (t .place) e o o′ r → WalkPost s i e o o′ r
-walked {s} {e = e} {r = r} {o = o} {o′ = o′} L W = at-laid L (λ i. WalkPost s i e o o′ r) W
+-- both steps
+pub record Written (s : List ℕ) (i : ℕ) (e : Ends) (o o′ : List ℤ) (r : Ends) : Type 0 where
+  pub is : (f : ℕ) → left i < f → WalksAs (typeAt f s i) (typeAt f s i) e o o′ r
+
+pub written : {s : List ℕ} {i p : ℕ} {e g r : Ends} {o o₁ o₂ : List ℤ} → p ≡ e .dst → WalkPost s i e o o₁ g → ArrangePost s i p g o₁ o₂ r → Written s i e o o₂ r
+written ep W A = record { is = λ f k D G R v h c ld ls. A .is f k D R v h (ld ∙ sym ep) (W .is f k D G R v h c ld ls) }
+
+-- by the layout of a place
+pub written-at : {s : List ℕ} {i : ℕ} {t : Layout} {e r : Ends} {o o′ : List ℤ} → Laid s i t → Written s (t .place) e o o′ r → Written s i e o o′ r
+written-at {s} {e = e} {r = r} {o = o} {o′ = o′} L W = at-laid L (λ i. Written s i e o o′ r) W
 
 -- ---- fields
 none-by : {e : Ends} {o : List ℤ} → WalksEach ynil e o o e
 unfolding words refold
 none-by D G R vs no-field c ld ls = record { gap = G; cut = c; at-dst = omega arith; at-src = omega arith }
 
-more-by : {t : Ty} {ts : Tys} {e g r : Ends} {o o₁ o₂ : List ℤ} → WalksAs t e o o₁ g → WalksEach ts g o₁ o₂ r → WalksEach (ycons t ts) e o o₂ r
+more-by : {t : Ty} {ts : Tys} {e g r : Ends} {o o₁ o₂ : List ℤ} → WalksAs t t e o o₁ g → WalksEach ts g o₁ o₂ r → WalksEach (ycons t ts) e o o₂ r
 unfolding words refold
 more-by {t} {ts} {g = g} {r = r} {o₂ = o₂} W F D G R vs (field {v = v} {vs = us} h k) c ld ls =
     let Z = W D G (wordsL us ++ R) v h (c ∙ ap (λ (w : List ℤ). D ++ (G ++ w)) (words-cons v us R)) ld ls in
@@ -99,14 +114,34 @@ more-by {t} {ts} {g = g} {r = r} {o₂ = o₂} W F D G R vs (field {v = v} {vs =
     (F (D ++ words (arrangeAs t v)) (Z .gap) R us k (Z .cut ∙ sym (append-assoc D (words (arrangeAs t v)) (Z .gap ++ (wordsL us ++ R)))) q (ap (λ (n : ℕ). n + length (Z .gap)) q ∙ Z .at-src))
 
 module _ {s : List ℕ} {c end : ℕ} {e : Ends} {o : List ℤ} where
-  pub fields-none : end ≤ c → WalkFieldsPost s c end e o o e
+  fields-none : end ≤ c → WalkFieldsPost s c end e o o e
   fields-none q = record { is = by-none s (λ ts. WalksEach ts e o o e) q none-by }
 
-  pub fields-more : {d : ℕ} {g r : Ends} {o₁ o₂ : List ℤ} → c < end → end ≤ places → WalkPost s c e o o₁ g → d ≡ next s c → WalkFieldsPost s d end g o₁ o₂ r → WalkFieldsPost s c end e o o₂ r
+  fields-more : {d : ℕ} {g r : Ends} {o₁ o₂ : List ℤ} → c < end → end ≤ places → Written s c e o o₁ g → d ≡ next s c → WalkFieldsPost s d end g o₁ o₂ r → WalkFieldsPost s c end e o o₂ r
   fields-more {d} {g} {r} {o₁} {o₂} l m W ed F = record {
     is = by-more s (λ ts. WalksEach ts e o o₂ r) l m (λ f k j.
         more-by (W .is f k) (subst (λ (x : ℕ). WalksEach (typesAt f s x end) g o₁ o₂ r) ed (F .is f (omega (arith, ap left ed)))));
   }
+
+-- those before place d are written
+pub record WalkingFields (s : List ℕ) (c end : ℕ) (e₀ : Ends) (o₀ o : List ℤ) (d : ℕ) (e : Ends) : Type 0 where
+  pub long : length o ≡ length o₀
+  pub past : c ≤ d
+  pub rest : {o′ : List ℤ} {r : Ends} → WalkFieldsPost s d end e o o′ r → WalkFieldsPost s c end e₀ o₀ o′ r
+
+pub fields-first : {s : List ℕ} {c end : ℕ} {e : Ends} {o : List ℤ} → WalkingFields s c end e o o c e
+fields-first = record { long = refl; past = omega arith; rest = λ F. F }
+
+module _ {s : List ℕ} {c end d : ℕ} {e₀ e : Ends} {o₀ o : List ℤ} (I : WalkingFields s c end e₀ o₀ o d e) where
+  module _ (l : d < end) (m : end ≤ places) {n : ℕ} (en : n ≡ next s d) where
+    pub fields-again : {g : Ends} {o′ : List ℤ} → length o′ ≡ length o → Written s d e o o′ g → WalkingFields s c end e₀ o₀ o′ n g
+    fields-again el W = record { long = el ∙ I .long; past = omega (arith, I .past, en, next-past s d (omega (arith, l, m))); rest = λ F. I .rest (fields-more l m W en F) }
+
+    pub fields-less : end - n < end - d
+    fields-less = omega (arith, l, en, next-past s d (omega (arith, l, m)))
+
+  pub fields-last : end ≤ d → WalkFieldsPost s c end e₀ o₀ o e
+  fields-last l = I .rest (fields-none l)
 
 -- ---- elements: `done` are written, `todo` are to come
 pub record Underway (t : Ty) (D R : List ℤ) (l : List Value) (o : List ℤ) (n : ℕ) (e : Ends) : Type 0 where
@@ -143,7 +178,7 @@ walk-first = record {
   };
 }
 
-module _ {t : Ty} {e g : Ends} {o o′ : List ℤ} (W : WalksAs t e o o′ g) (D R : List ℤ) (l : List Value) (n : ℕ) (p : 0 < n) where
+module _ {t : Ty} {e g : Ends} {o o′ : List ℤ} (W : WalksAs t t e o o′ g) (D R : List ℤ) (l : List Value) (n : ℕ) (p : 0 < n) where
   one-walked : (done todo : List Value) (gap : List ℤ) → o ≡ (D ++ wordsOf done) ++ (gap ++ (wordsOf todo ++ R)) → All (Of t) todo → length todo ≡ n → done ++ map (arrangeAs t) todo ≡ map (arrangeAs t) l → length (D ++ wordsOf done) ≡ e .dst → e .dst + length gap ≡ e .src → Underway t D R l o′ (n - 1) g
   one-walked done [] gap c h k w ld ls = absurd (omega arith)
   one-walked done (v ∷ todo) gap c h k w ld ls =
@@ -162,7 +197,7 @@ module _ {t : Ty} {e g : Ends} {o o′ : List ℤ} (W : WalksAs t e o o′ g) (D
         at-src = Z .at-src;
       }
 
-pub walk-again : {s : List ℕ} {i count n : ℕ} {e₀ e g : Ends} {o₀ o o′ : List ℤ} → Walking s i count e₀ o₀ o n e → 0 < n → length o′ ≡ length o → WalkPost s i e o o′ g → Walking s i count e₀ o₀ o′ (n - 1) g
+pub walk-again : {s : List ℕ} {i count n : ℕ} {e₀ e g : Ends} {o₀ o o′ : List ℤ} → Walking s i count e₀ o₀ o n e → 0 < n → length o′ ≡ length o → Written s i e o o′ g → Walking s i count e₀ o₀ o′ (n - 1) g
 walk-again {n = n} I p el W = record {
   long = el ∙ I .long;
   by = λ f k D G R l h c q ld ls.
@@ -187,13 +222,7 @@ walk-last {s} {i} {n = n} {e = e} {o = o} I p = record {
       all-walked (typeAt f s i) D R l o n e p (U .done) (U .todo) (U .gap) (U .cut) (U .others) (U .want) (U .at-dst) (U .at-src);
 }
 
--- ---- a collection: its count, its elements, their order, the count mended
-abbrev WalksList : Ty → ℕ → Ends → List ℤ → List ℤ → Ends → Type 0
-WalksList t n e o o′ r = (D G R : List ℤ) (l : List Value) → All (Of t) l → length l ≡ n → o ≡ D ++ (G ++ (wordsOf l ++ R)) → length D ≡ e .dst → length D + length G ≡ e .src → Moved D (wordsOf (map (arrangeAs t) l)) R o′ r
-
-abbrev OrdersAs : Ty → Collection → ℕ → ℕ → ℕ → List ℤ → List ℤ → Kept → Type 0
-OrdersAs t c first n end o o′ r = (F R : List ℤ) (l : List Value) → All (Of t) l → length l ≡ n → o ≡ F ++ (wordsOf l ++ R) → length F ≡ first → length F + length (wordsOf l) ≡ end → Held F R (arranged c l) (length (wordsOf l)) o′ (r .count) (r .end)
-
+-- ---- a collection
 -- the count that is read is the one that stands there
 count-read : (t : Ty) (D G R o : List ℤ) (l : List Value) (k n p : ℕ) → All (Of t) l → length l ≡ k → n ≡ countAt o p → o ≡ D ++ (G ++ (pos k ∷ (wordsOf l ++ R))) → length D + length G ≡ p → length l ≡ n
 count-read t D G R o l k n p h lk en q lp =
@@ -204,51 +233,97 @@ count-read t D G R o l k n p h lk en q lp =
     (ap (drop p) (q ∙ ap (λ (x : ℕ). D ++ (G ++ (pos x ∷ (wordsOf l ++ R)))) (sym (c ∙ lk)) ∙ sym (append-assoc D G B)) ∙ drop-at (D ++ G) B p (length-append D G ∙ lp))
     ∙ c)
 
+-- its words when it is written: the count, then the elements
+coll-words : (c : Collection) (t : Ty) (vs : Values) → let m = arranged c (map (arrangeAs t) (toList vs)) in words (arrangeAs (coll c t) (Va.coll vs)) ≡ pos (length m) ∷ wordsOf m
+unfolding words
+coll-words c t vs =
+    let m = arranged c (map (arrangeAs t) (toList vs)) in
+    ap words (arrange-coll c t vs) ∙ ap (λ (x : ℕ). pos x ∷ wordsOf m) (count-from m)
+
+list-words : (t : Ty) (vs : Values) → let m = map (arrangeAs t) (toList vs) in words (arrangeAs (coll list t) (Va.coll vs)) ≡ pos (length m) ∷ wordsOf m
+unfolding arranged
+list-words t vs = coll-words list t vs
+
+-- ---- its count, then its elements
+abbrev WalksList : Ty → ℕ → Ends → List ℤ → List ℤ → Ends → Type 0
+WalksList t n e o o′ r = (D G R : List ℤ) (l : List Value) → All (Of t) l → length l ≡ n → o ≡ D ++ (G ++ (wordsOf l ++ R)) → length D ≡ e .dst → length D + length G ≡ e .src → Moved D (wordsOf (map (arrangeAs t) l)) R o′ r
+
+module _ {t : Ty} {n : ℕ} {e b g : Ends} {o o₁ o₂ : List ℤ} (en : n ≡ countAt o (e .src)) (C : CarryPost 1 e o o₁ b) (W : WalksList t n b o₁ o₂ g) where
+  -- k stands in front of the elements of l, which are so many; F: what is written before them
+  list-by : (D G R : List ℤ) (l : List Value) (k : ℕ) → length l ≡ k → All (Of t) l → o ≡ D ++ (G ++ (pos k ∷ (wordsOf l ++ R))) → length D ≡ e .dst → length D + length G ≡ e .src →
+      (F : List ℤ) → F ≡ D ++ (pos k ∷ []) → Moved F (wordsOf (map (arrangeAs t) l)) R o₂ g
+  list-by D G R l k lk h q ld ls F eF =
+      let lF : length F ≡ length D + 1 = ap length eF ∙ length-append D (pos k ∷ []) in
+      let X = C .is D G (pos k ∷ []) (wordsOf l ++ R) refl q ld ls in
+      W F (X .gap) R l h (count-read t D G R o l k n (e .src) h lk en q ls) (X .cut ∙ sym (append-assoc D (pos k ∷ []) (X .gap ++ (wordsOf l ++ R))) ∙ ap (λ (x : List ℤ). x ++ (X .gap ++ (wordsOf l ++ R))) (sym eF)) (omega (arith, X .at-dst)) (omega (arith, X .at-dst, X .at-src))
+
+  coll-by : (c : Collection) → WalksAs (coll c t) (coll list t) e o o₂ g
+  unfolding words
+  coll-by c D G R v (a-collection d {vs = vs} h) q ld ls =
+      let l : List Value = toList vs in
+      let m : List Value = map (arrangeAs t) l in
+      let lk : length l ≡ count vs = sym (count-from l) ∙ ap count (from-to vs) in
+      let Y : Moved D (pos (count vs) ∷ wordsOf m) R o₂ g = then-moved D (pos (count vs) ∷ []) (wordsOf m) R o₂ g
+      (list-by D G R l (count vs) lk (to-all h) (q ∙ ap (λ (us : Values). D ++ (G ++ (pos (count vs) ∷ (wordsL us ++ R)))) (sym (from-to vs))) ld ls (D ++ (pos (count vs) ∷ [])) refl) in
+      subst (λ (w : List ℤ). Moved D w R o₂ g) (ap (λ (x : ℕ). pos x ∷ wordsOf m) (sym (length-map l (arrangeAs t) ∙ lk)) ∙ sym (list-words t vs)) Y
+
+-- u: the elements' layout
+pub walk-collection : {s : List ℕ} {i h : ℕ} {k : CollectionKind} {u : Layout} {n : ℕ} {e b g : Ends} {o o₁ o₂ : List ℤ} → Shaped s i (Elements k h) → Laid s h u → n ≡ countAt o (e .src) → CarryPost 1 e o o₁ b → WalkElementsPost s (u .place) n b o₁ o₂ g → WalkPost s i e o o₂ g
+walk-collection {s} {i} {h} {k} {u} {n} {e} {b} {g} {o} {o₁} {o₂} H L en C W =
+    let W₁ = at-laid L (λ x. WalkElementsPost s x n b o₁ o₂ g) W in
+    record { is = by-elements (λ t. WalksAs t (unordered t) e o o₂ g) H (λ f l. coll-by en C (W₁ .is f l) (collectionOf k)) }
+
+-- ---- then their order, and the count mended
+abbrev ArrangesAs : Ty → ℕ → Ends → List ℤ → List ℤ → Ends → Type 0
+ArrangesAs t p e o o′ r = (D R : List ℤ) (v : Value) → Of t v → length D ≡ p → Moved D (words (arrangeAs (unordered t) v)) R o e → Moved D (words (arrangeAs t v)) R o′ r
+
+abbrev OrdersAs : Ty → Collection → ℕ → ℕ → ℕ → List ℤ → List ℤ → Kept → Type 0
+OrdersAs t c first n end o o′ r = (F R : List ℤ) (l : List Value) → All (Of t) l → length l ≡ n → o ≡ F ++ (wordsOf l ++ R) → length F ≡ first → length F + length (wordsOf l) ≡ end → Held F R (arranged c l) (length (wordsOf l)) o′ (r .count) (r .end)
+
 -- the count m that was mended is n
 mended : (D M G H R o : List ℤ) (m n : ℕ) → o ≡ D ++ (pos m ∷ (M ++ (G ++ (H ++ R)))) → m ≡ n → o ≡ D ++ ((pos n ∷ M) ++ ((G ++ H) ++ R))
 mended D M G H R o m n q e = q ∙ ap (λ (x : ℕ). D ++ (pos x ∷ (M ++ (G ++ (H ++ R))))) e ∙ ap (λ (x : List ℤ). D ++ (pos n ∷ (M ++ x))) (sym (append-assoc G H R))
 
-module _ (c : Collection) {t : Ty} {n : ℕ} {e b g r : Ends} {j : Kept} {o o₁ o₂ o₃ o₄ : List ℤ} (en : n ≡ countAt o (e .src)) (small : n < 2 ^ 63)
-    (C : CarryPost 1 e o o₁ b) (W : WalksList t n b o₁ o₂ g) (S : OrdersAs t c (b .dst) n (g .dst) o₂ o₃ j) (K : MarkPost (e .dst) (j .count) o₃ o₄) (es : r .src ≡ g .src) (ed : r .dst ≡ j .end) where
-  -- k stands in front of the elements of l, which are so many; F: what is written before them; m: they themselves, written
-  list-by : (D G R : List ℤ) (l : List Value) (k : ℕ) → length l ≡ k → All (Of t) l → o ≡ D ++ (G ++ (pos k ∷ (wordsOf l ++ R))) → length D ≡ e .dst → length D + length G ≡ e .src →
-      (F : List ℤ) → F ≡ D ++ (pos k ∷ []) → (m : List Value) → m ≡ map (arrangeAs t) l → Moved D (pos (length (arranged c m)) ∷ wordsOf (arranged c m)) R o₄ r
-  list-by D G R l k lk h q ld ls F eF m em =
-      let cl : length l ≡ n = count-read t D G R o l k n (e .src) h lk en q ls in
-      let cm : length m ≡ n = ap length em ∙ length-map l (arrangeAs t) ∙ cl in
-      let lF : length F ≡ length D + 1 = ap length eF ∙ length-append D (pos k ∷ []) in
-      let X = C .is D G (pos k ∷ []) (wordsOf l ++ R) refl q ld ls in
-      let Y = W F (X .gap) R l h cl (X .cut ∙ sym (append-assoc D (pos k ∷ []) (X .gap ++ (wordsOf l ++ R))) ∙ ap (λ (x : List ℤ). x ++ (X .gap ++ (wordsOf l ++ R))) (sym eF)) (omega (arith, X .at-dst)) (omega (arith, X .at-dst, X .at-src)) in
-      let YM : Moved F (wordsOf m) R o₂ g = subst (λ (x : List Value). Moved F (wordsOf x) R o₂ g) (sym em) Y in
-      let Z = S F (YM .gap ++ R) m (subst (All (Of t)) (sym em) (arrange-list t l h)) cm (YM .cut) (omega (arith, X .at-dst)) (sym (YM .at-dst)) in
+module _ {t : Ty} {n p q : ℕ} {e r : Ends} {j : Kept} {o o₁ o₂ : List ℤ} (c : Collection) (en : n ≡ countAt o p) (small : n < 2 ^ 63) (eq : q ≡ behind o p)
+    (S : OrdersAs t c q n (e .dst) o o₁ j) (K : MarkPost p (j .count) o₁ o₂) (es : r .src ≡ e .src) (ed : r .dst ≡ j .end) where
+  order-by : (D R : List ℤ) (m : List Value) → All (Of t) m → length D ≡ p → Moved D (pos (length m) ∷ wordsOf m) R o e → Moved D (pos (length (arranged c m)) ∷ wordsOf (arranged c m)) R o₂ r
+  order-by D R m h ld X =
+      let F : List ℤ = D ++ (pos (length m) ∷ []) in
+      let a : List Value = arranged c m in
+      let T : List ℤ = X .gap ++ R in
+      let cm : length m ≡ n = count-read t D [] T o m (length m) n p h refl en (X .cut) (omega (arith, ld)) in
+      let lF : length F ≡ length D + 1 = length-append D (pos (length m) ∷ []) in
+      let lo : length D < length o = omega (arith, ap length (X .cut) ∙ length-append D (pos (length m) ∷ (wordsOf m ++ T))) in
+      let Z = S F T m h cm (X .cut ∙ sym (append-assoc D (pos (length m) ∷ []) (wordsOf m ++ T))) (omega (arith, lF, ld, eq, behind-in o p (omega (arith, lo, ld)))) (omega (arith, lF, X .at-dst)) in
       record {
-        gap = Z .gap ++ YM .gap;
-        cut = mended D (wordsOf (arranged c m)) (Z .gap) (YM .gap) R o₄ (j .count) (length (arranged c m))
-            (K .is D (wordsOf (arranged c m) ++ (Z .gap ++ (YM .gap ++ R))) (pos k) (omega (arith, Z .counted, arranged-count c m))
-            (Z .cut ∙ ap (λ (x : List ℤ). x ++ (wordsOf (arranged c m) ++ (Z .gap ++ (YM .gap ++ R)))) eF ∙ append-assoc D (pos k ∷ []) (wordsOf (arranged c m) ++ (Z .gap ++ (YM .gap ++ R)))) ld)
+        gap = Z .gap ++ X .gap;
+        cut = mended D (wordsOf a) (Z .gap) (X .gap) R o₂ (j .count) (length a)
+            (K .is D (wordsOf a ++ (Z .gap ++ T)) (pos (length m)) (omega (arith, Z .counted, arranged-count c m)) (Z .cut ∙ append-assoc D (pos (length m) ∷ []) (wordsOf a ++ (Z .gap ++ T))) ld)
             (Z .counted);
-        at-dst = omega (arith, Z .at-end);
-        at-src = omega (arith, Z .at-end, Z .size, YM .at-dst, YM .at-src, length-append (Z .gap) (YM .gap));
+        at-dst = omega (arith, Z .at-end, lF);
+        at-src = omega (arith, Z .at-end, Z .size, lF, X .at-dst, X .at-src, length-append (Z .gap) (X .gap));
       }
 
-  coll-by : WalksAs (coll c t) e o o₄ r
-  unfolding words
-  coll-by D G R v (a-collection d {vs = vs} h) q ld ls =
-      let l : List Value = toList vs in
-      let w : List Value = arranged c (map (arrangeAs t) l) in
-      subst (λ (u : Value). Moved D (words u) R o₄ r) (sym (arrange-coll c t vs))
-      (subst (λ (x : ℕ). Moved D (pos x ∷ wordsOf w) R o₄ r) (sym (count-from w))
-      (list-by D G R l (count vs) (sym (count-from l) ∙ ap count (from-to vs)) (to-all h) (q ∙ ap (λ (us : Values). D ++ (G ++ (pos (count vs) ∷ (wordsL us ++ R)))) (sym (from-to vs))) ld ls (D ++ (pos (count vs) ∷ [])) refl (map (arrangeAs t) l) refl))
+  arrange-by : ArrangesAs (coll c t) p e o o₂ r
+  arrange-by D R v (a-collection d {vs = vs} h) ld X =
+      let m : List Value = map (arrangeAs t) (toList vs) in
+      subst (λ (w : List ℤ). Moved D w R o₂ r) (sym (coll-words c t vs)) (order-by D R m (arrange-list t (toList vs) (to-all h)) ld (subst (λ (w : List ℤ). Moved D w R o e) (list-words t vs) X))
 
--- u: the elements' layout
-pub walk-collection : {s : List ℕ} {i h : ℕ} {k : CollectionKind} {u : Layout} {n : ℕ} {e b g r : Ends} {j : Kept} {o o₁ o₂ o₃ o₄ : List ℤ} → Shaped s i (Elements k h) → Laid s h u → (n ≡ countAt o (e .src)) × (n < 2 ^ 63) → CarryPost 1 e o o₁ b → WalkElementsPost s (u .place) n b o₁ o₂ g → OrderPost s (u .place) k (b .dst) n (g .dst) o₂ o₃ j → MarkPost (e .dst) (j .count) o₃ o₄ → r .src ≡ g .src → r .dst ≡ j .end → WalkPost s i e o o₄ r
-walk-collection {s} {i} {h} {k} {u} {n} {e} {b} {g} {r} {j} {o} {o₁} {o₂} {o₃} {o₄} H L en C W S K es ed =
-    let W₁ = at-laid L (λ x. WalkElementsPost s x n b o₁ o₂ g) W in
-    let S₁ = at-laid L (λ x. OrderPost s x k (b .dst) n (g .dst) o₂ o₃ j) S in
-    record { is = by-elements (λ t. WalksAs t e o o₄ r) H (λ f l. coll-by (collectionOf k) (en .0) (en .1) C (W₁ .is f l) (S₁ .is f l) K es ed) }
+module _ {s : List ℕ} {i p : ℕ} {e : Ends} {o : List ℤ} where
+  -- nothing to order
+  pub arrange-words : {n : ℕ} → Shaped s i (Words n) → ArrangePost s i p e o o e
+  arrange-words H = record { is = by-words (λ t. ArrangesAs t p e o o e) H (λ t h n D R v k ld X. subst (λ (u : Ty). Moved D (words (arrangeAs u v)) R o e) (flat-unordered t h) X) }
+
+  pub arrange-record : {end : ℕ} → Shaped s i (Fields end) → ArrangePost s i p e o o e
+  arrange-record H = record { is = by-fields (λ t. ArrangesAs t p e o o e) H (λ g l D R v k ld X. X) }
+
+  pub arrange-collection : {h : ℕ} {k : CollectionKind} {u : Layout} {n q : ℕ} {r : Ends} {j : Kept} {o₁ o₂ : List ℤ} → Shaped s i (Elements k h) → Laid s h u → (n ≡ countAt o p) × (n < 2 ^ 63) → q ≡ behind o p → OrderPost s (u .place) k q n (e .dst) o o₁ j → MarkPost p (j .count) o₁ o₂ → r .src ≡ e .src → r .dst ≡ j .end → ArrangePost s i p e o o₂ r
+  arrange-collection {h} {k} {u} {n} {q} {r} {j} {o₁} {o₂} H L en eq S K es ed =
+      let S₁ = at-laid L (λ x. OrderPost s x k q n (e .dst) o o₁ j) S in
+      record { is = by-elements (λ t. ArrangesAs t p e o o₂ r) H (λ f l. arrange-by (collectionOf k) (en .0) (en .1) eq (S₁ .is f l) K es ed) }
 
 -- ---- finish
-pub finished : {s : List ℕ} {i : ℕ} {e r : Ends} {o o₁ o₂ : List ℤ} → e .src ≡ 0 → e .dst ≡ 0 → WalkPost s i e o o₁ r → length o₁ ≡ length o → ClearPost (r .dst) (r .src) o₁ o₂ → FinishPost s i o o₂ (r .dst)
+pub finished : {s : List ℕ} {i : ℕ} {e r : Ends} {o o₁ o₂ : List ℤ} → e .src ≡ 0 → e .dst ≡ 0 → Written s i e o o₁ r → length o₁ ≡ length o → ClearPost (r .dst) (r .src) o₁ o₂ → FinishPost s i o o₂ (r .dst)
 finished {s} {i} {e} {r} {o} {o₁} {o₂} es ed W el K = record {
   is = λ f k R v h q.
       let M : List ℤ = words (arrangeAs (typeAt f s i) v) in

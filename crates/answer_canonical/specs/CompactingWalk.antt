@@ -5,9 +5,11 @@ use mathlib.Core.List.{List, _++_, map}
 use Prim.Native.Nat.{ℕ, _+_, _-_, _<_}
 use lib.ListN.{length, replicate}
 use lib.IntN.{ℤ, pos}
+use Rattle.spec_calculus.specs.Syntax.{list}
 use Rattle.spec_calculus.specs.Value.{Value, Values}
 use Rattle.spec_calculus.specs.Monoid.{ordered}
 use Rattle.spec_calculus.proofs.Lists.{All}
+use Rattle.spec_checks.specs.Types.{Ty, number, truth, record′, coll}
 use Rattle.spec_checks.proofs.Refold.{refolds, arrangeAs}
 use Rattle.spec_outcome.specs.WrittenForm.{words, wordsL}
 use Rattle.form_words.specs.FormTree.{left}
@@ -27,12 +29,27 @@ pub record Moved (D M R o : List ℤ) (e : Ends) : Type 0 where
 pub record CarryPost (n : ℕ) (e : Ends) (o o′ : List ℤ) (r : Ends) : Type 0 where
   pub is : (D G M R : List ℤ) → length M ≡ n → o ≡ D ++ (G ++ (M ++ R)) → length D ≡ e .dst → length D + length G ≡ e .src → Moved D M R o′ r
 
--- a value, the fields of the types from place i to e, n elements: each is brought to written form
+-- the type of a list of the same elements, where a type is a collection's: by it a value's parts are written, and it itself is not
+-- ordered
+abbrev pub unordered : Ty → Ty
+unordered number = number
+unordered truth = truth
+unordered (record′ ts) = record′ ts
+unordered (coll c t) = coll list t
+
+-- a value: its parts are brought to written form
 pub record WalkPost (s : List ℕ) (i : ℕ) (e : Ends) (o o′ : List ℤ) (r : Ends) : Type 0 where
   pub is :
       (f : ℕ) → left i < f → (D G R : List ℤ) (v : Value) → Of (typeAt f s i) v →
-      o ≡ D ++ (G ++ (words v ++ R)) → length D ≡ e .dst → length D + length G ≡ e .src → Moved D (words (arrangeAs (typeAt f s i) v)) R o′ r
+      o ≡ D ++ (G ++ (words v ++ R)) → length D ≡ e .dst → length D + length G ≡ e .src → Moved D (words (arrangeAs (unordered (typeAt f s i)) v)) R o′ r
 
+-- then the value itself, which stands at p
+pub record ArrangePost (s : List ℕ) (i p : ℕ) (e : Ends) (o o′ : List ℤ) (r : Ends) : Type 0 where
+  pub is :
+      (f : ℕ) → left i < f → (D R : List ℤ) (v : Value) → Of (typeAt f s i) v → length D ≡ p →
+      Moved D (words (arrangeAs (unordered (typeAt f s i)) v)) R o e → Moved D (words (arrangeAs (typeAt f s i) v)) R o′ r
+
+-- the fields of the types from place i to e, n elements: each is brought to written form
 pub record WalkFieldsPost (s : List ℕ) (i end : ℕ) (e : Ends) (o o′ : List ℤ) (r : Ends) : Type 0 where
   pub is :
       (f : ℕ) → left i + 1 < f → (D G R : List ℤ) (vs : Values) → OfEach (typesAt f s i end) vs →

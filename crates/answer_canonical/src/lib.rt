@@ -2,7 +2,7 @@
 ghost use Prim.Native.Nat.{_≤_};
 ghost use Rattle.base_scratch.specs.Map.{places};
 ghost use Rattle.answer_types.specs.Shape.{Shaped};
-ghost use Rattle.answer_canonical.specs.CompactingWalk.{CarryPost, WalkPost, WalkFieldsPost, WalkElementsPost, FinishPost};
+ghost use Rattle.answer_canonical.specs.CompactingWalk.{CarryPost, ArrangePost, WalkPost, WalkFieldsPost, WalkElementsPost, FinishPost};
 use answer_sort::order;
 use answer_types::Layout;
 use answer_types::ValueType;
@@ -12,6 +12,7 @@ use base_buffer::ahead;
 use base_buffer::clear;
 use base_buffer::mark;
 use base_buffer::shift;
+use base_buffer::step;
 use base_buffer::tally;
 use form_words::next;
 
@@ -33,8 +34,33 @@ fn carry(o: &mut [i64], n: usize, e: Ends) -> Ends
     }
 }
 
-// A value of the type t. Nested collections come first: each element is brought to written form and moved down, then the
-// elements are ordered, and the count is mended.
+// A value of the type t at p, its parts written: the elements of a bag or a set are ordered, and the count is mended. It has
+// several callers, so that it is not put in line in `walk`, whose frame is on the stack once for each level of a type.
+fn arrange(s: &[u64], o: &mut [i64], t: Layout, p: usize, e: Ends) -> Ends
+    requires { ⌜ Shaped (now s) (t .place) (t .shape) ⌝ }
+    ensures { λ r. ⌜ ArrangePost (now (s .entry)) (t .place) p e (now (o .entry)) (now (o .exit)) r ⌝ }
+{
+    let shape = t.shape;
+    match shape {
+        ValueType::Word => e,
+        ValueType::Words(_) => e,
+        ValueType::Fields(_) => e,
+        ValueType::Elements(k, h) => {
+            let u = element_layout(s, h);
+            let n = tally(o, p);
+            let first = step(o, p);
+            let r = order(s, o, u, k, first, n, e.dst);
+            mark(o, p, r.count);
+            Ends {
+                src: e.src,
+                dst: r.end,
+            }
+        }
+    }
+}
+
+// A value of the type t, which the caller then arranges. Nested collections come first: each field and element is brought to
+// written form and moved down.
 fn walk(s: &[u64], o: &mut [i64], t: Layout, e: Ends) -> Ends
     requires { ⌜ Shaped (now s) (t .place) (t .shape) ⌝ }
     ensures { λ r. ⌜ WalkPost (now (s .entry)) (t .place) e (now (o .entry)) (now (o .exit)) r ⌝ }
@@ -44,17 +70,10 @@ fn walk(s: &[u64], o: &mut [i64], t: Layout, e: Ends) -> Ends
         ValueType::Word => carry(o, 1, e),
         ValueType::Words(n) => carry(o, n, e),
         ValueType::Fields(end) => walk_fields(s, o, t.place + 1, end, e),
-        ValueType::Elements(k, h) => {
-            let u = element_layout(s, h);
+        ValueType::Elements(_, h) => {
             let n = tally(o, e.src);
             let b = carry(o, 1, e);
-            let g = walk_elements(s, o, u, n, b);
-            let r = order(s, o, u, k, b.dst, n, g.dst);
-            mark(o, e.dst, r.count);
-            Ends {
-                src: g.src,
-                dst: r.end,
-            }
+            walk_elements(s, o, element_layout(s, h), n, b)
         }
     }
 }
@@ -64,11 +83,16 @@ fn walk_fields(s: &[u64], o: &mut [i64], c: usize, end: usize, e: Ends) -> Ends
     requires { ⌜ end ≤ places ⌝ }
     ensures { λ r. ⌜ WalkFieldsPost (now (s .entry)) c end e (now (o .entry)) (now (o .exit)) r ⌝ }
 {
-    if end <= c {
-        return e;
+    let mut i = c;
+    let mut g = e;
+    while i < end {
+        let t = layout_at(s, i);
+        let p = g.dst;
+        g = walk(s, o, t, g);
+        g = arrange(s, o, t, p, g);
+        i = next(s, i);
     }
-    let g = walk(s, o, layout_at(s, c), e);
-    walk_fields(s, o, next(s, c), end, g)
+    g
 }
 
 // Elements.
@@ -79,7 +103,9 @@ fn walk_elements(s: &[u64], o: &mut [i64], t: Layout, count: usize, e: Ends) -> 
     let mut n = count;
     let mut g = e;
     while 0 < n {
+        let p = g.dst;
         g = walk(s, o, t, g);
+        g = arrange(s, o, t, p, g);
         n -= 1;
     }
     g
@@ -89,7 +115,9 @@ fn walk_elements(s: &[u64], o: &mut [i64], t: Layout, count: usize, e: Ends) -> 
 pub fn finish(s: &[u64], o: &mut [i64], i: usize) -> usize
     ensures { λ r. ⌜ FinishPost (now (s .entry)) i (now (o .entry)) (now (o .exit)) r ⌝ }
 {
-    let e = walk(s, o, layout_at(s, i), Ends { src: 0, dst: 0 });
+    let t = layout_at(s, i);
+    let g = walk(s, o, t, Ends { src: 0, dst: 0 });
+    let e = arrange(s, o, t, 0, g);
     clear(o, e.dst, e.src);
     e.dst
 }
