@@ -55,9 +55,9 @@ GROUPS = {
     'plan_lines::head': times(NODES // 2, ['head']),
     'base_text': times(20, ['decimal']),
     'exec_terms': times(NESTED, ['scalar', 'operand']),
-    'answer_canonical': times(NESTED, ['walk', 'walk_fields']),
-    'answer_compare': times(NESTED, ['compare', 'compare_fields']),
-    'answer_types::skip': times(NESTED, ['skip', 'skip_fields']),
+    'answer_canonical': times(NESTED, ['walk']),
+    'answer_compare': times(NESTED, ['compare']),
+    'answer_types::skip': times(NESTED, ['skip']),
     'answer_types::width_fields': times(NESTED, ['width_fields']),
     'answer_types::singles': times(NESTED, ['singles']),
 }
