@@ -2,5 +2,6 @@
 pub mod HeadWords
 pub mod SkippedRows
 pub mod WordBounds
+mod NodeMonoid
 pub mod Exits
 mod MergedRows
