@@ -43,7 +43,7 @@ GROUPS = {
     'front_bounds': lambda f: along(f, [['form_size', 'clauses_size']], [['clauses_size']]) + f('record_fits'),
     'loop_collect': loops,
     'loop_scalar': loops,
-    'plan_marks': lambda f: along(f, [['term', 'seats', 'clauses']], [['seats', 'clauses']]) + f('terms'),
+    'plan_marks': lambda f: along(f, [['term', 'seats', 'clauses'], ['term', 'terms']], [['seats']]),
     'plan_links::term': lambda f: along(f, [['term', 'clauses']], [['clauses']]) + f('terms'),
     'plan_links::loops': times(NODES // 2, ['loops']),
     'plan_lines::ops': lambda f: along(f, [['inside', 'ops']], [['growers']]) + f('ops_upto'),
