@@ -26,10 +26,15 @@ def times(count, *lists):
     return lambda frames: count * max(sum(map(frames, functions)) for functions in lists)
 
 
-# Loops for collections, and below them loops for totals.
+# Loops for collections, and below them loops for totals; what leads from the former to the latter is there once. A function that
+# the compiler puts in line takes nothing.
 def loops(f):
-    return along(f, [['loop_collect::write', 'loop_collect::collect'], ['loop_scalar::scalar', 'loop_scalar::fold']],
-                 [['loop_collect::collect'], ['loop_scalar::fold']]) + f('loop_collect::parts') + f('loop_scalar::operand')
+    collect, scalar = 'loop_collect::', 'loop_scalar::'
+    generators = [[collect + 'collect', collect + 'each'], [scalar + 'fold', scalar + 'rounds']]
+    record = [collect + name for name in ('write', 'flat', 'parts', 'part')]
+    total = [scalar + 'operand', scalar + 'total']
+    terms = [[collect + 'write'] + generators[0], record, total + generators[1], total[:1] + [scalar + 'scalar']]
+    return along(f, terms, generators) + max(sum(map(f, record)), f(scalar + 'scalar'))
 
 
 # For each group the most that it takes, from its frames. A group of a crate that has several is named by one of its functions.
