@@ -88,11 +88,11 @@ namespace dislogha {
 // question is unfinished (`begin`, `portion`, `round`).
 constexpr std::size_t scratch_words = 8192;
 
-// Bytes of stack that a call needs at most, whatever it is asked, on x86-64 as the kit compiles it
-// (docs/FIGURES.md says how it is worked out; another processor needs another figure). A portion and
-// a round need more: scratch that was changed in between may say anything.
-constexpr std::size_t stack_bytes = 155648;
-constexpr std::size_t portion_stack_bytes = 274432;
+// Bytes of stack that a call needs at most, 128 KiB, whatever it is asked and whatever it is lent, on
+// x86-64 as the kit compiles it: worked out from the compiled frames, 129,192, and seen in the deepest
+// questions that were made, 117,840 (`tests/stack/run`; docs/FIGURES.md). Another processor needs
+// another figure.
+constexpr std::size_t stack_bytes = 131072;
 
 // Rows that a portion may offer.
 constexpr std::uint64_t most_rows = 65535;

@@ -127,7 +127,7 @@ def main():
     functions = frames_of(sys.argv[1])
     group = groups_of(functions)
     header = open(sys.argv[2]).read()
-    published = {name: int(size) for name, size in re.findall(r'constexpr std::size_t (\w*stack_bytes) = (\d+);', header)}
+    published = int(re.search(r'constexpr std::size_t stack_bytes = (\d+);', header)[1])
     unknown = set()
 
     def rule(members):
@@ -170,11 +170,9 @@ def main():
 
     over = 0
     for call in sorted(f for f in functions if f.startswith('dislogha_')):
-        portion = call in ('dislogha_portion', 'dislogha_round')
-        most = published['portion_stack_bytes' if portion else 'stack_bytes']
-        needed, way = bound(call, portion)
-        print(f'{call:28} {needed:7} of {most}: {", ".join(way)}')
-        over += needed > most
+        needed, way = bound(call, call in ('dislogha_portion', 'dislogha_round'))
+        print(f'{call:28} {needed:7} of {published}: {", ".join(way)}')
+        over += needed > published
     for function in sorted(unknown):
         print('no rule for', function)
     return over > 0 or len(unknown) > 0 or len(functions) < 50

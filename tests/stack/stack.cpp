@@ -22,7 +22,6 @@
 namespace {
 
 constexpr std::size_t page = 4096;
-// An accepted question with nothing changed in between: portions need no more than the other calls.
 constexpr std::size_t published = dislogha::stack_bytes;
 static_assert(published % page == 0, "the guard page stands right behind the stack");
 constexpr unsigned char paint = 0xA5;
