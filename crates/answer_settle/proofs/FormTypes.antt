@@ -7,10 +7,10 @@ use Prim.Native.Nat.{ℕ, suc, _+_}
 use Rattle.spec_calculus.specs.Lists.{upd}
 use Rattle.spec_calculus.specs.Value.{Tables, columnsOf}
 use Rattle.spec_encoding.specs.Record.{Bytes}
-use Rattle.base_tables.specs.Description.{columnsIn}
+use Rattle.base_tables.specs.Description.{columnsIn, descriptionIn}
 use Rattle.spec_normal_form.specs.Form.{Form, Forms, Clauses, num, truth, row, cell, rec, bin, negate, app, comp, fnil, fcons, done, gen, cond, gens, gensC}
 use Rattle.spec_normal_form.specs.NoRule.{behind, Ordered, OrderedF, OrderedC}
-use Rattle.form_env.specs.Environment.{descriptionIn, tablesIn, Held}
+use Rattle.form_env.specs.Environment.{tablesIn, Held}
 use Rattle.form_env.specs.NamedTables.{tableOf, Named, NamedF, NamedC}
 use Rattle.form_env.proofs.BoundRows.{width}
 use Rattle.answer_types.specs.Columns.{columns}

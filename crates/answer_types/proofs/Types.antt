@@ -24,8 +24,8 @@ use Rattle.form_words.specs.Look.{Looks, LooksC}
 use Rattle.form_words.specs.HeadPlace.{headNode}
 use Rattle.form_words.proofs.NodeWords.{look-out, next-past, formNode, form-is, head-is, head-node-is, forms-end, forms-more}
 use Rattle.base_buffer.proofs.TotalReads.{clash}
-use Rattle.base_tables.specs.Description.{columnsIn}
-use Rattle.form_env.specs.Environment.{slotOf, descriptionIn}
+use Rattle.base_tables.specs.Description.{columnsIn, descriptionIn}
+use Rattle.form_env.specs.Environment.{slotOf}
 use Rattle.answer_types.specs.declared.CollectionKind.{CollectionKind}
 use Rattle.answer_types.specs.declared.Layout.{Layout}
 use Rattle.answer_types.specs.declared.ValueType.{ValueType}

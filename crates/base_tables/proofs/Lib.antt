@@ -4,3 +4,4 @@ pub mod ByteReaders
 mod ReadLoop
 mod TableCells
 pub mod ReadData
+pub mod TableWords

@@ -1,6 +1,8 @@
 -- A table's description: the one word that the engine keeps of a table. Collection (2 bits), columns (4), rows (11), and
 -- above them the position of the table's first cell in the data.
 use mathlib.Core.Path.{_≡_}
+use mathlib.Core.Bool.{Bool, false}
+use mathlib.Core.List.{List}
 use Prim.Native.Nat.{ℕ, zero, suc, _+_, _*_, _/_, _%_, _≤_, _<_, _^_}
 use lib.Dec.{ltb}
 use lib.ListN.{length, getD}
@@ -25,6 +27,23 @@ rowsIn w = w / 64 % 2048
 
 abbrev pub positionIn : ℕ → ℕ
 positionIn w = w / 131072
+
+-- "data is 0 to 8 such records"
+abbrev pub mostTables : ℕ
+mostTables = 8
+
+-- whether scratch has table k: its word 0 is the number of tables
+unfoldable pub presentIn : List ℕ → ℕ → Bool
+presentIn s k = pick (ltb k mostTables) (ltb k (getD s 0 0)) false
+
+-- the description of table k, its word 1 + k; 0, which has no columns and no rows, where there is no such table
+unfoldable pub tableIn : List ℕ → ℕ → ℕ
+tableIn s k = pick (presentIn s k) (getD s (suc k) 0) 0
+
+-- that of table n - 1
+unfoldable pub descriptionIn : List ℕ → ℕ → ℕ
+descriptionIn s zero = 0
+descriptionIn s (suc k) = tableIn s k
 
 -- the cell in row r and column c; 0 outside
 unfoldable pub cellIn : Bytes → ℕ → ℕ → ℕ → ℤ

@@ -1,14 +1,19 @@
-// The one place that reads the lent data: its records, and the cells of its tables.
+// The one place that reads the lent data: its records, the descriptions of its tables, and their cells.
 ghost use mathlib.Core.Path.{_≡_};
 ghost use Prim.Native.Nat.{_+_, _*_, _≤_, _<_, _^_};
 ghost use lib.ListN.{length, getD};
 ghost use lib.IntN.{natAbs};
 ghost use Rattle.spec_encoding.specs.Record.{four, signed};
 ghost use Rattle.spec_encoding.specs.Data.{fits};
-ghost use Rattle.base_tables.specs.Description.{descriptionOf, collectionIn, columnsIn, rowsIn, CellPost};
+ghost use Rattle.base_tables.specs.Description.{descriptionOf, collectionIn, columnsIn, rowsIn, CellPost, presentIn, tableIn, descriptionIn};
 ghost use Rattle.base_tables.specs.DataReader.{headerGives, headerAt, tableAt, ReadDataPost};
+use base_scratch::DESCRIPTIONS;
 use base_scratch::TABLES;
+use base_scratch::load;
 use base_scratch::store;
+
+// "data is 0 to 8 such records"
+pub const MOST_TABLES: usize = 8;
 
 // A whole record of kind 20 with the length of its content, or none.
 pub enum TableHeader {
@@ -155,6 +160,36 @@ pub fn rows(w: u64) -> usize
     (w / 64 % 2048) as usize
 }
 
+// Whether there is a table k.
+pub fn present(s: &[u64], k: usize) -> bool
+    ensures { λ r. ⌜ r ≡ presentIn (now (s .entry)) k ⌝ }
+{
+    if k < MOST_TABLES {
+        return (k as u64) < load(s, TABLES);
+    }
+    false
+}
+
+// The description of table k; where there is none 0, which has no rows.
+pub fn table(s: &[u64], k: usize) -> u64
+    ensures { λ r. ⌜ r ≡ tableIn (now (s .entry)) k ⌝ }
+{
+    if present(s, k) {
+        return load(s, DESCRIPTIONS + k);
+    }
+    0
+}
+
+// That of the table whose number is n - 1.
+pub fn description(s: &[u64], n: usize) -> u64
+    ensures { λ r. ⌜ r ≡ descriptionIn (now (s .entry)) n ⌝ }
+{
+    if n == 0 {
+        return 0;
+    }
+    table(s, n - 1)
+}
+
 // "signed, four bytes each"
 fn signed_of(n: usize) -> i64
     requires { ⌜ n < 2 ^ 32 ⌝ }
@@ -190,7 +225,7 @@ pub fn read_data(data: &[u8], scratch: &mut [u64]) -> u64
     let mut p = 0;
     let mut n = 0;
     while p < data.len() {
-        if n == 8 {
+        if n == MOST_TABLES {
             return base_refusals::TOO_MANY_TABLES;
         }
         match table_at(data, p) {

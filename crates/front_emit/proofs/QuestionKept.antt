@@ -8,9 +8,10 @@ use borrow.Author.Tests.{ltb-true}
 use lib.Dec.{ltb}
 use lib.ListN.{getD}
 use Rattle.spec_calculus.specs.Lists.{pick}
-use Rattle.spec_calculus.specs.Syntax.{Collection, list}
+use Rattle.spec_calculus.specs.Syntax.{Collection}
 use Rattle.spec_encoding.specs.Data.{collectionOf}
 use Rattle.base_tables.specs.Description.{collectionIn}
+use Rattle.base_tables.proofs.TableWords.{table-same}
 use Rattle.spec_normal_form.specs.Normal.{nothing, ranges}
 use Rattle.spec_normal_form.specs.Size.{nodesC}
 use Rattle.front_theory.specs.NodeTable.{Node, Nodes, nnum, ntruth, nname, nfield, nrec, nbin, nnegate, napp, ncomp, ntable, ngen, nbind, ncond, nbad}
@@ -31,7 +32,7 @@ use Rattle.base_syntax.specs.MonoidWord.{monoidOf}
 use Rattle.front_resolve.specs.Place.{Place, offsets, FormAt, Fine}
 use Rattle.front_resolve.specs.declared.Form.{Form}
 use Rattle.front_resolve.specs.declared.Form.the-variants.{Number, Truth, Row, Cell, Record, Two, Not, Comp, Table, Operator, Bad}
-use Rattle.front_emit.specs.WriterStart.{mostTables, collections, semS, Ready}
+use Rattle.front_emit.specs.WriterStart.{collections, semS, Ready}
 
 -- the words before those of the normal form are the same
 pub record Kept (s s′ : List ℕ) : Type 0 where
@@ -130,15 +131,8 @@ module _ {s s′ : List ℕ} (H : Kept s s′) where
       go Bad p = tt
 
   collections-kept : collections s′ ≡ collections s
-  unfolding collections pick
-  collections-kept = fun-ext λ k. go k (ltb k mostTables) refl
-    where
-      by : ℕ → ℕ → ℕ → Collection
-      by k a b = pick (ltb k a) (collectionOf (collectionIn b)) list
-
-      go : (k : ℕ) (b : Bool) → ltb k mostTables ≡ b → pick b (by k (getD s′ 0 0) (getD s′ (1 + k) 0)) list ≡ pick b (by k (getD s 0 0) (getD s (1 + k) 0)) list
-      go k true t = ap₂ (by k) (H .same 0 (omega arith)) (H .same (1 + k) (omega (arith, ltb-true k mostTables t)))
-      go k false t = refl
+  unfolding collections
+  collections-kept = fun-ext λ k. ap (λ (w : ℕ). collectionOf (collectionIn w)) (table-same s′ s (λ j p. H .same j (omega arith)) k)
 
   size-word : (x k : ℕ) → x < most → k < 2 → wordAt s′ x k ≡ wordAt s x k
   size-word x k h l = H .same (sizesAt + 2 * x + k) (omega arith)

@@ -1,18 +1,16 @@
 -- Laws of the small functions.
-use mathlib.Core.Path.{_≡_, refl, sym, ap, ap₂, subst, _∙_}
+use mathlib.Core.Path.{_≡_, refl, sym, ap, subst, _∙_}
 use mathlib.Core.Bool.{Bool, true, false}
 use mathlib.Core.List.{List, [], _∷_}
-use Prim.Native.Nat.{ℕ, zero, suc, _+_, _*_, _<_, _≤_}
+use Prim.Native.Nat.{ℕ, zero, suc, _+_, _*_, _<_}
 use native.Mathlib.Omega.{arith}
 use types.Run.{OneOf, miss}
 use denote.Enum.Declared.{tagOf}
-use borrow.Author.Tests.{ltb-true, lt-ltb}
-use lib.Dec.{ltb}
-use lib.ListN.{length, getD, set, length-set, List·getD-eq-default}
+use lib.ListN.{length, getD, set, length-set}
 use Rattle.spec_calculus.specs.Lists.{pick}
 use Rattle.spec_calculus.specs.Syntax.{of}
 use Rattle.spec_calculus.specs.Syntax as Sy
-use Rattle.base_tables.specs.Description.{collectionIn}
+use Rattle.base_tables.specs.Description.{collectionIn, tableIn}
 use Rattle.spec_normal_form.specs.Normal.{givesWay}
 use Rattle.front_theory.specs.NodeForms.{enter, levels}
 use Rattle.base_syntax.specs.declared.Monoid.{Monoid}
@@ -29,7 +27,7 @@ use Rattle.front_resolve.proofs.Form as form
 use Rattle.front_resolve.proofs.Exits.{env-set}
 use Rattle.front_emit.specs.declared.Split.the-variants.{And, Some, One}
 use Rattle.front_emit.specs.ConditionShape.{Single, SplitOfPost}
-use Rattle.front_emit.specs.WriterStart.{mostTables, collections, flagIn, Copies}
+use Rattle.front_emit.specs.WriterStart.{collections, flagIn, Copies}
 use Rattle.base_syntax.specs.Numbers.{monoidArg}
 
 abbrev bitOf : Bool → ℕ
@@ -115,35 +113,10 @@ copy-is {h} {n = n} {w} z d e p =
 abbrev pub numberBy : ℕ → ℕ
 numberBy c = monoidArg (of (getD (Sy.list ∷ Sy.list ∷ Sy.bag ∷ Sy.set ∷ []) c Sy.list))
 
--- by the tests
-abbrev byTests : Bool → Bool → ℕ → ℕ
-byTests a b w = monoidArg (of (pick a (pick b (getD (Sy.list ∷ Sy.list ∷ Sy.bag ∷ Sy.set ∷ []) (collectionIn w) Sy.list) Sy.list) Sy.list))
-
-a-list : (a b : Bool) (w : ℕ) → ((a ≡ true → b ≡ true → w ≡ 0)) → 1 ≡ byTests a b w
-unfolding pick
-a-list true true w h = ap (λ x. numberBy (collectionIn x)) (sym (h refl refl))
-a-list true false w h = refl
-a-list false b w h = refl
-
-module _ (s : List ℕ) (k : ℕ) where
-  by-tests : monoidArg (of (collections s k)) ≡ byTests (ltb k mostTables) (ltb k (getD s 0 0)) (getD s (1 + k) 0)
+module _ (s : List ℕ) (k : ℕ) {c w : ℕ} (e : c ≡ collectionIn w) (h : w ≡ tableIn s k) where
+  pub described : numberBy c ≡ monoidArg (of (collections s k))
   unfolding collections
-  by-tests = refl
-
-  pub no-such-table : mostTables ≤ k → 1 ≡ monoidArg (of (collections s k))
-  no-such-table h = a-list _ _ (getD s (1 + k) 0) (λ p q. absurd (omega (arith, h, ltb-true k mostTables p))) ∙ sym by-tests
-
-  pub not-described : length s ≤ k + 1 → 1 ≡ monoidArg (of (collections s k))
-  not-described h = a-list _ _ (getD s (1 + k) 0) (λ p q. List·getD-eq-default s 0 {n = 1 + k} (omega (arith, h))) ∙ sym by-tests
-
-  pub not-read : getD s 0 0 ≤ k → 1 ≡ monoidArg (of (collections s k))
-  not-read h = a-list _ _ (getD s (1 + k) 0) (λ p q. absurd (omega (arith, h, ltb-true k (getD s 0 0) q))) ∙ sym by-tests
-
-  pub described : {c : ℕ} → k < mostTables → k < getD s 0 0 → c ≡ collectionIn (getD s (k + 1) 0) → numberBy c ≡ monoidArg (of (collections s k))
-  unfolding pick
-  described p q e =
-      let z : k + 1 ≡ 1 + k = omega arith in
-      ap numberBy (e ∙ ap (λ j. collectionIn (getD s j 0)) z) ∙ sym (by-tests ∙ ap₂ (λ (a b : Bool). byTests a b (getD s (1 + k) 0)) (lt-ltb k mostTables p) (lt-ltb k (getD s 0 0) q))
+  described = ap numberBy (e ∙ ap collectionIn h)
 
 pub number-list : (c : ℕ) → c < 4 → (c ≡ 2 → ⊥) → (c ≡ 3 → ⊥) → 1 ≡ numberBy c
 number-list zero l p q = refl

@@ -3,12 +3,10 @@ use mathlib.Core.Path.{_≡_}
 use mathlib.Core.Bool.{Bool, true, false, _||_}
 use mathlib.Core.List.{List}
 use Prim.Native.Nat.{ℕ, suc, _+_, _<_, _≤_}
-use lib.Dec.{ltb}
-use lib.ListN.{length, getD, drop}
-use Rattle.spec_calculus.specs.Lists.{pick}
-use Rattle.spec_calculus.specs.Syntax.{Collection, list, of}
+use lib.ListN.{length, drop}
+use Rattle.spec_calculus.specs.Syntax.{Collection, of}
 use Rattle.spec_encoding.specs.Data.{collectionOf}
-use Rattle.base_tables.specs.Description.{collectionIn}
+use Rattle.base_tables.specs.Description.{collectionIn, tableIn}
 use Rattle.spec_normal_form.specs.Form.{Clauses}
 use Rattle.spec_normal_form.specs.Form as Nf
 use Rattle.spec_normal_form.specs.Normal.{Sem, Sems, row, nested, plain, nothing, quote, quotes, one, condition, ranges, idempotent}
@@ -30,13 +28,9 @@ use Rattle.front_emit.specs.declared.State.{State}
 use Rattle.front_emit.specs.declared.Heading.{Heading}
 use Rattle.front_emit.specs.declared.Heading.the-variants.{Terms, Other}
 
--- "data is 0 to 8 such records"
-abbrev pub mostTables : ℕ
-mostTables = 8
-
--- the collection of each table by its description: word 0 is the number of tables, word 1 + k describes table k
+-- the collection of each table by its description; a list where there is no such table
 unfoldable pub collections : List ℕ → ℕ → Collection
-collections s k = pick (ltb k mostTables) (pick (ltb k (getD s 0 0)) (collectionOf (collectionIn (getD s (1 + k) 0))) list) list
+collections s k = collectionOf (collectionIn (tableIn s k))
 
 -- ---- what the scratch says of the question
 -- what a node comes to, and a place

@@ -43,16 +43,7 @@ pub enum Split {
 fn collection_number(s: &[u64], k: usize) -> u64
     ensures { λ r. ⌜ (r ≡ monoidArg (of (collections (now (s .entry)) k))) × (r < 8) ⌝ }
 {
-    if 8 <= k {
-        return 1;
-    }
-    if s.len() <= k + 1 {
-        return 1;
-    }
-    if s[0] <= k as u64 {
-        return 1;
-    }
-    match base_tables::collection(s[k + 1]) {
+    match base_tables::collection(base_tables::table(s, k)) {
         2 => 2,
         3 => 3,
         _ => 1,

@@ -184,12 +184,6 @@ plain-none (Nd.napp f cs) p = (refl, refl, refl)
 plain-none Nd.nbad p = (refl, refl, refl)
 
 -- ---- a collection's number
-pub by-number : (c : Sy.Collection) → collectionBy (collectionNumber c) ≡ c
-unfolding collectionNumber
-by-number list = refl
-by-number bag = refl
-by-number set = refl
-
 pub number-low : (m : Monoid) → numberOf m < 4 → numberOf m ≡ collectionNumber (collects (monoidOf m))
 unfolding collectionNumber
 number-low Mo.List h = refl

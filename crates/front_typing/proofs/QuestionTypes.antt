@@ -13,9 +13,9 @@ use Rattle.spec_encoding.specs.Data.{readData}
 use Rattle.spec_encoding.specs.Record.{Bytes, got}
 use Rattle.front_theory.specs.QuestionNodes.{noNames, Holds}
 use Rattle.base_tables.specs.DataReader.{Stored}
-use Rattle.base_tables.proofs.ReadData.{described-word, tables-most}
+use Rattle.base_tables.proofs.ReadData.{tables-most}
+use Rattle.base_tables.proofs.TableWords.{by-number, present-is, described-in}
 use Rattle.front_typing.specs.ShapeWords.{collectionBy, knownIn, Judges}
-use Rattle.front_typing.proofs.Exits.{by-number}
 use Rattle.front_typing.proofs.ShapesOfTypes.{Knows}
 use Rattle.front_typing.proofs.ShapeWords.{types-fit-is, generators-fit-is}
 
@@ -33,9 +33,9 @@ module _ {d : Bytes} {T : Tables} {q : Question} {s : List ℕ} {n : ℕ} (C : C
   knows : Knows (knownIn s) T
   knows =
       record {
-        count = C .stored .count;
-        columns = λ k l. described-word (C .stored) (C .tables) k l .columns;
-        kind = λ k l. ap collectionBy (described-word (C .stored) (C .tables) k l .collection) ∙ by-number (kindOf T k);
+        has = present-is (C .stored) (C .tables);
+        columns = λ k l. described-in (C .stored) (C .tables) k l .columns;
+        kind = λ k l. ap collectionBy (described-in (C .stored) (C .tables) k l .collection) ∙ by-number (kindOf T k);
       }
 
   -- "25: a type, field or table that does not fit."

@@ -18,7 +18,8 @@ use Rattle.front_nodes.proofs.SameTable.{nodes-set}
 use Rattle.front_theory.specs.NodeTable.{Nodes}
 use Rattle.front_theory.specs.QuestionNodes.{noNames, Holds}
 use Rattle.base_scratch.specs.Map.{shapesAt, sizesAt}
-use Rattle.base_tables.specs.Description.{collectionIn, columnsIn}
+use Rattle.base_tables.specs.Description.{collectionIn, columnsIn, mostTables}
+use Rattle.base_tables.proofs.TableWords.{present-same, table-same}
 use Rattle.front_typing.specs.declared.TypeHead.{TypeHead}
 use Rattle.front_typing.specs.declared.TypeHead.the-variants.{Wrong, Number, Truth, Record, Row, Table, Coll}
 use Rattle.front_typing.specs.NodeTypes.{nodeType}
@@ -78,10 +79,11 @@ module _ (b : Bool) (T : Tables) (few : length T ≤ 8) (s : List ℕ) (long : s
 
   knows-kept : (i : ℕ) → Knows (knownIn (upTo i)) T
   knows-kept i =
+      let first : (j : ℕ) → j ≤ mostTables → getD (upTo i) j 0 ≡ getD s j 0 = λ j p. words-kept i j (omega arith) in
       record {
-        count = words-kept i 0 (omega arith) ∙ K .count;
-        columns = λ k l. ap columnsIn (words-kept i (1 + k) (omega arith)) ∙ K .columns k l;
-        kind = λ k l. ap (λ w. collectionBy (collectionIn w)) (words-kept i (1 + k) (omega arith)) ∙ K .kind k l;
+        has = λ k. present-same (upTo i) s first k ∙ K .has k;
+        columns = λ k l. ap columnsIn (table-same (upTo i) s first k) ∙ K .columns k l;
+        kind = λ k l. ap (λ w. collectionBy (collectionIn w)) (table-same (upTo i) s first k) ∙ K .kind k l;
       }
 
   earlier : (i j : ℕ) → j < i → shapesIn (upTo (suc i)) j ≡ shapesIn (upTo i) j

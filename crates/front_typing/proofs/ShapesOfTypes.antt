@@ -21,7 +21,7 @@ use Rattle.front_typing.proofs.NodeTypes.{node-type}
 
 -- what is known of the tables is right
 pub record Knows (I : Known) (T : Tables) : Type 0 where
-  pub count : I .count ≡ length T
+  pub has : (k : ℕ) → I .has k ≡ ltb k (length T)
   pub columns : (k : ℕ) → k < length T → I .columns k ≡ columnsOf T k
   pub kind : (k : ℕ) → k < length T → I .kind k ≡ kindOf T k
 
@@ -433,9 +433,9 @@ module _ (J : Rule) (T : Tables) (N : Nodes) where
           let g = good (h .2) (omega (arith, l, w)) in
           rw (h .4) (subst (Rep (σ (h .2))) (h .5 ∙ sym (ap elements (h .6))) (g .0), within-more i (h .2) (omega (arith, l, w)) (σ (h .2)) (g .1))
 
-      rep-table : (k : ℕ) → Rep (pick (ltb k (I .count)) (Table k) Wrong) (tableType T k)
+      rep-table : (k : ℕ) → Rep (pick (I .has k) (Table k) Wrong) (tableType T k)
       unfolding pick
-      rep-table k = subst (λ n. Rep (pick (ltb k n) (Table k) Wrong) (tableType T k)) (sym (K .count)) (go (ltb k (length T)) refl)
+      rep-table k = subst (λ b. Rep (pick b (Table k) Wrong) (tableType T k)) (sym (K .has k)) (go (ltb k (length T)) refl)
         where
           go : (b : Bool) → ltb k (length T) ≡ b → Rep (pick b (Table k) Wrong) (pick b (has (coll (kindOf T k) (record′ (cells (columnsOf T k))))) wrong)
           go true e = (ltb-true k (length T) e, refl)
@@ -468,7 +468,7 @@ module _ (J : Rule) (T : Tables) (N : Nodes) where
       shape-by (nbin o a b) e h = (rep-bin o (σ a) (σ b) (τ a) (τ b) (good a (h .0) .0) (good b (h .1) .0), within-bin o (σ a) (σ b))
       shape-by (nnegate c) e h = (rep-truth (σ c) (τ c) (good c h .0), within-truth (σ c))
       shape-by (ncomp m cs k) e h = (rep-comp-at m cs k e (h .0) (h .1), within-pick i (qualsFit J I N σ m cs) (compShape i m (σ k)) (within-comp m i (σ k)))
-      shape-by (ntable k) e h = (rep-table k, within-pick i (ltb k (I .count)) (Table k) tt)
+      shape-by (ntable k) e h = (rep-table k, within-pick i (I .has k) (Table k) tt)
       shape-by (ngen c) e h = let g = before c h in rep-element (σ c) (τ c) (g .0) (g .1)
       shape-by (nbind c) e h = before c h
       shape-by (ncond c) e h = (rep-truth (σ c) (τ c) (good c h .0), within-truth (σ c))

@@ -13,7 +13,7 @@ use Rattle.front_nodes.specs.NodeTable.{childrenOf, qualifiersOf, nodesOf}
 use Rattle.base_syntax.specs.MonoidWord.{monoidOf}
 use Rattle.front_theory.specs.NodeTable.{Node, nnum, ntruth, nname, nfield, nrec, nbin, nnegate, napp, ncomp, ntable, ngen, nbind, ncond, nbad}
 use Rattle.base_scratch.specs.Map.{shapesAt}
-use Rattle.base_tables.specs.Description.{collectionIn, columnsIn}
+use Rattle.base_tables.specs.Description.{collectionIn, columnsIn, presentIn, tableIn}
 use Rattle.front_typing.specs.declared.TypeHead.{TypeHead}
 use Rattle.front_typing.specs.declared.TypeHead.the-variants.{Wrong, Number, Truth, Record, Row, Table, Coll}
 use Rattle.front_typing.specs.declared.Made.{Made}
@@ -45,9 +45,9 @@ shapesIn s j = shapeIn (getD s (shapesAt + j) 0)
 abbrev pub collectionBy : ℕ → Collection
 collectionBy k = Data.collectionOf k
 
--- word 0 is the number of tables, word 1 + k the description of table k
+-- by the tables' descriptions
 abbrev pub knownIn : List ℕ → Known
-knownIn s = record { count = getD s 0 0; columns = λ k. columnsIn (getD s (1 + k) 0); kind = λ k. collectionBy (collectionIn (getD s (1 + k) 0)) }
+knownIn s = record { has = presentIn s; columns = λ k. columnsIn (tableIn s k); kind = λ k. collectionBy (collectionIn (tableIn s k)) }
 
 -- 25 looks at types alone; 26 asks the same with the rule on generators switched on
 abbrev pub rules : Bool → Rule
@@ -82,7 +82,7 @@ pub record MakerPost (s : List ℕ) (j : ℕ) (r : Made) : Type 0 where
 
 -- the rules of specs/Shapes over the words
 abbrev pub tableAt : List ℕ → ℕ → TypeHead
-tableAt s k = pick (ltb k (getD s 0 0)) (Table k) Wrong
+tableAt s k = pick (presentIn s k) (Table k) Wrong
 
 abbrev pub partAt : List ℕ → ℕ → ℕ → TypeHead
 partAt s j k = partShape (shapesIn s) k (partsOf (nodesOf s j))

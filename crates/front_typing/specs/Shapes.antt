@@ -13,7 +13,7 @@ use Rattle.front_typing.specs.NodeTypes.{Rule}
 
 -- what is known of the tables
 pub record Known : Type 0 where
-  pub count : ℕ
+  pub has : ℕ → Bool
   pub columns : ℕ → ℕ
   pub kind : ℕ → Collection
 
@@ -222,7 +222,7 @@ shapeBy J I N σ i (napp f cs) = appShape f σ cs
 shapeBy J I N σ i (nbin o a b) = binShape o (σ a) (σ b)
 shapeBy J I N σ i (nnegate c) = truthShape (σ c)
 shapeBy J I N σ i (ncomp m cs h) = pick (qualsFit J I N σ m cs) (compShape i m (σ h)) Wrong
-shapeBy J I N σ i (ntable k) = pick (ltb k (I .count)) (Table k) Wrong
+shapeBy J I N σ i (ntable k) = pick (I .has k) (Table k) Wrong
 shapeBy J I N σ i (ngen c) = elementShape N σ (σ c)
 shapeBy J I N σ i (nbind c) = σ c
 shapeBy J I N σ i (ncond c) = truthShape (σ c)

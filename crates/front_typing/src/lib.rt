@@ -1,8 +1,7 @@
 // "25: a type, field or table that does not fit. 26: a generator its monoid may not have."
 ghost use mathlib.Core.Path.{_≡_};
 ghost use mathlib.Core.Bool.{true, false};
-ghost use Prim.Native.Nat.{_+_, _≤_, _<_};
-ghost use lib.ListN.{getD};
+ghost use Prim.Native.Nat.{_≤_, _<_};
 ghost use Rattle.spec_checks.specs.Types.{mayStand};
 ghost use Rattle.front_nodes.specs.NodeTable.{childrenOf, nodesOf};
 ghost use Rattle.base_syntax.specs.MonoidWord.{monoidOf};
@@ -11,8 +10,6 @@ ghost use Rattle.base_tables.specs.Description.{collectionNumber};
 ghost use Rattle.front_typing.specs.Shapes.{classOf, fits, isNumber, isTruth, collects, collectionOf, headOf, cellShape, numberShape, truthShape, gathersShape, twoNumbers, twoTruths, binShape, partShape, choiceShape, choiceOf, appShape, compShape};
 ghost use Rattle.front_typing.specs.ShapeWords.{numbered as numberedWord, shapeWord, shapeIn, shapesIn, collectionBy, rules, MakerPost, tableAt, partAt, fieldAt, elementAt, partsFit, mayRange, qualFitsAt, qualsFitAt, recordAt, compAt, shapeOf, shapedUpTo, Judges};
 use base_scratch::SHAPES;
-use base_scratch::TABLES;
-use base_scratch::load;
 use base_scratch::load_at;
 use base_scratch::store;
 use base_syntax::Fun;
@@ -125,21 +122,11 @@ fn shape_at(s: &[u64], j: usize) -> TypeHead
 
 // ---- tables
 
-// The description of table t.
-fn description(s: &[u64], t: usize) -> u64
-    ensures { λ r. ⌜ r ≡ getD (now (s .entry)) (1 + t) 0 ⌝ }
-{
-    if s.len() <= t {
-        return 0;
-    }
-    load(s, 1 + t)
-}
-
 // "25: .. table that does not fit"
 fn table(s: &[u64], k: usize) -> TypeHead
     ensures { λ r. ⌜ r ≡ tableAt (now (s .entry)) k ⌝ }
 {
-    if (k as u64) < load(s, TABLES) {
+    if base_tables::present(s, k) {
         return TypeHead::Table(k);
     }
     TypeHead::Wrong
@@ -217,7 +204,7 @@ fn field(s: &[u64], k: usize, a: TypeHead) -> TypeHead
 {
     match a {
         TypeHead::Record(j) => part(s, j, k),
-        TypeHead::Row(t) => cell(k, base_tables::columns(description(s, t))),
+        TypeHead::Row(t) => cell(k, base_tables::columns(base_tables::table(s, t))),
         _ => TypeHead::Wrong,
     }
 }
@@ -275,7 +262,7 @@ fn may_range(s: &[u64], rule: bool, m: Monoid, a: TypeHead) -> bool
     ensures { λ r. ⌜ r ≡ mayRange rule (now (s .entry)) (monoidOf m) a ⌝ }
 {
     match a {
-        TypeHead::Table(t) => allowed(rule, base_tables::collection(description(s, t)), m),
+        TypeHead::Table(t) => allowed(rule, base_tables::collection(base_tables::table(s, t)), m),
         TypeHead::Coll(j) => allowed(rule, gathered(s, j), m),
         _ => false,
     }

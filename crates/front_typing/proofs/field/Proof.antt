@@ -14,7 +14,7 @@ returns c = c .part .ensures ∙ sym (ap (fieldAt (c .before .before .before .be
 
 returns-2 : tie.Need-returns-2
 unfolding fieldShape
-returns-2 c = c .cell .ensures ∙ ap (cellShape (c .before .before .before .before .before .before .before .args .k)) (c .before .columns .ensures ∙ ap columnsIn (c .before .before .description .ensures)) ∙ sym (ap (fieldAt (c .before .before .before .before .before .before .before .args .s .now) (c .before .before .before .before .before .before .before .args .k)) (c .before .before .before .before .a2 .given .1))
+returns-2 c = c .cell .ensures ∙ ap (cellShape (c .before .before .before .before .before .before .before .args .k)) (c .before .columns .ensures ∙ ap columnsIn (c .before .before .table .ensures)) ∙ sym (ap (fieldAt (c .before .before .before .before .before .before .before .args .s .now) (c .before .before .before .before .before .before .before .args .k)) (c .before .before .before .before .a2 .given .1))
 
 returns-3 : tie.Need-returns-3
 returns-3 c = no-field (c .before .before .args .s .now) (c .before .before .args .k) (c .before .before .args .a) (c .match .keys3)

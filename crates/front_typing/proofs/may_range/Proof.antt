@@ -6,14 +6,15 @@ use Rattle.front_typing.specs.ShapeWords.{rules, collectionBy, mayRange}
 use Rattle.front_nodes.specs.NodeTable.{nodesOf}
 use Rattle.base_syntax.specs.MonoidWord.{monoidOf}
 use Rattle.base_tables.specs.Description.{collectionIn}
-use Rattle.front_typing.proofs.Exits.{by-number, no-range}
+use Rattle.front_typing.proofs.Exits.{no-range}
+use Rattle.base_tables.proofs.TableWords.{by-number}
 use borrow.Author.Needs.{needs}
 use Rattle.front_typing.proofs.may_range.Statement.{statement}
 use Rattle.front_typing.proofs.may_range.Tie as tie
 
 returns : tie.Need-returns
 unfolding stands
-returns c = c .allowed .ensures ∙ ap (λ (k : Collection). rules (c .before .before .before .before .before .before .before .args .rule) k (monoidOf (c .before .before .before .before .before .before .before .args .m))) (ap collectionBy (c .before .collection .ensures ∙ ap collectionIn (c .before .before .description .ensures))) ∙ sym (ap (mayRange (c .before .before .before .before .before .before .before .args .rule) (c .before .before .before .before .before .before .before .args .s .now) (monoidOf (c .before .before .before .before .before .before .before .args .m))) (c .before .before .before .before .a .given .1))
+returns c = c .allowed .ensures ∙ ap (λ (k : Collection). rules (c .before .before .before .before .before .before .before .args .rule) k (monoidOf (c .before .before .before .before .before .before .before .args .m))) (ap collectionBy (c .before .collection .ensures ∙ ap collectionIn (c .before .before .table .ensures))) ∙ sym (ap (mayRange (c .before .before .before .before .before .before .before .args .rule) (c .before .before .before .before .before .before .before .args .s .now) (monoidOf (c .before .before .before .before .before .before .before .args .m))) (c .before .before .before .before .a .given .1))
 
 returns-2 : tie.Need-returns-2
 unfolding stands
