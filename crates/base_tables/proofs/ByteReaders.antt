@@ -1,24 +1,24 @@
 -- One law for each way out of the functions that read bytes. Assumes nothing.
 use mathlib.Core.Path.{_≡_, refl, sym, ap, _∙_}
 use mathlib.Core.Bool.{Bool, true, false}
-use Prim.Native.Nat.{ℕ, _+_, _-_, _*_, _^_, _≤_, _<_}
-use native.Mathlib.Nat.{le-trans, mul-le-mul-left, mul-le-mul-right}
+use Prim.Native.Nat.{ℕ, _+_, _-_, _*_, _%_, _^_, _≤_, _<_}
+use native.Mathlib.Nat.{le-trans, mul-le-mul-left, mul-le-mul-right, mul-add, mul-one}
 use native.Mathlib.Omega.{arith}
-use lib.Dec.{eqb}
+use lib.Dec.{eqb, ltb}
 use lib.ListN.{length, take, drop, length-drop}
 use lib.Seq.{take-all, drop-drop}
 use lib.IntN.{ℤ, pos, negsuc, natAbs, _-ℤ_}
 use mir.Syntax.{w64}
 use mir.Val.{SFits, toZ, ofZ}
 use mir.Facts.{toZ-ofZ}
-use borrow.Author.Tests.{lt-ltb, le-ltb, eqb-true, eqb-false}
+use borrow.Author.Tests.{lt-ltb, le-ltb, ltb-true, ltb-false, eqb-true, eqb-false}
 use Rattle.spec_calculus.specs.Lists.{pick}
-use Rattle.base_signed.proofs.SignedWords.{up, mag-sub, no}
+use Rattle.base_signed.proofs.SignedWords.{up, mag-sub, by-test, no}
 use Rattle.base_signed.proofs.SignedWords as Wo
 use Rattle.spec_encoding.specs.Record.{Bytes, refused, got, require, byte, two, four, signed, lengthOf, contentOf}
 use Rattle.spec_encoding.specs.Data.{isTable, fits}
 use Rattle.spec_encoding.proofs.Data.{Fit, fit}
-use Rattle.base_tables.specs.Description.{descriptionOf, columnsIn, rowsIn, positionIn, cellIn, CellPost}
+use Rattle.base_tables.specs.Description.{descriptionOf, columnsIn, rowsIn, cellIn, placeIn, Placed, CellPost}
 use Rattle.base_tables.specs.DataReader.{headerGives, headerAt, tableAt}
 use Rattle.base_tables.proofs.DataRecords.{passes, Whole, whole, whole-is, fit-is}
 use Rattle.base_tables.specs.declared.TableHeader.{TableHeader}
@@ -32,20 +32,32 @@ few a b p q =
 
 -- signed_of
 module _ {n : ℕ} (p : n < 2 ^ 32) where
-  pub low : n < 2147483648 → (toZ w64 n ≡ signed n) × (natAbs (toZ w64 n) ≤ 2 ^ 31)
+  turned : toZ w64 ((n + 2147483648) % 4294967296) ≡ pos ((n + 2147483648) % 4294967296)
+  turned = up {x = (n + 2147483648) % 4294967296} (omega arith)
+
+  pub signed-ok : SFits w64 (toZ w64 ((n + 2147483648) % 4294967296) -ℤ pos 2147483648)
+  signed-ok = rw turned (Wo.fits (omega (arith, mag-sub (pos ((n + 2147483648) % 4294967296)) (pos 2147483648))))
+
+  low : n < 2147483648 → pos ((n + 2147483648) % 4294967296) -ℤ pos 2147483648 ≡ signed n
   unfolding signed
-  low q = rw (up {x = n} (omega arith)) (rw (lt-ltb n 2147483648 q, signed), omega arith)
+  low q = rw (le-ltb ((n + 2147483648) % 4294967296) 2147483648 (omega arith), lt-ltb n 2147483648 q, signed) (ap pos (omega arith))
 
-  pub high-ok : SFits w64 (toZ w64 n -ℤ pos 4294967296)
-  high-ok = rw (up {x = n} (omega arith)) (Wo.fits (omega (arith, mag-sub (pos n) (pos 4294967296))))
+  high : 2147483648 ≤ n → pos ((n + 2147483648) % 4294967296) -ℤ pos 2147483648 ≡ signed n
+  unfolding signed
+  high q = rw (lt-ltb ((n + 2147483648) % 4294967296) 2147483648 (omega arith), le-ltb n 2147483648 q, signed) (ap negsuc (omega arith))
 
-  module _ (q : 2147483648 ≤ n) where
-    high-is : toZ w64 n -ℤ pos 4294967296 ≡ negsuc (0xffffffff - n)
-    high-is = rw (up {x = n} (omega arith)) (simp (lt-ltb n 4294967296 p) (ap negsuc (omega arith)))
+  small : natAbs (signed n) ≤ 2 ^ 31
+  unfolding signed
+  small = by-test (ltb n 2147483648) (λ y. rw (y, signed) (omega (arith, ltb-true n 2147483648 y))) (λ y. rw (y, signed) (omega (arith, ltb-false n 2147483648 y)))
 
-    pub high : (toZ w64 (ofZ w64 (toZ w64 n -ℤ pos 4294967296)) ≡ signed n) × (natAbs (toZ w64 (ofZ w64 (toZ w64 n -ℤ pos 4294967296))) ≤ 2 ^ 31)
-    unfolding signed
-    high = rw (toZ-ofZ high-ok, high-is) (rw (le-ltb n 2147483648 q, signed), omega arith)
+  signed-turned : toZ w64 (ofZ w64 (toZ w64 ((n + 2147483648) % 4294967296) -ℤ pos 2147483648)) ≡ signed n
+  signed-turned =
+      toZ-ofZ signed-ok
+      ∙ ap (λ (z : ℤ). z -ℤ pos 2147483648) turned
+      ∙ by-test (ltb n 2147483648) (λ y. low (ltb-true n 2147483648 y)) (λ y. high (ltb-false n 2147483648 y))
+
+  pub signed-is : (toZ w64 (ofZ w64 (toZ w64 ((n + 2147483648) % 4294967296) -ℤ pos 2147483648)) ≡ signed n) × (natAbs (toZ w64 (ofZ w64 (toZ w64 ((n + 2147483648) % 4294967296) -ℤ pos 2147483648))) ≤ 2 ^ 31)
+  signed-is = rw signed-turned (refl, small)
 
 -- read_header
 pub header-bad : (s : Bytes) → (Whole s → ⊥) → headerGives Bad ≡ headerAt s
@@ -87,13 +99,25 @@ module _ {d : Bytes} {w r c : ℕ} where
     unfolding cellIn pick
     cell-beside q = record { is = rw (lt-ltb r (rowsIn w) (rw en at p), le-ltb c (columnsIn w) (rw em at q)); small = omega arith }
 
-    pub cell-inside : c < m → {k x : ℕ} {z : ℤ} → k ≡ m * r → x ≡ four d (positionIn w + 4 * (k + c)) → (z ≡ signed x) × (natAbs z ≤ 2 ^ 31) → CellPost d w r c z
+    pub cell-inside : c < m → {k x : ℕ} {z : ℤ} → k ≡ placeIn w r c → x ≡ four d k → (z ≡ signed x) × (natAbs z ≤ 2 ^ 31) → CellPost d w r c z
     unfolding cellIn pick
     cell-inside q ek ex h =
         record {
-          is = rw (lt-ltb r (rowsIn w) (rw en at p), lt-ltb c (columnsIn w) (rw em at q)) (h .0 ∙ ap signed (rw (ex, ek, em)));
+          is = rw (lt-ltb r (rowsIn w) (rw en at p), lt-ltb c (columnsIn w) (rw em at q)) (h .0 ∙ ap signed (rw (ex, ek)));
           small = h .1;
         }
+
+-- placed
+row-within : {m r n c : ℕ} → r < n → c < m → m * r + c + 1 ≤ m * n
+row-within {m} {r} {n} {c} p q = omega (arith, mul-le-mul-left {m = r + 1} {n = n} m (omega arith), mul-add m r 1, mul-one m)
+
+pub placed-is : {d : Bytes} {w n k : ℕ} → n ≡ rowsIn w → k ≡ placeIn w n 0 → k ≤ length d → Placed d w
+unfolding cellIn pick
+placed-is {d} {w} {n} {k} en ek l =
+    record {
+      inside = λ {r} {c} p q. omega (arith, row-within {m = columnsIn w} {r = r} {n = rowsIn w} {c = c} p q, ap (λ (x : ℕ). placeIn w x 0) en);
+      cell = λ {r} {c} p q. rw (lt-ltb r (rowsIn w) p, lt-ltb c (columnsIn w) q) refl;
+    }
 
 -- what a header's answer says of the bytes
 pub found : (l : Bytes) {h : TableHeader} {n : ℕ} → headerGives h ≡ headerAt l → h ≡ Record n → (isTable l ≡ true) × (lengthOf l ≡ n)

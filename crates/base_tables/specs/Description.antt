@@ -50,6 +50,15 @@ unfoldable pub cellIn : Bytes → ℕ → ℕ → ℕ → ℤ
 cellIn d w r c =
     pick (ltb r (rowsIn w)) (pick (ltb c (columnsIn w)) (signed (four d (positionIn w + 4 * (columnsIn w * r + c)))) (pos 0)) (pos 0)
 
+-- where the cell in row r and column c stands
+abbrev pub placeIn : ℕ → ℕ → ℕ → ℕ
+placeIn w r c = positionIn w + 4 * (columnsIn w * r + c)
+
+-- Every cell stands at its place in the data: all that a loop over cells asks of a table.
+pub record Placed (d : Bytes) (w : ℕ) : Type 0 where
+  pub inside : {r c : ℕ} → r < rowsIn w → c < columnsIn w → placeIn w r c + 4 ≤ length d
+  pub cell : {r c : ℕ} → r < rowsIn w → c < columnsIn w → cellIn d w r c ≡ signed (four d (placeIn w r c))
+
 -- "Bound of a number: a cell 2^31"
 pub record CellPost (d : Bytes) (w r c : ℕ) (z : ℤ) : Type 0 where
   pub is : z ≡ cellIn d w r c

@@ -1,11 +1,12 @@
 // The one place that reads the lent data: its records, the descriptions of its tables, and their cells.
 ghost use mathlib.Core.Path.{_≡_};
+ghost use mathlib.Core.Bool.{true};
 ghost use Prim.Native.Nat.{_+_, _*_, _≤_, _<_, _^_};
 ghost use lib.ListN.{length, getD};
 ghost use lib.IntN.{natAbs};
 ghost use Rattle.spec_encoding.specs.Record.{four, signed};
 ghost use Rattle.spec_encoding.specs.Data.{fits};
-ghost use Rattle.base_tables.specs.Description.{descriptionOf, collectionIn, columnsIn, rowsIn, CellPost, presentIn, tableIn, descriptionIn};
+ghost use Rattle.base_tables.specs.Description.{descriptionOf, collectionIn, columnsIn, rowsIn, presentIn, tableIn, descriptionIn, placeIn, Placed, CellPost};
 ghost use Rattle.base_tables.specs.DataReader.{headerGives, headerAt, tableAt, ReadDataPost};
 use base_scratch::DESCRIPTIONS;
 use base_scratch::TABLES;
@@ -49,15 +50,21 @@ fn two_at(s: &[u8], i: usize) -> usize
     byte_at(s, i) + 256 * byte_at(s, i + 1)
 }
 
-// Four bytes, little-endian. One test where all are there: a cell is read for each pair of rows.
+// Four bytes, little-endian, where all are there. No test, so that a loop over many cells makes none.
+pub fn four_in(s: &[u8], i: usize) -> usize
+    requires { ⌜ i + 4 ≤ length (now s) ⌝ }
+    ensures { λ r. ⌜ (r ≡ four (now (s .entry)) i) × (r < 2 ^ 32) ⌝ }
+{
+    wide(s[i]) + 256 * wide(s[i + 1]) + 65536 * (wide(s[i + 2]) + 256 * wide(s[i + 2 + 1]))
+}
+
+// The same anywhere. One test where all are there: a cell is read for each pair of rows.
 fn four_at(s: &[u8], i: usize) -> usize
     requires { ⌜ i < 2 ^ 61 ⌝ }
     ensures { λ r. ⌜ (r ≡ four (now (s .entry)) i) × (r < 2 ^ 32) ⌝ }
 {
     if i + 4 <= s.len() {
-        return wide(s[i])
-            + 256 * wide(s[i + 1])
-            + 65536 * (wide(s[i + 2]) + 256 * wide(s[i + 2 + 1]));
+        return four_in(s, i);
     }
     two_at(s, i) + 65536 * two_at(s, i + 2)
 }
@@ -195,11 +202,30 @@ fn signed_of(n: usize) -> i64
     requires { ⌜ n < 2 ^ 32 ⌝ }
     ensures { λ z. ⌜ (z ≡ signed n) × (natAbs z ≤ 2 ^ 31) ⌝ }
 {
-    if n < 2147483648 {
-        n as i64
-    } else {
-        (n as i64) - 4294967296
-    }
+    ((n + 2147483648) % 4294967296) as i64 - 2147483648
+}
+
+// The cell that stands at p.
+pub fn cell_in(data: &[u8], p: usize) -> i64
+    requires { ⌜ p + 4 ≤ length (now «data») ⌝ }
+    ensures { λ z. ⌜ (z ≡ signed (four (now («data» .entry)) p)) × (natAbs z ≤ 2 ^ 31) ⌝ }
+{
+    signed_of(four_in(data, p))
+}
+
+// Where the cell in row r and column c stands.
+pub fn place(w: u64, r: usize, c: usize) -> usize
+    requires { ⌜ (r < 2048) × (c < 16) ⌝ }
+    ensures { λ p. ⌜ (p ≡ placeIn w r c) × (p < 2 ^ 61) ⌝ }
+{
+    (w / 131072) as usize + 4 * (cells(columns(w), r) + c)
+}
+
+// Whether every cell of the table that w describes stands at its place in the data. What a loop over cells asks once.
+pub fn placed(data: &[u8], w: u64) -> bool
+    ensures { λ r. ⌜ (r ≡ true → Placed (now («data» .entry)) w) ⌝ }
+{
+    place(w, rows(w), 0) <= data.len()
 }
 
 // The cell in row r and column c of the table that w describes; 0 outside.
@@ -213,8 +239,7 @@ pub fn cell(data: &[u8], w: u64, r: usize, c: usize) -> i64
     if width <= c {
         return 0;
     }
-    let at = (w / 131072) as usize + 4 * (cells(width, r) + c);
-    signed_of(four_at(data, at))
+    signed_of(four_at(data, place(w, r, c)))
 }
 
 // "the data, earliest record first, 13 before 11 before 12". Answers the refusal's number, or 0 with the tables' number and

@@ -18,20 +18,8 @@ returns-3 c =
     let c3 = c2 .before in
     let c4 = c3 .before in
     let c5 = c4 .before in
-    rw (toZ-ofZ (fits (c .signed-of .ok))) (cell-inside (c5 .before .rows .ensures) (c5 .if1 .left) (c4 .columns .ensures) (c3 .if2 .left) (c2 .cells .ensures .0) (c .before .four-at .ensures .0) (c .signed-of .ensures))
+    rw (toZ-ofZ (fits (c .signed-of .ok))) (cell-inside (c5 .before .rows .ensures) (c5 .if1 .left) (c4 .columns .ensures) (c3 .if2 .left) (c2 .place .ensures .0) (c .before .four-at .ensures .0) (c .signed-of .ensures))
 
 pub cell-spec : {M : Type 1} → statement M
 cell-spec =
-    tie.close
-    (tie.spec
-    (λ c κs. search needs)
-    returns
-    (λ c κs. search needs)
-    returns-2
-    (λ c κs. search needs)
-    (λ c. search needs)
-    (λ c. search needs)
-    (λ c. search needs)
-    (λ c κs. search needs)
-    (λ c κs. search needs)
-    returns-3)
+    tie.close (tie.spec (λ c κs. search needs) returns (λ c κs. search needs) returns-2 (λ c κs. search needs) (λ c κs. search needs) (λ c κs. search needs) returns-3)
