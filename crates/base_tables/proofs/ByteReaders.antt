@@ -1,24 +1,24 @@
 -- One law for each way out of the functions that read bytes. Assumes nothing.
 use mathlib.Core.Path.{_≡_, refl, sym, ap, _∙_}
 use mathlib.Core.Bool.{Bool, true, false}
-use Prim.Native.Nat.{ℕ, _+_, _-_, _*_, _%_, _^_, _≤_, _<_}
+use Prim.Native.Nat.{ℕ, _+_, _-_, _*_, _/_, _%_, _^_, _≤_, _<_}
 use native.Mathlib.Nat.{le-trans, mul-le-mul-left, mul-le-mul-right, mul-add, mul-one}
 use native.Mathlib.Omega.{arith}
-use lib.Dec.{eqb, ltb}
+use lib.Dec.{eqb, ltb, leb}
 use lib.ListN.{length, take, drop, length-drop}
 use lib.Seq.{take-all, drop-drop}
 use lib.IntN.{ℤ, pos, negsuc, natAbs, _-ℤ_}
 use mir.Syntax.{w64}
 use mir.Val.{SFits, toZ, ofZ}
 use mir.Facts.{toZ-ofZ}
-use borrow.Author.Tests.{lt-ltb, le-ltb, ltb-true, ltb-false, eqb-true, eqb-false}
+use borrow.Author.Tests.{lt-ltb, le-ltb, ltb-true, ltb-false, leb-true, eqb-true, eqb-false, eq-eqb, ne-eqb}
 use Rattle.spec_calculus.specs.Lists.{pick}
 use Rattle.base_signed.proofs.SignedWords.{up, mag-sub, by-test, no}
 use Rattle.base_signed.proofs.SignedWords as Wo
 use Rattle.spec_encoding.specs.Record.{Bytes, refused, got, require, byte, two, four, signed, lengthOf, contentOf}
 use Rattle.spec_encoding.specs.Data.{isTable, fits}
 use Rattle.spec_encoding.proofs.Data.{Fit, fit}
-use Rattle.base_tables.specs.Description.{descriptionOf, columnsIn, rowsIn, cellIn, placeIn, Placed, CellPost}
+use Rattle.base_tables.specs.Description.{oneColumn, oneRow, oneKind, onePosition, descriptionOf, columnsIn, rowsIn, plainIn, cellIn, placeIn, placedIn, Placed, CellPost}
 use Rattle.base_tables.specs.DataReader.{headerGives, headerAt, tableAt}
 use Rattle.base_tables.proofs.DataRecords.{passes, Whole, whole, whole-is, fit-is}
 use Rattle.base_tables.specs.declared.TableHeader.{TableHeader}
@@ -84,7 +84,7 @@ fits-length c {a} {b} {n} {k} ea eb en ek ranges = go (eqb (length c) (4 + 4 * k
     go false e = unfit c (λ f. eqb-false (length c) (4 + 4 * k) e (omega (arith, product, f .long)))
 
 -- describe
-pub describes : (c : Bytes) (p : ℕ) {a b n : ℕ} → a ≡ byte c 0 → b ≡ byte c 1 → n ≡ two c 2 → a + 4 * (b + 16 * (n + 2048 * p)) ≡ descriptionOf c p
+pub describes : (c : Bytes) (p : ℕ) {a b n : ℕ} → a ≡ byte c 0 → b ≡ byte c 1 → n ≡ two c 2 → a + oneColumn * b + oneRow * n + onePosition * p ≡ descriptionOf c p
 unfolding descriptionOf
 describes c p ea eb en = rw (ea, eb, en)
 
@@ -111,11 +111,20 @@ module _ {d : Bytes} {w r c : ℕ} where
 row-within : {m r n c : ℕ} → r < n → c < m → m * r + c + 1 ≤ m * n
 row-within {m} {r} {n} {c} p q = omega (arith, mul-le-mul-left {m = r + 1} {n = n} m (omega arith), mul-add m r 1, mul-one m)
 
-pub placed-is : {d : Bytes} {w n k : ℕ} → n ≡ rowsIn w → k ≡ placeIn w n 0 → k ≤ length d → Placed d w
-unfolding cellIn pick
-placed-is {d} {w} {n} {k} en ek l =
+pub placed-plain : (d : Bytes) (w : ℕ) {n k : ℕ} → w / oneKind % 8192 ≡ 0 → n ≡ rowsIn w → k ≡ placeIn w n 0 → leb k (length d) ≡ placedIn d w
+unfolding placedIn pick
+placed-plain d w z en ek = rw (eq-eqb (w / oneKind % 8192) 0 z) (rw (ek, en))
+
+pub placed-other : (d : Bytes) (w : ℕ) → (w / oneKind % 8192 ≡ 0 → ⊥) → false ≡ placedIn d w
+unfolding placedIn pick
+placed-other d w z = rw (ne-eqb (w / oneKind % 8192) 0 z)
+
+pub placed-is : {d : Bytes} {w : ℕ} → placedIn d w ≡ true → Placed d w
+unfolding cellIn placedIn pick
+placed-is {d} {w} h =
+    let l : placeIn w (rowsIn w) 0 ≤ length d = leb-true _ _ (by-test (plainIn w) (λ p. sym (rw p) ∙ h) (λ p. no (sym h ∙ rw p))) in
     record {
-      inside = λ {r} {c} p q. omega (arith, row-within {m = columnsIn w} {r = r} {n = rowsIn w} {c = c} p q, ap (λ (x : ℕ). placeIn w x 0) en);
+      inside = λ {r} {c} p q. omega (arith, row-within {m = columnsIn w} {r = r} {n = rowsIn w} {c = c} p q);
       cell = λ {r} {c} p q. rw (lt-ltb r (rowsIn w) p, lt-ltb c (columnsIn w) q) refl;
     }
 

@@ -11,7 +11,7 @@ use Rattle.spec_calculus.specs.Lists.{pick}
 use Rattle.spec_calculus.specs.Value.{vcons, num, rec, Table, Tables, junk, asInt, nth, fieldOf, kindOf, columnsOf, rowsOf}
 use Rattle.spec_encoding.specs.Record.{Bytes, byte, two, four, signed, lengthOf, contentOf}
 use Rattle.spec_encoding.specs.Data.{collectionOf, cells, rowsFrom, tableOf}
-use Rattle.base_tables.specs.Description.{descriptionOf, collectionIn, columnsIn, rowsIn, positionIn, cellIn, cellsIn, collectionNumber, Describes}
+use Rattle.base_tables.specs.Description.{descriptionOf, collectionIn, columnsIn, rowsIn, kindIn, subsetIn, positionIn, cellIn, cellsIn, collectionNumber, Describes}
 use Rattle.spec_encoding.proofs.Data.{rows-length, Fit}
 use Rattle.base_tables.proofs.DataRecords.{content-length, ReadAt, read-whole, read-fit}
 
@@ -28,6 +28,14 @@ module _ (c : Bytes) (p : ℕ) (f : Fit c) where
   rows-in : rowsIn (descriptionOf c p) ≡ two c 2
   unfolding descriptionOf
   rows-in = omega arith
+
+  kind-in : kindIn (descriptionOf c p) ≡ 0
+  unfolding descriptionOf
+  kind-in = omega arith
+
+  subset-in : subsetIn (descriptionOf c p) ≡ 0
+  unfolding descriptionOf
+  subset-in = omega arith
 
   position-in : positionIn (descriptionOf c p) ≡ p
   unfolding descriptionOf
@@ -151,6 +159,8 @@ module _ {d : Bytes} {p w e : ℕ} (R : ReadAt d p w e) (c : Bytes) (s : c ≡ c
         most-columns = f .columns-most;
         rows = rows-in c (p + 8) f ∙ sym (rows-length (byte c 1) (two c 2) (drop 4 c));
         most-rows = rw rows-length (f .rows-most);
+        kind = kind-in c (p + 8) f;
+        subset = subset-in c (p + 8) f;
         row = λ r q. let u : r < two c 2 = rw rows-length at q in
             row-at (byte c 1) (two c 2) r (drop 4 c) u ∙ ap rec (cells-found d (descriptionOf c (p + 8)) r (rowBytes c r) (byte c 1) (four-here r u) (byte c 1) 0 (omega arith));
         cell = λ r j q t. cell-here r (rw rows-length at q) j t;
@@ -166,6 +176,8 @@ described-behind t D =
       most-columns = D .most-columns;
       rows = D .rows;
       most-rows = D .most-rows;
+      kind = D .kind;
+      subset = D .subset;
       row = D .row;
       cell = D .cell;
     }

@@ -1,10 +1,10 @@
--- A table's description: the one word that the engine keeps of a table. Collection (2 bits), columns (4), rows (11), and
--- above them the position of the table's first cell in the data.
+-- A table's description: the one word that the engine keeps of a table. Collection (2 bits), columns (4), rows (11), kind (1),
+-- subset of rows (12), and above them the position of the table's first cell in the data. Kind and subset have no meaning yet: 0.
 use mathlib.Core.Path.{_≡_}
 use mathlib.Core.Bool.{Bool, false}
 use mathlib.Core.List.{List}
 use Prim.Native.Nat.{ℕ, zero, suc, _+_, _*_, _/_, _%_, _≤_, _<_, _^_}
-use lib.Dec.{ltb}
+use lib.Dec.{eqb, ltb, leb}
 use lib.ListN.{length, getD}
 use lib.IntN.{ℤ, pos, natAbs}
 use Rattle.spec_calculus.specs.Lists.{pick}
@@ -12,21 +12,47 @@ use Rattle.spec_calculus.specs.Syntax.{Collection, list, bag, set}
 use Rattle.spec_calculus.specs.Value.{Values, vnil, vcons, num, rec, Tables, junk, asInt, fieldOf, kindOf, columnsOf, rowsOf}
 use Rattle.spec_encoding.specs.Record.{Bytes, byte, two, four, signed}
 
+-- what one of each field counts for
+abbrev pub oneColumn : ℕ
+oneColumn = 4
+
+abbrev pub oneRow : ℕ
+oneRow = 64
+
+abbrev pub oneKind : ℕ
+oneKind = 131072
+
+abbrev pub oneSubset : ℕ
+oneSubset = 262144
+
+abbrev pub onePosition : ℕ
+onePosition = 1073741824
+
 -- of the table with this content, whose cells begin at p
 unfoldable pub descriptionOf : Bytes → ℕ → ℕ
-descriptionOf c p = byte c 0 + 4 * (byte c 1 + 16 * (two c 2 + 2048 * p))
+descriptionOf c p = byte c 0 + oneColumn * byte c 1 + oneRow * two c 2 + onePosition * p
 
 abbrev pub collectionIn : ℕ → ℕ
-collectionIn w = w % 4
+collectionIn w = w % oneColumn
 
 abbrev pub columnsIn : ℕ → ℕ
-columnsIn w = w / 4 % 16
+columnsIn w = w / oneColumn % 16
 
 abbrev pub rowsIn : ℕ → ℕ
-rowsIn w = w / 64 % 2048
+rowsIn w = w / oneRow % 2048
+
+abbrev pub kindIn : ℕ → ℕ
+kindIn w = w / oneKind % 2
+
+abbrev pub subsetIn : ℕ → ℕ
+subsetIn w = w / oneSubset % 4096
 
 abbrev pub positionIn : ℕ → ℕ
-positionIn w = w / 131072
+positionIn w = w / onePosition
+
+-- cells as they stand, and all rows: kind and subset are 0
+abbrev pub plainIn : ℕ → Bool
+plainIn w = eqb (w / oneKind % 8192) 0
 
 -- "data is 0 to 8 such records"
 abbrev pub mostTables : ℕ
@@ -53,6 +79,10 @@ cellIn d w r c =
 -- where the cell in row r and column c stands
 abbrev pub placeIn : ℕ → ℕ → ℕ → ℕ
 placeIn w r c = positionIn w + 4 * (columnsIn w * r + c)
+
+-- a plain table whose last cell is not behind the data
+unfoldable pub placedIn : Bytes → ℕ → Bool
+placedIn d w = pick (plainIn w) (leb (placeIn w (rowsIn w) 0) (length d)) false
 
 -- Every cell stands at its place in the data: all that a loop over cells asks of a table.
 pub record Placed (d : Bytes) (w : ℕ) : Type 0 where
@@ -82,5 +112,7 @@ pub record Describes (d : Bytes) (T : Tables) (k w : ℕ) : Type 0 where
   pub most-columns : columnsOf T k ≤ 8
   pub rows : rowsIn w ≡ length (rowsOf T k)
   pub most-rows : length (rowsOf T k) ≤ 1024
+  pub kind : kindIn w ≡ 0
+  pub subset : subsetIn w ≡ 0
   pub row : (r : ℕ) → r < length (rowsOf T k) → getD (rowsOf T k) r junk ≡ rec (cellsIn d w r 0 (columnsOf T k))
   pub cell : (r c : ℕ) → r < length (rowsOf T k) → c < columnsOf T k → cellIn d w r c ≡ asInt (fieldOf c (getD (rowsOf T k) r junk))

@@ -1,12 +1,11 @@
 // The one place that reads the lent data: its records, the descriptions of its tables, and their cells.
 ghost use mathlib.Core.Path.{_≡_};
-ghost use mathlib.Core.Bool.{true};
 ghost use Prim.Native.Nat.{_+_, _*_, _≤_, _<_, _^_};
 ghost use lib.ListN.{length, getD};
 ghost use lib.IntN.{natAbs};
 ghost use Rattle.spec_encoding.specs.Record.{four, signed};
 ghost use Rattle.spec_encoding.specs.Data.{fits};
-ghost use Rattle.base_tables.specs.Description.{descriptionOf, collectionIn, columnsIn, rowsIn, presentIn, tableIn, descriptionIn, placeIn, Placed, CellPost};
+ghost use Rattle.base_tables.specs.Description.{descriptionOf, collectionIn, columnsIn, rowsIn, presentIn, tableIn, descriptionIn, placeIn, placedIn, CellPost};
 ghost use Rattle.base_tables.specs.DataReader.{headerGives, headerAt, tableAt, ReadDataPost};
 use base_scratch::DESCRIPTIONS;
 use base_scratch::TABLES;
@@ -15,6 +14,15 @@ use base_scratch::store;
 
 // "data is 0 to 8 such records"
 pub const MOST_TABLES: usize = 8;
+
+// What one of each field of a description counts for (specs/Description.antt).
+const ONE_COLUMN: u64 = 4;
+
+const ONE_ROW: u64 = 64;
+
+const ONE_KIND: u64 = 131072;
+
+const ONE_POSITION: u64 = 1073741824;
 
 // A whole record of kind 20 with the length of its content, or none.
 pub enum TableHeader {
@@ -124,11 +132,14 @@ fn well_formed(c: &[u8]) -> bool
 
 // The description of the table with this content, whose cells begin at p.
 fn describe(c: &[u8], p: usize) -> u64
-    requires { ⌜ p < 2 ^ 40 ⌝ }
+    requires { ⌜ p < 2 ^ 33 ⌝ }
     ensures { λ r. ⌜ r ≡ descriptionOf (now (c .entry)) p ⌝ }
 {
-    let w = byte_at(c, 0) + 4 * (byte_at(c, 1) + 16 * (two_at(c, 2) + 2048 * p));
-    w as u64
+    let w = byte_at(c, 0) as u64
+        + ONE_COLUMN * byte_at(c, 1) as u64
+        + ONE_ROW * two_at(c, 2) as u64
+        + ONE_POSITION * p as u64;
+    w
 }
 
 // The record that begins at p.
@@ -152,19 +163,19 @@ fn table_at(data: &[u8], p: usize) -> TableRead
 pub fn collection(w: u64) -> u64
     ensures { λ r. ⌜ r ≡ collectionIn w ⌝ }
 {
-    w % 4
+    w % ONE_COLUMN
 }
 
 pub fn columns(w: u64) -> usize
     ensures { λ r. ⌜ r ≡ columnsIn w ⌝ }
 {
-    (w / 4 % 16) as usize
+    (w / ONE_COLUMN % 16) as usize
 }
 
 pub fn rows(w: u64) -> usize
     ensures { λ r. ⌜ r ≡ rowsIn w ⌝ }
 {
-    (w / 64 % 2048) as usize
+    (w / ONE_ROW % 2048) as usize
 }
 
 // Whether there is a table k.
@@ -218,14 +229,18 @@ pub fn place(w: u64, r: usize, c: usize) -> usize
     requires { ⌜ (r < 2048) × (c < 16) ⌝ }
     ensures { λ p. ⌜ (p ≡ placeIn w r c) × (p < 2 ^ 61) ⌝ }
 {
-    (w / 131072) as usize + 4 * (cells(columns(w), r) + c)
+    (w / ONE_POSITION) as usize + 4 * (cells(columns(w), r) + c)
 }
 
-// Whether every cell of the table that w describes stands at its place in the data. What a loop over cells asks once.
+// Whether the table that w describes is plain, and every cell of it stands at its place in the data. What a loop over cells asks
+// once, so that a table that is not plain costs those that are nothing.
 pub fn placed(data: &[u8], w: u64) -> bool
-    ensures { λ r. ⌜ (r ≡ true → Placed (now («data» .entry)) w) ⌝ }
+    ensures { λ r. ⌜ r ≡ placedIn (now («data» .entry)) w ⌝ }
 {
-    place(w, rows(w), 0) <= data.len()
+    if w / ONE_KIND % 8192 == 0 {
+        return place(w, rows(w), 0) <= data.len();
+    }
+    false
 }
 
 // The cell in row r and column c of the table that w describes; 0 outside.
