@@ -56,7 +56,9 @@ fn description(w: u64) {
     let a = field(b"collection", w, 4);
     let b = field(b"columns", a, 16);
     let c = field(b"rows", b, 2048);
-    last(b"cells at byte", c);
+    let d = field(b"kind", c, 2);
+    let e = field(b"subset", d, 4096);
+    last(b"cells at byte", e);
 }
 
 fn node(w: u64) {
