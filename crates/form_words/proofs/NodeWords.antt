@@ -23,13 +23,14 @@ use Rattle.form_words.specs.declared.FormNode.{FormNode}
 use Rattle.form_words.specs.declared.FormNode.the-variants.{Number, Truth, Row, Cell, Record, Binary, Negation, Operator, Comprehension, Generator, Condition, Nothing}
 use Rattle.form_words.specs.declared.Leaf.{Leaf}
 use Rattle.form_words.specs.declared.Leaf.the-variants as Le
+use Rattle.form_words.specs.declared.MonoidRead.the-variants as Mr
 use Rattle.form_words.specs.declared.Clause.{Clause}
 use Rattle.form_words.specs.declared.Clause.the-variants as Cl
 use Rattle.form_words.specs.NodeWord.{wordAt, kindOf, belowOf, argOf, pack, next, numberOf, kinds, nodeOf, nodeAt}
 use Rattle.base_scratch.specs.Map.{places}
 use Rattle.form_words.specs.FormTree.{formBy, clauseOf, clausesBy, headBy, formTree, formsTree, clausesTree, headTree}
 use Rattle.form_words.specs.HeadPlace as Hd
-use Rattle.form_words.specs.Look.{Inside, Looks, leafOf, LeafAtPost, LooksC}
+use Rattle.form_words.specs.Look.{Inside, Looks, leafOf, LeafAtPost, monoidIn, MonoidOfPost, LooksC}
 
 -- ---- packing
 module _ (k b a : ℕ) (hk : k < 16) (hb : b < 1024) where
@@ -221,6 +222,18 @@ leaf-node Nothing = tt
 
 pub leaf-recast : {s : List ℕ} {i : ℕ} {r n : Leaf} → LeafAtPost s i r → r ≡ n → LeafHere s i n
 leaf-recast {s} {i} H e = record { is = subst (LeafIs (nodeAt s i)) (sym (H .is) ∙ e) (leaf-node (nodeAt s i)) }
+
+-- ---- the monoid of a comprehension
+pub monoid-out : {s : List ℕ} {i : ℕ} → places ≤ i → MonoidOfPost s i Mr.Other
+monoid-out p = record { is = ap monoidIn (look-out p .is) }
+
+pub monoid-is : {s : List ℕ} {i w a k : ℕ} {m : Monoid} → i < places → w ≡ wordAt s i → (a ≡ argOf w) × (a < 2 ^ 50) → k ≡ kindOf w → k ≡ 8 → m ≡ monoidAt (a % 8) → MonoidOfPost s i (Mr.Is m)
+monoid-is p e A K l q = record { is = ap monoidIn (look-comprehension p e A K l q .is) }
+
+pub monoid-rest : {s : List ℕ} {i w k : ℕ} → w ≡ wordAt s i → k ≡ kindOf w → (k ≡ 8 → ⊥) → MonoidOfPost s i Mr.Other
+monoid-rest {s} {i} e K n8 = record {
+  is = node-by (λ n. Mr.Other ≡ monoidIn n) s i e refl (λ q. refl) (λ q. refl) (λ q. refl) (λ q. refl) (λ q. refl) (λ q. refl) (λ q. refl) (λ q. absurd (n8 (K ∙ q))) (λ q. refl) (λ q. refl) (λ q. refl);
+}
 
 -- ---- clauses
 pub clause-out : {s : List ℕ} {i : ℕ} → places ≤ i → LooksC s i Cl.Head

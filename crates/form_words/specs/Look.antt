@@ -1,4 +1,4 @@
--- What `look`, `leaf_at` and `look_clause` answer: the node, leaf or clause at a place. The places in a node or clause lie behind
+-- What `look`, `leaf_at`, `monoid_of` and `look_clause` answer: the node, leaf, monoid or clause at a place. The places in a node or clause lie behind
 -- it and within the words, and its numbers are small.
 use mathlib.Core.Path.{_≡_}
 use mathlib.Core.List.{List}
@@ -8,6 +8,8 @@ use Rattle.form_words.specs.declared.FormNode.{FormNode}
 use Rattle.form_words.specs.declared.FormNode.the-variants.{Number, Truth, Row, Cell, Record, Binary, Negation, Operator, Comprehension, Generator, Condition, Nothing}
 use Rattle.form_words.specs.declared.Leaf.{Leaf}
 use Rattle.form_words.specs.declared.Leaf.the-variants as Le
+use Rattle.form_words.specs.declared.MonoidRead.{MonoidRead}
+use Rattle.form_words.specs.declared.MonoidRead.the-variants as Mr
 use Rattle.form_words.specs.declared.Clause.{Clause}
 use Rattle.form_words.specs.declared.Clause.the-variants as Cl
 use Rattle.base_scratch.specs.Map.{places}
@@ -49,6 +51,24 @@ leafOf Nothing = Le.Other
 
 pub record LeafAtPost (s : List ℕ) (i : ℕ) (r : Leaf) : Type 0 where
   pub is : r ≡ leafOf (nodeAt s i)
+
+-- the monoid of a comprehension: every other node is some other
+abbrev pub monoidIn : FormNode → MonoidRead
+monoidIn (Number z) = Mr.Other
+monoidIn (Truth b) = Mr.Other
+monoidIn (Row g) = Mr.Other
+monoidIn (Cell c g) = Mr.Other
+monoidIn (Record e) = Mr.Other
+monoidIn (Binary o j) = Mr.Other
+monoidIn Negation = Mr.Other
+monoidIn (Operator f e) = Mr.Other
+monoidIn (Comprehension m) = Mr.Is m
+monoidIn (Generator g k) = Mr.Other
+monoidIn (Condition j) = Mr.Other
+monoidIn Nothing = Mr.Other
+
+pub record MonoidOfPost (s : List ℕ) (i : ℕ) (r : MonoidRead) : Type 0 where
+  pub is : r ≡ monoidIn (nodeAt s i)
 
 abbrev pub InsideC : ℕ → Clause → Type 0
 InsideC i (Cl.Generator g k) = (i < places) × (g < 1024) × (k < 1024)

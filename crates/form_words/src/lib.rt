@@ -5,7 +5,7 @@ ghost use Prim.Native.Nat.{_+_, _%_, _<_, _^_};
 ghost use lib.ListN.{set};
 ghost use Rattle.form_words.specs.NodeWord.{wordAt, kindOf, belowOf, argOf, pack, next, uptoPlace, branchPlace, numberOf};
 ghost use Rattle.base_scratch.specs.Map.{formAt};
-ghost use Rattle.form_words.specs.Look.{Looks, LeafAtPost, LooksC};
+ghost use Rattle.form_words.specs.Look.{Looks, LeafAtPost, MonoidOfPost, LooksC};
 use base_scratch::FORM;
 use base_scratch::FORM_WORDS;
 use base_scratch::load_at;
@@ -67,6 +67,12 @@ pub enum FormNode {
 pub enum Leaf {
     Number(i64),
     Cell(usize, usize),
+    Other,
+}
+
+// The monoid of a comprehension, or some other node.
+pub enum MonoidRead {
+    Is(Monoid),
     Other,
 }
 
@@ -193,6 +199,20 @@ pub fn leaf_at(s: &[u64], i: usize) -> Leaf
         NUMBER => Leaf::Number(number(a)),
         CELL => Leaf::Cell(low(a / PAIR), low(a)),
         _ => Leaf::Other,
+    }
+}
+
+// The same for the monoid of a comprehension.
+pub fn monoid_of(s: &[u64], i: usize) -> MonoidRead
+    ensures { λ r. ⌜ MonoidOfPost (now (s .entry)) i r ⌝ }
+{
+    if FORM_WORDS <= i {
+        return MonoidRead::Other;
+    }
+    let w = word(s, i);
+    match kind(w) {
+        COMPREHENSION => MonoidRead::Is(Monoid::from_bits(arg(w))),
+        _ => MonoidRead::Other,
     }
 }
 
