@@ -32,9 +32,10 @@ def loops(f):
     collect, scalar = 'loop_collect::', 'loop_scalar::'
     generators = [[collect + 'collect', collect + 'each'], [scalar + 'fold', scalar + 'rounds']]
     record = [collect + name for name in ('write', 'flat', 'parts', 'part')]
-    total = [scalar + 'operand', scalar + 'total']
-    terms = [[collect + 'write'] + generators[0], record, total + generators[1], total[:1] + [scalar + 'scalar']]
-    return along(f, terms, generators) + max(sum(map(f, record)), f(scalar + 'scalar'))
+    total = [scalar + name for name in ('term', 'reduced', 'total')]
+    operand = [scalar + name for name in ('scalar', 'operand', 'term')]
+    terms = [[collect + 'write'] + generators[0], record, total + generators[1], operand]
+    return along(f, terms, generators) + sum(map(f, record + operand))
 
 
 # For each group the most that it takes, from its frames. A group of a crate that has several is named by one of its functions.
