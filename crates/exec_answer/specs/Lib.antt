@@ -1,0 +1,2 @@
+-- Answering by plan in one call.
+pub mod RawLength
