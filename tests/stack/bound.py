@@ -46,7 +46,7 @@ GROUPS = {
     # a record of the question is a term, a qualifier before the deep one, or a condition that is gone through
     'front_emit': times(RECORDS, ['placed'], ['qualifiers'], ['clause']),
     'front_resolve': times(RECORDS, ['resolve']),
-    'front_bounds': lambda f: along(f, [['form_size', 'clauses_size']], [['clauses_size']]) + f('record_fits'),
+    'front_bounds': times(NESTED, ['form_size']),
     'loop_collect': loops,
     'loop_scalar': loops,
     'plan_marks': lambda f: along(f, [['term', 'seats', 'clauses'], ['term', 'terms']], [['seats']]),

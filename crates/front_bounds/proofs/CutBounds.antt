@@ -3,7 +3,7 @@
 use mathlib.Core.Path.{_≡_, refl, sym, ap, ap₂, subst, _∙_}
 use mathlib.Core.Bool.{Bool, true, _&&_, and-true, and-assoc}
 use mathlib.Core.List.{List, [], _∷_}
-use Prim.Native.Nat.{ℕ, zero, suc, _+_, _*_, _/_, _^_, _≤_, _<_}
+use Prim.Native.Nat.{ℕ, zero, suc, _+_, _-_, _*_, _/_, _^_, _≤_, _<_}
 use native.Mathlib.Nat.{mul-le-mul-left, mul-le-mul, mul-assoc, mul-comm, pow-suc, zero-mul}
 use native.Mathlib.Omega.{arith, div-fact, mod-fact}
 use borrow.Author.Tests.{leb-true, leb-false, le-leb, lt-leb}
@@ -35,7 +35,7 @@ use Rattle.form_words.specs.FormWords as Fl
 use Rattle.form_words.proofs.ReadBack.{read-back}
 use Rattle.form_words.proofs.NodeWords.{next-past, next-out, formNode, clausesNode, headNode, form-is, clauses-is, head-is, forms-end, forms-more}
 use Rattle.front_bounds.specs.declared.Size.{Size}
-use Rattle.front_bounds.specs.CutBounds.{cut, perHead, perGenerator, CheckedPost, SizeOf, SizeOfC, FirstOf, UnboundedPost, FormSizePost, ClausesSizePost, RecordFitsPost, TermSizePost, OperatorSizePost, BoundFitsPost}
+use Rattle.front_bounds.specs.CutBounds.{cut, perHead, perGenerator, perGenerators, CheckedPost, SizeOf, SizeOfC, FirstOf, UnboundedPost, FormSizePost, ClausesSizePost, RecordFitsPost, TermSizePost, OperatorSizePost, BoundFitsPost}
 
 -- ---- cut bounds
 abbrev top : ℕ
@@ -121,6 +121,26 @@ generator-bound Sy.min g a = refl
 generator-bound some g a = refl
 generator-bound all g a = refl
 
+-- ---- generators one by one
+-- with k more on b it is as with n more on a
+pub record Repeating (m : Sy.Monoid) (n a k b : ℕ) : Type 0 where
+  pub is : perGenerators m k b ≡ perGenerators m n a
+
+pub repeating-first : {m : Sy.Monoid} {n a : ℕ} → Repeating m n a n a
+repeating-first = record { is = refl }
+
+generators-more : (m : Sy.Monoid) (k n a : ℕ) → k ≡ suc n → perGenerators m k a ≡ perGenerators m n (perGenerator m a)
+unfolding perGenerators
+generators-more m k n a e = ap (λ (x : ℕ). perGenerators m x a) e
+
+module _ {m : Sy.Monoid} {n a k b : ℕ} (I : Repeating m n a k b) where
+  pub repeating-again : {r : ℕ} → 0 < k → r ≡ perGenerator m b → Repeating m n a (k - 1) r
+  repeating-again h p = record { is = ap (perGenerators m (k - 1)) p ∙ sym (generators-more m k (k - 1) b (omega arith)) ∙ I .is }
+
+  pub repeating-last : k ≤ 0 → b ≡ perGenerators m n a
+  unfolding perGenerators
+  repeating-last h = ap (λ (x : ℕ). perGenerators m x b) {x = 0} {y = k} (omega arith) ∙ I .is
+
 -- ---- a number in the words is small
 pub small-number : {s : List ℕ} {i : ℕ} {z z′ : ℤ} → Looks s i (Number z) → z′ ≡ z → natAbs z′ < 2 ^ 50
 small-number H e = rw e (H .inside)
@@ -205,7 +225,7 @@ module _ {s : List ℕ} {i : ℕ} {r : Size} where
 
   -- clauses
   module _ {m : Monoid} where
-    pub clauses-generator : {g k : ℕ} {x : Size} → LooksC s i (Cl.Generator g k) → ClausesSizePost s (i + 1) m x →
+    clauses-generator : {g k : ℕ} {x : Size} → LooksC s i (Cl.Generator g k) → ClausesSizePost s (i + 1) m x →
         r .bound ≡ perGenerator (monoidOf m) (x .bound) → r .fits ≡ x .fits → ClausesSizePost s i m r
     unfolding ownGens within
     clauses-generator H X p q = sizedC H (λ f l.
@@ -215,7 +235,7 @@ module _ {s : List ℕ} {i : ℕ} {r : Size} where
           fits-is = q ∙ A .fits-is;
         })
 
-    pub clauses-condition : {j : ℕ} {t x : Size} → LooksC s i (Cl.Condition j) → FormSizePost s (i + 1) t → ClausesSizePost s j m x →
+    clauses-condition : {j : ℕ} {t x : Size} → LooksC s i (Cl.Condition j) → FormSizePost s (i + 1) t → ClausesSizePost s j m x →
         r .bound ≡ x .bound → r .fits ≡ (t .fits && x .fits) → ClausesSizePost s i m r
     unfolding ownGens within
     clauses-condition {j} H T X p q = sizedC H (λ f l.
@@ -226,18 +246,52 @@ module _ {s : List ℕ} {i : ℕ} {r : Size} where
           fits-is = q ∙ ap₂ _&&_ (B .fits-is) (A .fits-is) ∙ sym (and-assoc (within (formTree f s (i + 1))) (withinC (clausesTree f s j)) (within (headTree f s j)));
         })
 
-    pub clauses-head : {x : Size} → LooksC s i Cl.Head → FormSizePost s i x → r .bound ≡ perHead (monoidOf m) (x .bound) → r .fits ≡ x .fits → ClausesSizePost s i m r
+    clauses-head : {x : Size} → LooksC s i Cl.Head → FormSizePost s i x → r .bound ≡ perHead (monoidOf m) (x .bound) → r .fits ≡ x .fits → ClausesSizePost s i m r
     unfolding ownGens within
     clauses-head H X p q = sizedC H (λ f l.
         let A = X .is f (omega arith) in
         record { bound-is = p ∙ ap (perHead (monoidOf m)) (A .bound-is) ∙ head-bound (monoidOf m) (bound (formTree f s i)); fits-is = q ∙ A .fits-is })
 
+-- at the clause at j, behind n generators and conditions of which t says whether the numbers in them fit: what the clauses from
+-- there on come to says what those from i on come to
+pub record Sizing (s : List ℕ) (i : ℕ) (m : Monoid) (j n : ℕ) (t : Bool) : Type 0 where
+  pub low : left j ≤ left i
+  pub few : n ≤ j
+  pub back : (r a : Size) → ClausesSizePost s j m a → r .bound ≡ perGenerators (monoidOf m) n (a .bound) → r .fits ≡ (t && a .fits) → ClausesSizePost s i m r
+
+pub sizing-first : {s : List ℕ} {i : ℕ} {m : Monoid} → Sizing s i m i 0 true
+unfolding perGenerators
+sizing-first = record {
+  low = omega arith;
+  few = omega arith;
+  back = λ r a C p q. record { is = λ f l. record { bound-is = p ∙ C .is f l .bound-is; fits-is = q ∙ C .is f l .fits-is } };
+}
+
+module _ {s : List ℕ} {i : ℕ} {m : Monoid} {j n : ℕ} {t : Bool} (I : Sizing s i m j n t) where
+  pub sizing-generator : {g k : ℕ} → LooksC s j (Cl.Generator g k) → Sizing s i m (j + 1) (n + 1) t
+  sizing-generator H = record {
+    low = omega (arith, I .low);
+    few = omega (arith, I .few);
+    back = λ r a C p q. I .back r (record { bound = perGenerator (monoidOf m) (a .bound); fits = a .fits }) (clauses-generator H C refl refl) (p ∙ generators-more (monoidOf m) (n + 1) n (a .bound) (omega arith)) q;
+  }
+
+  pub sizing-condition : {e : ℕ} {x : Size} {u : Bool} → LooksC s j (Cl.Condition e) → FormSizePost s (j + 1) x → u ≡ (t && x .fits) → Sizing s i m e n u
+  sizing-condition {x = x} H X w = record {
+    low = omega (arith, I .low, H .inside .0);
+    few = omega (arith, I .few, H .inside .0);
+    back = λ r a C p q. I .back r (record { bound = a .bound; fits = x .fits && a .fits }) (clauses-condition H X C refl refl) p (q ∙ ap (λ y. y && a .fits) w ∙ and-assoc t (x .fits) (a .fits));
+  }
+
+  pub sizing-head : {x r : Size} {b : ℕ} → LooksC s j Cl.Head → FormSizePost s j x → b ≡ perHead (monoidOf m) (x .bound) → r .bound ≡ perGenerators (monoidOf m) n b → r .fits ≡ (t && x .fits) →
+      ClausesSizePost s i m r
+  sizing-head {x} {r} {b} H X p q w = I .back r (record { bound = b; fits = x .fits }) (clauses-head H X p refl) q w
+
 -- ---- fields of a record
-pub fields-end : {s : List ℕ} {i e : ℕ} → e ≤ i → RecordFitsPost s i e true
+fields-end : {s : List ℕ} {i e : ℕ} → e ≤ i → RecordFitsPost s i e true
 unfolding within
 fields-end {s} {i} {e} p = record { is = elim [ zero ↦ λ l. absurd (omega arith) | suc f ↦ λ l. sym (ap withinF (forms-end f s i e p)) ] }
 
-pub fields-more : {s : List ℕ} {i e n : ℕ} {a : Size} {b r : Bool} → i < e → e ≤ places → FormSizePost s i a → n ≡ next s i → RecordFitsPost s n e b → r ≡ (a .fits && b) → RecordFitsPost s i e r
+fields-more : {s : List ℕ} {i e n : ℕ} {a : Size} {b r : Bool} → i < e → e ≤ places → FormSizePost s i a → n ≡ next s i → RecordFitsPost s n e b → r ≡ (a .fits && b) → RecordFitsPost s i e r
 unfolding within
 fields-more {s} {i} {e} {n} p t A q B w = record {
   is = elim [
@@ -247,6 +301,24 @@ fields-more {s} {i} {e} {n} p t A q B w = record {
         ∙ sym (ap withinF (forms-more f s i e p))
   ];
 }
+
+-- at the field at j, behind fields of which t says whether the numbers in them fit
+pub record Fitting (s : List ℕ) (i e j : ℕ) (t : Bool) : Type 0 where
+  pub low : left j ≤ left i
+  pub back : (r b : Bool) → RecordFitsPost s j e b → r ≡ (t && b) → RecordFitsPost s i e r
+
+pub fitting-first : {s : List ℕ} {i e : ℕ} → Fitting s i e i true
+fitting-first = record { low = omega arith; back = λ r b B q. record { is = λ f l. q ∙ B .is f l } }
+
+module _ {s : List ℕ} {i e j : ℕ} {t : Bool} (I : Fitting s i e j t) where
+  pub fitting-again : {n : ℕ} {a : Size} {u : Bool} → j < e → e ≤ places → FormSizePost s j a → u ≡ (t && a .fits) → n ≡ next s j → Fitting s i e n u
+  fitting-again {a = a} p h A w q = record {
+    low = omega (arith, I .low, q, next-past s j (omega arith));
+    back = λ r b B y. I .back r (a .fits && b) (fields-more p h A q B refl) (y ∙ ap (λ z. z && b) w ∙ and-assoc t (a .fits) b);
+  }
+
+  pub fitting-last : e ≤ j → RecordFitsPost s i e t
+  fitting-last h = I .back t true (fields-end h) (sym (and-true t))
 
 -- ---- the terms of an operator
 rest : Forms → Forms

@@ -2,7 +2,7 @@
 use mathlib.Core.Path.{_≡_}
 use mathlib.Core.Bool.{Bool, true, _&&_}
 use mathlib.Core.List.{List}
-use Prim.Native.Nat.{ℕ, _+_, _*_, _^_, _<_, min}
+use Prim.Native.Nat.{ℕ, zero, suc, _+_, _*_, _^_, _<_, min}
 use lib.Dec.{leb}
 use Rattle.spec_calculus.specs.Syntax.{of, sum, max, some, all}
 use Rattle.spec_calculus.specs.Syntax as Sy
@@ -34,6 +34,11 @@ perGenerator max a = a
 perGenerator Sy.min a = a
 perGenerator some a = a
 perGenerator all a = a
+
+-- with n generators more
+unfoldable pub perGenerators : Sy.Monoid → ℕ → ℕ → ℕ
+perGenerators m zero a = a
+perGenerators m (suc n) a = perGenerators m n (perGenerator m a)
 
 -- a number with bound b, where t says whether the numbers in it fit
 pub record CheckedPost (b : ℕ) (t : Bool) (r : Size) : Type 0 where

@@ -8,7 +8,7 @@ ghost use Rattle.spec_normal_form.specs.Bound.{binBound, appBound};
 ghost use Rattle.base_syntax.specs.MonoidWord.{monoidOf};
 ghost use Rattle.base_syntax.specs.Numbers.{binOf, funOf};
 ghost use Rattle.base_scratch.specs.Map.{places};
-ghost use Rattle.front_bounds.specs.CutBounds.{cut, perGenerator, perHead, CheckedPost, UnboundedPost, FormSizePost, ClausesSizePost, RecordFitsPost, TermSizePost, OperatorSizePost, BoundFitsPost};
+ghost use Rattle.front_bounds.specs.CutBounds.{cut, perGenerator, perGenerators, perHead, CheckedPost, UnboundedPost, FormSizePost, ClausesSizePost, RecordFitsPost, TermSizePost, OperatorSizePost, BoundFitsPost};
 use base_signed::NUMBER_LIMIT;
 use base_syntax::Fun;
 use base_syntax::Monoid;
@@ -111,6 +111,19 @@ fn per_head(m: Monoid, a: u64) -> u64
     }
 }
 
+// A comprehension's bound with n generators more.
+fn generators_bound(m: Monoid, n: usize, a: u64) -> u64
+    ensures { λ r. ⌜ r ≡ perGenerators (monoidOf m) n a ⌝ }
+{
+    let mut k = n;
+    let mut b = a;
+    while 0 < k {
+        b = per_generator(m, b);
+        k -= 1;
+    }
+    b
+}
+
 fn both(a: bool, b: bool) -> bool
     ensures { λ r. ⌜ r ≡ (a && b) ⌝ }
 {
@@ -166,31 +179,30 @@ pub fn form_size(s: &[u64], i: usize) -> Size
     }
 }
 
-// The clauses from i on and the head behind them, in a comprehension of m.
+// The clauses from i on and the head behind them, in a comprehension of m. A loop: a call for each would need stack for each.
 fn clauses_size(s: &[u64], i: usize, m: Monoid) -> Size
     ensures { λ r. ⌜ ClausesSizePost (now (s .entry)) i m r ⌝ }
 {
-    match look_clause(s, i) {
-        Clause::Generator(g, k) => {
-            let a = clauses_size(s, i + 1, m);
-            Size {
-                bound: per_generator(m, a.bound),
-                fits: a.fits,
+    let mut j = i;
+    let mut n: usize = 0;
+    let mut fits = true;
+    loop {
+        match look_clause(s, j) {
+            Clause::Generator(g, k) => {
+                n += 1;
+                j += 1;
             }
-        }
-        Clause::Condition(j) => {
-            let t = form_size(s, i + 1);
-            let a = clauses_size(s, j, m);
-            Size {
-                bound: a.bound,
-                fits: both(t.fits, a.fits),
+            Clause::Condition(e) => {
+                let t = form_size(s, j + 1);
+                fits = both(fits, t.fits);
+                j = e;
             }
-        }
-        Clause::Head => {
-            let a = form_size(s, i);
-            Size {
-                bound: per_head(m, a.bound),
-                fits: a.fits,
+            Clause::Head => {
+                let a = form_size(s, j);
+                return Size {
+                    bound: generators_bound(m, n, per_head(m, a.bound)),
+                    fits: both(fits, a.fits),
+                };
             }
         }
     }
@@ -223,17 +235,19 @@ fn term_size(s: &[u64], i: usize, e: usize) -> Size
     form_size(s, i)
 }
 
-// The fields of a record, from i to e.
+// The fields of a record, from i to e. A loop, as in `clauses_size`.
 fn record_fits(s: &[u64], i: usize, e: usize) -> bool
     requires { ⌜ e ≤ places ⌝ }
     ensures { λ r. ⌜ RecordFitsPost (now (s .entry)) i e r ⌝ }
 {
-    if e <= i {
-        return true;
+    let mut j = i;
+    let mut fits = true;
+    while j < e {
+        let a = form_size(s, j);
+        fits = both(fits, a.fits);
+        j = next(s, j);
     }
-    let a = form_size(s, i);
-    let b = record_fits(s, next(s, i), e);
-    both(a.fits, b)
+    fits
 }
 
 pub fn bound_fits(s: &[u64]) -> bool

@@ -7,7 +7,7 @@ use mir.Facts.{toZ-ofZ}
 use Rattle.base_signed.proofs.SignedWords.{fits}
 use Rattle.form_words.specs.FormTree.{left}
 use Rattle.form_words.proofs.NodeWords.{recast, recastC, next-past}
-use Rattle.front_bounds.proofs.CutBounds.{small-number, size-number, size-truth, size-row, size-cell, size-record, size-binary, size-negation, size-comprehension, size-operator, operator-terms, left-after, term-none, term-some, size-generator, size-condition, size-nothing, clauses-generator, clauses-condition, clauses-head, fields-end, fields-more}
+use Rattle.front_bounds.proofs.CutBounds.{small-number, size-number, size-truth, size-row, size-cell, size-record, size-binary, size-negation, size-comprehension, size-operator, operator-terms, left-after, term-none, term-some, size-generator, size-condition, size-nothing, Sizing, sizing-first, sizing-generator, sizing-condition, sizing-head, Fitting, fitting-first, fitting-again, fitting-last}
 use borrow.Fn.Kinds.{In}
 use borrow.Fn.PlainCycle.{Measures, is, falls, and}
 use Rattle.front_bounds.proofs.clauses_size.Reads as clauses-size
@@ -30,7 +30,7 @@ use Rattle.front_bounds.proofs.both.Reads as both-reads
 use Rattle.front_bounds.proofs.checked.Reads as checked-reads
 use Rattle.front_bounds.proofs.magnitude.Reads as magnitude-reads
 use Rattle.front_bounds.proofs.operator_bound.Reads as operator-bound-reads
-use Rattle.front_bounds.proofs.per_generator.Reads as per-generator-reads
+use Rattle.front_bounds.proofs.generators_bound.Reads as generators-bound-reads
 use Rattle.front_bounds.proofs.per_head.Reads as per-head-reads
 use Rattle.front_bounds.proofs.unbounded.Reads as unbounded-reads
 use Rattle.form_words.proofs.look.Reads as look-reads
@@ -84,26 +84,41 @@ record-fits-at t = and 1 record-fits-kinds.ps (is 1 record-fits-kinds.ps μ-reco
 abbrev record-fits-below : ℕ → In 1 record-fits-kinds.ps
 record-fits-below t = and 1 record-fits-kinds.ps (falls 1 record-fits-kinds.ps _<_ μ-record-fits t) record-fits.Pre
 
+abbrev clauses-size-Inv-loop : clauses-size-lts.InvT-loop
+clauses-size-Inv-loop s i m j₀ n₀ fits₀ j n fits = Sizing s i m j n fits
+
+abbrev clauses-size-μ-loop : clauses-size-lts.MeasureT-loop
+clauses-size-μ-loop s i m j₀ n₀ fits₀ j n fits = left j
+
+abbrev record-fits-Inv-loop : record-fits-lts.InvT-loop
+record-fits-Inv-loop s i e j₀ fits₀ j fits = Fitting s i e j fits
+
+abbrev record-fits-μ-loop : record-fits-lts.MeasureT-loop
+record-fits-μ-loop s i e j₀ fits₀ j fits = left j
+
 pub +clauses-size+form-size+operator-size+record-fits+term-size-spec : {M : Type 1} → statement M
 +clauses-size+form-size+operator-size+record-fits+term-size-spec =
     close μ-clauses-size μ-form-size μ-operator-size μ-record-fits μ-term-size
-    (λ t. clauses-size-lts.spec (look-clause-reads.Asked, look-clause-reads.Learnt, clauses-size-below t, clauses-size.Post, per-generator-reads.Asked, per-generator-reads.Learnt, form-size-below t, form-size.Post, both-reads.Asked, both-reads.Learnt, per-head-reads.Asked, per-head-reads.Learnt) (clauses-size-at t) clauses-size.Post
+    (λ t. clauses-size-lts.spec (look-clause-reads.Asked, look-clause-reads.Learnt, form-size-below t, form-size.Post, both-reads.Asked, both-reads.Learnt, per-head-reads.Asked, per-head-reads.Learnt, generators-bound-reads.Asked, generators-bound-reads.Learnt) (clauses-size-at t) clauses-size.Post clauses-size-Inv-loop clauses-size-μ-loop
+    (λ c. sizing-first)
     (λ c κs. search needs)
     (λ c. search needs)
-    (λ c. let w = recastC (c .before .before .before .look-clause .ensures) (c .before .g .given .1) .inside in omega arith)
-    (λ c κs. let w = recastC (c .before .before .before .look-clause .ensures) (c .before .g .given .1) .inside in (omega (arith, c .before .before .before .before .before .pre .0), tt))
-    (λ c κs. search needs)
+    (λ c. let w = recastC (c .before .before .before .look-clause .ensures) (c .before .g .given .1) .inside in omega (arith, w .0, c .before .before .before .before .loop .inv .few))
+    (λ c. let w = recastC (c .before .before .before .look-clause .ensures) (c .before .g .given .1) .inside in omega (arith, w .0))
+    (λ c. let w = recastC (c .before .before .before .look-clause .ensures) (c .before .g .given .1) .inside in omega (arith, w .0))
+    (λ c. sizing-generator (c .before .before .before .before .loop .inv) (recastC (c .before .before .before .look-clause .ensures) (c .before .g .given .1)))
     (λ c. search needs)
-    (λ c. let w = recastC (c .before .before .before .look-clause .ensures) (c .before .j .given .1) .inside in omega arith)
-    (λ c κs. let w = recastC (c .before .before .before .look-clause .ensures) (c .before .j .given .1) .inside in (omega (arith, c .before .before .before .before .before .pre .0), tt))
-    (λ c κs. let w = recastC (c .before .before .before .before .look-clause .ensures) (c .before .before .j .given .1) .inside in (omega (arith, c .before .before .before .before .before .before .pre .0), tt))
+    (λ c. let w = recastC (c .before .before .before .look-clause .ensures) (c .before .e .given .1) .inside in omega (arith, w .0, w .1))
+    (λ c κs. let w = recastC (c .before .before .before .look-clause .ensures) (c .before .e .given .1) .inside in (omega (arith, w .0, w .1, c .before .before .before .before .loop .inv .low, c .before .before .before .before .before .before .pre .0), tt))
     (λ c κs. search needs)
+    (λ c. let w = recastC (c .before .before .before .before .before .look-clause .ensures) (c .before .before .before .e .given .1) .inside in omega (arith, w .0, w .1))
+    (λ c. sizing-condition (c .before .before .before .before .before .before .loop .inv) (recastC (c .before .before .before .before .before .look-clause .ensures) (c .before .before .before .e .given .1)) (c .before .form-size .ensures) (c .both .ensures))
     (λ c. search needs)
-    (λ c κs. (omega (arith, c .before .before .before .before .pre .0), tt))
+    (λ c κs. (omega (arith, c .before .before .before .loop .inv .low, c .before .before .before .before .before .pre .0), tt))
     (λ c κs. search needs)
-    (λ c. clauses-generator (recastC (c .before .before .before .before .before .look-clause .ensures) (c .before .before .before .g .given .1)) (c .before .clauses-size .ensures) (c .per-generator .ensures) refl)
-    (λ c. clauses-condition (recastC (c .before .before .before .before .before .before .look-clause .ensures) (c .before .before .before .before .j .given .1)) (c .before .before .form-size .ensures) (c .before .clauses-size2 .ensures) refl (c .both .ensures))
-    (λ c. clauses-head (recastC (c .before .before .before .before .look-clause .ensures) (c .before .before .enum-told .given .1)) (c .before .form-size2 .ensures) (c .per-head .ensures) refl))
+    (λ c κs. search needs)
+    (λ c κs. search needs)
+    (λ c. sizing-head (c .before .before .before .before .before .before .before .loop .inv) (recastC (c .before .before .before .before .before .before .look-clause .ensures) (c .before .before .before .before .enum-told .given .1)) (c .before .before .before .form-size2 .ensures) (c .before .before .per-head .ensures) (c .before .generators-bound .ensures) (c .both2 .ensures)))
     (λ t. form-size-lts.spec (look-reads.Asked, look-reads.Learnt, magnitude-reads.Asked, magnitude-reads.Learnt, checked-reads.Asked, checked-reads.Learnt, unbounded-reads.Asked, unbounded-reads.Learnt, record-fits-below t, record-fits.Post, form-size-below t, form-size.Post, binary-bound-reads.Asked, binary-bound-reads.Learnt, both-reads.Asked, both-reads.Learnt, clauses-size-below t, clauses-size.Post, operator-size-below t, operator-size.Post) (form-size-at t) form-size.Post
     (λ c κs. search needs)
     (λ c. search needs)
@@ -169,13 +184,14 @@ pub +clauses-size+form-size+operator-size+record-fits+term-size-spec : {M : Type
     (λ c κs. search needs)
     (λ c κs. search needs)
     (λ c. operator-terms (c .before .before .before .before .before .before .before .before .before .before .before .before .before .args .f) (c .before .before .before .before .before .before .before .before .before .before .before .before .before .pre .1) (c .before .before .before .before .before .before .before .before .before .before .before .term-size .ensures) (c .before .before .before .before .before .before .before .before .before .before .next .ensures) (c .before .before .before .before .before .before .before .before .before .term-size2 .ensures) (c .before .before .before .before .before .before .before .before .next2 .ensures) (c .before .before .before .before .before .before .before .term-size3 .ensures) (c .before .before .before .before .before .before .next3 .ensures) (c .before .before .before .before .before .record-fits .ensures) (c .before .before .before .operator-bound .ensures) (c .before .before .before .before .both .ensures) (c .before .before .both2 .ensures) (c .before .both3 .ensures) (c .checked .ensures)))
-    (λ t. record-fits-lts.spec (form-size-below t, form-size.Post, next-reads.Asked, next-reads.Learnt, record-fits-below t, record-fits.Post, both-reads.Asked, both-reads.Learnt) (record-fits-at t) record-fits.Post
-    (λ c. fields-end (c .if1 .taken))
-    (λ c κs. (omega (arith, c .before .before .pre .0), tt))
+    (λ t. record-fits-lts.spec (form-size-below t, form-size.Post, both-reads.Asked, both-reads.Learnt, next-reads.Asked, next-reads.Learnt) (record-fits-at t) record-fits.Post record-fits-Inv-loop record-fits-μ-loop
+    (λ c. fitting-first)
+    (λ c κs. (omega (arith, c .before .loop .inv .low, c .before .before .before .pre .0), tt))
     (λ c κs. search needs)
-    (λ c κs. (omega (arith, c .before .before .before .before .pre .0, c .next .ensures, next-past (c .before .before .before .before .args .s .now) (c .before .before .before .before .args .i) (omega arith)), c .before .before .before .before .pre .1))
     (λ c κs. search needs)
-    (λ c. fields-more (c .before .before .before .before .if1 .left) (c .before .before .before .before .before .before .pre .1) (c .before .before .before .form-size .ensures) (c .before .before .next .ensures) (c .before .record-fits .ensures) (c .both .ensures)))
+    (λ c. omega (arith, c .before .before .before .before .before .before .pre .1, c .before .before .before .loop-test .taken, c .next .ensures, next-past (c .before .before .before .before .before .before .args .s .now) (c .before .before .before .before .loop .j) (omega (arith, c .before .before .before .before .before .before .pre .1, c .before .before .before .loop-test .taken))))
+    (λ c. fitting-again (c .before .before .before .before .loop .inv) (c .before .before .before .loop-test .taken) (c .before .before .before .before .before .before .pre .1) (c .before .before .form-size .ensures) (c .before .both .ensures) (c .next .ensures))
+    (λ c. fitting-last (c .before .loop .inv) (c .loop-test .left)))
     (λ t. term-size-lts.spec (unbounded-reads.Asked, unbounded-reads.Learnt, form-size-below t, form-size.Post) (term-size-at t) term-size.Post
     (λ c κs. search needs)
     (λ c. term-none (c .before .if1 .taken) (c .unbounded .ensures))
