@@ -5,6 +5,7 @@ use mathlib.Core.List.{List}
 use Prim.Native.Nat.{ℕ, zero, suc, _+_, _-_, _/_, _≤_, _<_}
 use native.Mathlib.Omega.{arith}
 use lib.ListN.{length}
+use Rattle.base_signed.proofs.SignedWords.{no}
 use Rattle.spec_calculus.specs.Syntax.{of, Bin, plus, minus, times, equal, less, and, or, Fun, choice}
 use Rattle.spec_checks.specs.Types.{Ty, Tys, number, truth, record′, coll, ynil, ycons, cells}
 use Rattle.spec_checks.proofs.Judgement.{result}
@@ -23,7 +24,6 @@ use Rattle.form_words.specs.declared.Clause.the-variants as Cl
 use Rattle.form_words.specs.Look.{Looks, LooksC}
 use Rattle.form_words.specs.HeadPlace.{headNode}
 use Rattle.form_words.proofs.NodeWords.{look-out, next-past, formNode, form-is, head-is, head-node-is, forms-end, forms-more}
-use Rattle.base_buffer.proofs.TotalReads.{clash}
 use Rattle.base_tables.specs.Description.{columnsIn, descriptionIn}
 use Rattle.form_env.specs.Environment.{slotOf}
 use Rattle.answer_types.specs.declared.CollectionKind.{CollectionKind}
@@ -134,8 +134,8 @@ pub single-has : (t : Ty) → true ≡ isSingle t → Has 1 t
 unfolding widthOf
 single-has number e = (tt, refl)
 single-has truth e = (tt, refl)
-single-has (record′ ts) e = clash e
-single-has (coll c t) e = clash e
+single-has (record′ ts) e = no e
+single-has (coll c t) e = no e
 
 pub row-width : (n : ℕ) → FlatEach (cells n) × (n ≡ widthEach (cells n))
 unfolding cells widthOf

@@ -2,7 +2,7 @@
 -- buffer of less than 2^62 words has its counts as they are.
 use mathlib.Core.Path.{_≡_, refl, sym, ap, ap₂, subst, _∙_}
 use mathlib.Core.List.{List, [], _∷_, _++_, map}
-use mathlib.Core.Bool.{Bool, true, false, _&&_, and-eq-true-iff}
+use mathlib.Core.Bool.{Bool, true, false}
 use Prim.Native.Nat.{ℕ, suc, _+_, _≤_}
 use native.Mathlib.Omega.{arith}
 use lib.Dec.{eqb}
@@ -17,6 +17,7 @@ use Rattle.spec_calculus.specs.Meaning.{Env}
 use Rattle.spec_calculus.proofs.Lists.{All, all-guard, all-bind}
 use Rattle.spec_calculus.proofs.Folds.{raw-of}
 use Rattle.spec_calculus.proofs.WellFormed.{Row, row-field}
+use Rattle.spec_calculus.proofs.Truths.{both}
 use Rattle.spec_encoding.specs.Record.{Bytes}
 use Rattle.spec_normal_form.specs.Form.{Form, Forms, Clauses, row, cell, bin, negate, app, comp, fnil, fcons, done, gen, cond, value, values, loops}
 use Rattle.spec_normal_form.specs.Form as Fo
@@ -139,9 +140,6 @@ rows-upd g {v} ρ s R x = go (eqb g x)
     go true = s
     go false = R x
 
-tests : (a b : Bool) → a && b ≡ true → (a ≡ true) × (b ≡ true)
-tests a b h = and-eq-true-iff a b .0 h
-
 -- ---- forms
 abbrev valueOf : Bytes → Form → Env → Value
 valueOf d t ρ = value raw (tablesIn d) t ρ
@@ -162,7 +160,7 @@ module _ {d : Bytes} {s : List ℕ} (H : Held d s) where
     form-whole (Fo.truth b) w ρ R = whole-truth b
     form-whole (row g) w ρ R = R g .whole
     form-whole (cell c g) w ρ R = R g .fields c
-    form-whole (Fo.rec ts) w ρ R = let p = tests (someF ts) (filledF ts) w in record { some = fields-some ts (p .0) (p .1) ρ R; exact = fields-exact ts (p .1) ρ R }
+    form-whole (Fo.rec ts) w ρ R = let p = both (someF ts) (filledF ts) w in record { some = fields-some ts (p .0) (p .1) ρ R; exact = fields-exact ts (p .1) ρ R }
     form-whole (bin o t u) w ρ R = whole-bin o (valueOf d t ρ) (valueOf d u ρ)
     form-whole (negate t) w ρ R = whole-not (valueOf d t ρ)
     form-whole (app f ts) w ρ R = whole-app f (values raw (tablesIn d) ts ρ)
@@ -170,11 +168,11 @@ module _ {d : Bytes} {s : List ℕ} (H : Held d s) where
 
     fields-some : (ts : Forms) → someF ts ≡ true → filledF ts ≡ true → (ρ : Env) → Rows ρ → 1 ≤ length (wordsL (values raw (tablesIn d) ts ρ))
     fields-some fnil e w ρ R = let z : _≡_ {A = ℕ} 0 1 = cc in absurd (omega arith)
-    fields-some (fcons t ts) e w ρ R = omega (arith, form-whole t (tests (filled t) (filledF ts) w .0) ρ R .some, length-append (words (valueOf d t ρ)) (wordsL (values raw (tablesIn d) ts ρ)))
+    fields-some (fcons t ts) e w ρ R = omega (arith, form-whole t (both (filled t) (filledF ts) w .0) ρ R .some, length-append (words (valueOf d t ρ)) (wordsL (values raw (tablesIn d) ts ρ)))
 
     fields-exact : (ts : Forms) → filledF ts ≡ true → (ρ : Env) → Rows ρ → length (wordsL (values raw (tablesIn d) ts ρ)) ≤ big → cutWordsL (values raw (tablesIn d) ts ρ) ≡ wordsL (values raw (tablesIn d) ts ρ)
     fields-exact fnil w ρ R = λ l. refl
-    fields-exact (fcons t ts) w ρ R = let p = tests (filled t) (filledF ts) w in
+    fields-exact (fcons t ts) w ρ R = let p = both (filled t) (filledF ts) w in
         both-exact {a = cutWords (valueOf d t ρ)} {b = words (valueOf d t ρ)} {c = cutWordsL (values raw (tablesIn d) ts ρ)} {d = wordsL (values raw (tablesIn d) ts ρ)}
         (form-whole t (p .0) ρ R .exact) (fields-exact ts (p .1) ρ R)
 

@@ -4,6 +4,7 @@ use mathlib.Core.Bool.{Bool, true, false}
 use mathlib.Core.List.{List, _∷_}
 use Prim.Native.Nat.{ℕ, zero, suc, _+_, _-_, _^_, _≤_, _<_}
 use native.Mathlib.Omega.{arith}
+use native.Mathlib.Nat.{suc-add}
 use lib.Dec.{T, ltb}
 use lib.ListN.{length, getD, drop, length-drop}
 use lib.Seq.{drop-drop, getD-drop}
@@ -14,7 +15,7 @@ use mir.Val.{SFits, Fits, toZ, ofZ}
 use mir.Facts.{toZ-ofZ, sfits-lit}
 use borrow.Author.Tests.{lt-ltb, le-ltb, ltb-true, ltb-false}
 use Rattle.spec_calculus.specs.Lists.{pick}
-use Rattle.base_signed.proofs.SignedWords.{lt-is, by-test}
+use Rattle.base_signed.proofs.SignedWords.{lt-is, by-test, no}
 use Rattle.base_buffer.specs.TotalReads.{wordAt, natOf, least, countAt, behind, times}
 
 -- ---- steps
@@ -37,10 +38,7 @@ times-none (suc n) F p l = absurd (omega arith)
 pub times-some : (n : ℕ) (F : ℕ → ℕ) (p : ℕ) → 0 < n → times n F p ≡ times (n - 1) F (F p)
 unfolding times
 times-some zero F p l = absurd (omega arith)
-times-some (suc n) F p l = ap (λ (m : ℕ). times m F (F p)) (less n)
-  where
-    less : (k : ℕ) → k ≡ suc k - 1
-    less k = omega arith
+times-some (suc n) F p l = let e : n ≡ suc n - 1 = omega arith in ap (λ (m : ℕ). times m F (F p)) e
 
 pub times-sum : (m n : ℕ) (F : ℕ → ℕ) (p : ℕ) → times n F (times m F p) ≡ times (m + n) F p
 unfolding times
@@ -48,10 +46,7 @@ times-sum zero n F p = ap (λ (k : ℕ). times k F p) (none n)
   where
     none : (k : ℕ) → k ≡ 0 + k
     none k = omega arith
-times-sum (suc m) n F p = times-sum m n F (F p) ∙ ap (λ (k : ℕ). times k F p) (more m n)
-  where
-    more : (j k : ℕ) → suc (j + k) ≡ suc j + k
-    more j k = omega arith
+times-sum (suc m) n F p = times-sum m n F (F p) ∙ ap (λ (k : ℕ). times k F p) (sym (suc-add m n))
 
 pub times-within : (n : ℕ) (F : ℕ → ℕ) (L : ℕ) → ((q : ℕ) → q ≤ L → F q ≤ L) → (p : ℕ) → p ≤ L → times n F p ≤ L
 unfolding times
@@ -82,16 +77,13 @@ ahead-cut w p (suc n) l m =
     (λ e. let h = ltb-false p (length w) e in omega (arith, ahead-out w p n h, ap (times n (behind w)) (behind-out w p h)))
 
 -- ---- tally
-pub clash : {P : Type 0} → true ≡ false → P
-clash e = let z : _≡_ {A = ℕ} 0 1 = cc in absurd (omega arith)
-
 negative : (z : ℤ) → ltZ z (pos 0) ≡ true → 0 ≡ natOf z
 negative (pos n) e = absurd (omega (arith, ltb-true n 0 e))
 negative (negsuc n) e = refl
 
 natural : (z : ℤ) → SFits w64 z → ltZ z (pos 0) ≡ false → (natAbs z ≡ natOf z) × T (nonNeg z) × (natAbs z < 2 ^ 63)
 natural (pos n) f e = (refl, tt, f .sfits)
-natural (negsuc n) f e = clash e
+natural (negsuc n) f e = no e
 
 -- z: the word as it was read into a local
 module _ (z : ℤ) (f : SFits w64 z) where

@@ -2,11 +2,12 @@
 use native.Mathlib.Omega.{arith}
 use mathlib.Core.Path.{_≡_, refl, sym, ap, ap₂, _∙_}
 use mathlib.Core.List.{List, [], _∷_}
-use mathlib.Core.Bool.{Bool, true, false, not, _&&_, true≢false}
+use mathlib.Core.Bool.{Bool, true, false, not, _&&_}
 use Prim.Native.Nat.{ℕ, zero, suc, _+_, _≤_, _<_}
 use borrow.Author.Tests.{leb-true, le-leb, lt-leb}
 use lib.Dec.{leb}
 use lib.ListN.{length, getD, drop}
+use Rattle.spec_calculus.proofs.Truths.{both, not-true, not-false}
 use Rattle.spec_outcome.specs.Rota.{quotaFits, quotasFit, rotaFits}
 
 -- ---- quota_fits
@@ -33,14 +34,6 @@ quotas-end [] (suc i) l = refl
 quotas-end (q ∷ qs) zero l = absurd (omega arith)
 quotas-end (q ∷ qs) (suc i) l = quotas-end qs i (omega arith)
 
-untrue : (b : Bool) → not b ≡ true → b ≡ false
-untrue true h = sym h
-untrue false h = refl
-
-unfalse : (b : Bool) → not b ≡ false → b ≡ true
-unfalse true h = refl
-unfalse false h = sym h
-
 module _ (qs : List ℕ) where
   pub rota-empty : length qs ≡ 0 → false ≡ rotaFits qs
   unfolding rotaFits
@@ -58,31 +51,27 @@ module _ (qs : List ℕ) where
   -- the quota at i ends it, or leaves it to those behind
   module _ (i : ℕ) (inv : rotaFits qs ≡ quotasFit (drop i qs)) (l : i < length qs) {b : Bool} (e : b ≡ quotaFits (getD qs i 0)) where
     pub rota-stops : not b ≡ true → false ≡ rotaFits qs
-    rota-stops h = sym (inv ∙ quotas-next qs i l ∙ ap (λ t. t && quotasFit (drop (suc i) qs)) (sym e ∙ untrue b h))
+    rota-stops h = sym (inv ∙ quotas-next qs i l ∙ ap (λ t. t && quotasFit (drop (suc i) qs)) (sym e ∙ not-true b h))
 
     pub rota-goes : not b ≡ false → rotaFits qs ≡ quotasFit (drop (i + 1) qs)
     rota-goes h =
         let n : suc i ≡ i + 1 = omega arith in
-        inv ∙ quotas-next qs i l ∙ ap (λ t. t && quotasFit (drop (suc i) qs)) (sym e ∙ unfalse b h) ∙ ap (λ k. quotasFit (drop k qs)) n
+        inv ∙ quotas-next qs i l ∙ ap (λ t. t && quotasFit (drop (suc i) qs)) (sym e ∙ not-false b h) ∙ ap (λ k. quotasFit (drop k qs)) n
 
   pub rota-ends : (i : ℕ) → rotaFits qs ≡ quotasFit (drop i qs) → length qs ≤ i → true ≡ rotaFits qs
   rota-ends i inv l = sym (inv ∙ quotas-end qs i l)
 
 -- ---- what a rota that fits says of its quotas
-and-both : (a b : Bool) → a && b ≡ true → (a ≡ true) × (b ≡ true)
-and-both true b h = (refl, h)
-and-both false b h = absurd (true≢false (sym h))
-
 quotas-each : (qs : List ℕ) (i : ℕ) → quotasFit qs ≡ true → i < length qs → quotaFits (getD qs i 0) ≡ true
 unfolding quotasFit
 quotas-each [] i h l = absurd (omega arith)
-quotas-each (q ∷ qs) zero h l = and-both (quotaFits q) (quotasFit qs) h .0
-quotas-each (q ∷ qs) (suc i) h l = quotas-each qs i (and-both (quotaFits q) (quotasFit qs) h .1) (omega arith)
+quotas-each (q ∷ qs) zero h l = both (quotaFits q) (quotasFit qs) h .0
+quotas-each (q ∷ qs) (suc i) h l = quotas-each qs i (both (quotaFits q) (quotasFit qs) h .1) (omega arith)
 
 -- "a quota of 1 to 1,000"
 pub quota-within : (qs : List ℕ) (i : ℕ) → rotaFits qs ≡ true → i < length qs → (1 ≤ getD qs i 0) × (getD qs i 0 ≤ 1000)
 unfolding rotaFits quotaFits
 quota-within qs i h l =
-    let f = and-both (leb (length qs) 4) (quotasFit qs) (and-both (leb 1 (length qs)) (leb (length qs) 4 && quotasFit qs) h .1) .1 in
-    let q = and-both (leb 1 (getD qs i 0)) (leb (getD qs i 0) 1000) (quotas-each qs i f l) in
+    let f = both (leb (length qs) 4) (quotasFit qs) (both (leb 1 (length qs)) (leb (length qs) 4 && quotasFit qs) h .1) .1 in
+    let q = both (leb 1 (getD qs i 0)) (leb (getD qs i 0) 1000) (quotas-each qs i f l) in
     (leb-true 1 (getD qs i 0) (q .0), leb-true (getD qs i 0) 1000 (q .1))

@@ -1,2 +1,3 @@
 -- Laws of signed words.
 pub mod SignedWords
+pub mod Limit

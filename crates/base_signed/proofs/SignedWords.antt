@@ -159,6 +159,14 @@ module _ {a b : ℤ} (fa : SFits w64 a) (fb : SFits w64 b) where
   pub eq-no : (ofZ w64 a ≡ ofZ w64 b → ⊥) → eqZ a b ≡ false
   eq-no h = eqZ-no a b (ne-is fa fb h)
 
+-- a word tested for 0
+module _ {a : ℤ} (f : SFits w64 a) where
+  pub zero-yes : ofZ w64 a ≡ ofZ w64 (pos 0) → eqZ a (pos 0) ≡ true
+  zero-yes e = eq-yes f (sfits-lit {z = pos 0} tt) e
+
+  pub zero-no : (ofZ w64 a ≡ ofZ w64 (pos 0) → ⊥) → eqZ a (pos 0) ≡ false
+  zero-no h = eq-no f (sfits-lit {z = pos 0} tt) h
+
 pub same-is : {a b : ℤ} → SFits w64 a → SFits w64 b → eqb (ofZ w64 a) (ofZ w64 b) ≡ eqZ a b
 same-is {a} {b} fa fb =
     by-test

@@ -2,7 +2,6 @@
 -- itself, for max and min "nothing yet" before it, the truth as 0 or 1, or how many heads a collection was made of: equal heads of a set all count.
 use mathlib.Core.Bool.{Bool, true, false}
 use Prim.Native.Nat.{ℕ, _+_, _^_}
-use lib.Dec.{ltb}
 use lib.IntN.{ℤ, pos, _+ℤ_}
 use lib.Signed.{ltZ}
 use Rattle.spec_calculus.specs.Lists.{pick}
@@ -11,7 +10,7 @@ use Rattle.spec_calculus.specs.Syntax as Sy
 use Rattle.spec_calculus.specs.Value.{Value, num, truth, rec, coll, count, eqZ}
 use Rattle.base_syntax.specs.declared.Monoid.{Monoid}
 use Rattle.base_syntax.specs.declared.Monoid.the-variants.{List, Bag, Set, Sum, Max, Some, All, Min}
-use Rattle.base_signed.specs.Limit.{numberLimit}
+use Rattle.base_signed.specs.Limit.{numberLimit, bumpTo}
 
 -- the monoid that each case of the enum is
 abbrev pub monoidOf : Monoid → Sy.Monoid
@@ -82,5 +81,5 @@ soFarWord (rec vs) = noneWord
 soFarWord (coll vs) = noneWord
 
 -- a collection's count with one more head; from 2^62 on it stays
-unfoldable pub oneMore : ℕ → ℕ
-oneMore n = pick (ltb n numberLimit) (n + 1) n
+abbrev pub oneMore : ℕ → ℕ
+oneMore n = bumpTo numberLimit n

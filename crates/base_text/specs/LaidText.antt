@@ -1,17 +1,18 @@
 -- Laying elements into a buffer, one behind the other, but none at or behind a limit. Places stop at 2^63: no slice is longer.
 use mathlib.Core.Path.{_≡_}
 use mathlib.Core.List.{List, [], _∷_}
-use Prim.Native.Nat.{ℕ, _+_, _<_}
+use Prim.Native.Nat.{ℕ, _<_}
 use lib.Dec.{ltb}
 use lib.ListN.{set}
+use Rattle.base_signed.specs.Limit.{bumpTo}
 use Rattle.spec_calculus.specs.Lists.{pick}
 
 -- 2^63
 abbrev pub big : ℕ
 big = 9223372036854775808
 
-unfoldable pub bump : ℕ → ℕ
-bump p = pick (ltb p big) (p + 1) p
+abbrev pub bump : ℕ → ℕ
+bump p = bumpTo big p
 
 -- the buffer, and the place of the next element
 pub data Point (A : Type 0) : Type 0 where

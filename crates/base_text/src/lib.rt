@@ -2,11 +2,9 @@
 // behind it is its length.
 ghost use mathlib.Core.Path.{_≡_};
 ghost use mathlib.Core.List.{_∷_, []};
-ghost use Prim.Native.Nat.{_<_};
-ghost use lib.IntN.{pos, natAbs};
-ghost use lib.Signed.{_<ℤ_, _≤ℤ_, mag};
 ghost use Rattle.spec_plan.specs.Lines.{digits, signedDecimal};
 ghost use Rattle.base_text.specs.LaidText.{bump, laid, Lays, Text};
+use base_signed::magnitude;
 
 // One more, at most 2^63: nothing wraps.
 fn more(p: usize) -> usize
@@ -56,40 +54,13 @@ pub fn decimal(text: &mut [u8], limit: usize, p: usize, n: usize) -> usize
     put(text, limit, q, (48 + n % 10) as u8)
 }
 
-// A number that is not negative.
-fn natural(x: i64) -> usize
-    requires { ⌜ pos 0 ≤ℤ x ⌝ }
-    ensures { λ r. ⌜ pos r ≡ x ⌝ }
-    ensures { λ r. ⌜ r < 9223372036854775809 ⌝ }
-{
-    x as usize
-}
-
-// -1 - x of a negative x: the least number has no opposite.
-fn flipped(x: i64) -> i64
-    requires { ⌜ x <ℤ pos 0 ⌝ }
-    ensures { λ r. ⌜ r ≡ pos (mag x) ⌝ }
-{
-    -1 - x
-}
-
-fn magnitude(x: i64) -> usize
-    ensures { λ r. ⌜ r ≡ natAbs x ⌝ }
-{
-    if x < 0 {
-        natural(flipped(x)) + 1
-    } else {
-        natural(x)
-    }
-}
-
 // A word, with a minus before it where it is negative.
 pub fn signed(text: &mut [u8], limit: usize, p: usize, x: i64) -> usize
     ensures { λ r. ⌜ Lays limit (signedDecimal x) (now (text .entry)) p (now (text .exit)) r ⌝ }
 {
     if x < 0 {
         let q = put(text, limit, p, b'-');
-        return decimal(text, limit, q, magnitude(x));
+        return decimal(text, limit, q, magnitude(x) as usize);
     }
-    decimal(text, limit, p, magnitude(x))
+    decimal(text, limit, p, magnitude(x) as usize)
 }

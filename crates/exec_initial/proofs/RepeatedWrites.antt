@@ -10,8 +10,9 @@ use lib.ListN.{length, getD, set, length-append}
 use lib.Seq.{set-getD, getD-append-seam}
 use Rattle.spec_calculus.specs.Lists.{pick}
 use Rattle.base_signed.proofs.SignedWords.{by-test}
+use Rattle.base_signed.proofs.Limit.{bump-min}
 use Rattle.answer_writer.specs.LaidWords.{big, bump, laid, pt, lays}
-use Rattle.answer_writer.proofs.LaidWords.{bump-min, laid-in, laid-limit}
+use Rattle.answer_writer.proofs.LaidWords.{laid-in, laid-limit}
 use Rattle.plan_machine.specs.AnswerText.{put, puts, Written}
 use Rattle.plan_machine.proofs.TextEdits.{put-off}
 

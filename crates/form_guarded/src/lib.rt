@@ -3,42 +3,14 @@
 ghost use mathlib.Core.Path.{_≡_};
 ghost use Prim.Native.Nat.{_+_, _*_, _<_, _^_};
 ghost use lib.Dec.{leb};
-ghost use lib.IntN.{pos, natAbs};
-ghost use lib.Signed.{mag, _<ℤ_, _≤ℤ_};
 ghost use Rattle.base_syntax.specs.MonoidWord.{monoidOf};
 ghost use Rattle.base_syntax.specs.Numbers.{binOf};
 ghost use Rattle.form_arith.specs.WordSorts.{operateBound};
 ghost use Rattle.form_guarded.specs.GuardedWords.{mergeRoom, OperatePost, MergePost};
 use base_signed::NUMBER_LIMIT;
+use base_signed::magnitude;
 use base_syntax::Monoid;
 use base_syntax::Op;
-
-// A number that is not negative.
-fn natural(x: i64) -> u64
-    requires { ⌜ pos 0 ≤ℤ x ⌝ }
-    ensures { λ r. ⌜ pos r ≡ x ⌝ }
-    ensures { λ r. ⌜ r < 9223372036854775809 ⌝ }
-{
-    x as u64
-}
-
-// -1 - x of a negative x: the least number has no opposite.
-fn flipped(x: i64) -> i64
-    requires { ⌜ x <ℤ pos 0 ⌝ }
-    ensures { λ r. ⌜ r ≡ pos (mag x) ⌝ }
-{
-    -1 - x
-}
-
-fn magnitude(x: i64) -> u64
-    ensures { λ r. ⌜ r ≡ natAbs x ⌝ }
-{
-    if x < 0 {
-        natural(flipped(x)) + 1
-    } else {
-        natural(x)
-    }
-}
 
 fn sum_fits(x: u64, y: u64) -> bool
     ensures { λ r. ⌜ r ≡ leb (x + y) (2 ^ 62) ⌝ }

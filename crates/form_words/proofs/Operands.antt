@@ -108,3 +108,8 @@ module _ {s : List ℕ} {i : ℕ} {o : Fun} {e : ℕ} (L : Looks s i (Operator o
 
   pub truth-behind : {j : ℕ} → j ≡ uptoPlace (i + 1) e → i < j
   truth-behind h = subst (λ (x : ℕ). i < x) (sym h) (operand-behind 0)
+
+  pub branch-past : {j : ℕ} (b : Bool) → j ≡ branchPlace s (i + 1) e b → i < j
+  unfolding pick
+  branch-past true h = subst (λ (x : ℕ). i < x) (sym h) (operand-behind 2)
+  branch-past false h = subst (λ (x : ℕ). i < x) (sym h) (operand-behind 1)

@@ -1,7 +1,7 @@
 -- One law for each way out of the front end.
 use mathlib.Core.Path.{_≡_, refl, sym, subst, _∙_}
 use mathlib.Core.List.{List}
-use mathlib.Core.Bool.{Bool, true, false, not}
+use mathlib.Core.Bool.{Bool, true, false}
 use Prim.Native.Nat.{ℕ, _+_, _-_, _≤_, _<_}
 use native.Mathlib.Omega.{arith}
 use lib.ListN.{length}
@@ -31,14 +31,6 @@ use Rattle.front_end.specs.declared.FrontResult.the-variants as FrontRes
 use Rattle.front_end.proofs.QuestionLimits.{question-given}
 use Rattle.front_end.proofs.PassChain.{apart-then, binders-away, names-said, made-ready, ready-checked, judges-away, judges-ready}
 use Rattle.front_end.proofs.MeasuredRoot.{after, size-said, root-form, root-writable}
-
-pub off : (a : Bool) → not a ≡ true → a ≡ false
-off true h = sym h
-off false h = refl
-
-pub on : (a : Bool) → not a ≡ false → a ≡ true
-on true h = refl
-on false h = sym h
 
 -- ---- 27
 module _ {s r : List ℕ} {n : ℕ} (M : MeasurePost s n r) (few : n ≤ 256) where

@@ -10,6 +10,7 @@ use borrow.Author.Tests.{ltb-true, ltb-false, lt-ltb, eqb-true}
 use Rattle.spec_calculus.specs.Lists.{pick}
 use Rattle.spec_calculus.specs.Syntax.{Collection}
 use Rattle.spec_calculus.specs.Syntax as Sy
+use Rattle.spec_calculus.proofs.Truths.{both}
 use Rattle.base_syntax.specs.declared.Monoid.{Monoid}
 use Rattle.base_syntax.specs.MonoidWord.{monoidOf}
 use Rattle.spec_normal_form.specs.Normal.{Sem, nothing, idempotent, givesWay}
@@ -242,10 +243,6 @@ row-fuel zero (suc g) s d e p q = sym (row-zero g s d e (omega arith))
 row-fuel (suc f) zero s d e p q = row-zero f s d e (omega arith)
 row-fuel (suc f) (suc g) s d e p q = ap (λ (l : List ℕ). pick (ends s d e) (l ++ ((e - 1) ∷ [])) []) (row-fuel f g s d (startAt s (e - 1)) (omega arith) (omega arith))
 
-and-true : (a b : Bool) → a && b ≡ true → (a ≡ true) × (b ≡ true)
-and-true true b p = (refl, p)
-and-true false b p = absurd (no-both p refl)
-
 pub record Ends (s : List ℕ) (d e : ℕ) : Type 0 where
   pub some : 0 < e
   pub depth : depthAt s (e - 1) ≡ d
@@ -254,8 +251,8 @@ pub record Ends (s : List ℕ) (d e : ℕ) : Type 0 where
 pub ends-at : (s : List ℕ) (d e : ℕ) → ends s d e ≡ true → Ends s d e
 unfolding ends
 ends-at s d e p =
-    let a = and-true (ltb 0 e) (eqb (depthAt s (e - 1)) d && qualifies (nodesOf s (e - 1))) p in
-    let b = and-true (eqb (depthAt s (e - 1)) d) (qualifies (nodesOf s (e - 1))) (a .1) in
+    let a = both (ltb 0 e) (eqb (depthAt s (e - 1)) d && qualifies (nodesOf s (e - 1))) p in
+    let b = both (eqb (depthAt s (e - 1)) d) (qualifies (nodesOf s (e - 1))) (a .1) in
     record { some = ltb-true 0 e (a .0); depth = eqb-true (depthAt s (e - 1)) d (b .0); kind = b .1 }
 
 -- a row by its last qualifier

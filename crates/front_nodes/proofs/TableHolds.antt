@@ -1,13 +1,14 @@
 -- Words in which a question lies are read as a table that holds it.
 use mathlib.Core.Path.{_≡_, refl, sym, ap, ap₂, subst, _∙_}
 use mathlib.Core.List.{List, [], _∷_, _++_, append-assoc, append-nil}
-use mathlib.Core.Bool.{Bool, true, false, _&&_, and-eq-true-iff}
+use mathlib.Core.Bool.{Bool, true, false}
 use Prim.Native.Nat.{ℕ, suc, _+_, _-_, _<_, _≤_}
 use native.Mathlib.Omega.{arith}
 use lib.Dec.{eqb, ltb}
 use borrow.Author.Tests.{lt-ltb, le-leb, eqb-true}
 use Rattle.spec_calculus.specs.Lists.{pick, upd}
 use Rattle.spec_calculus.specs.Syntax.{choice, Term, Terms, Quals, num, truth, name, field, rec, bin, negate, app, comp, table, tnil, tcons, qnil, gen, bind, cond, Question, asTerm}
+use Rattle.spec_calculus.proofs.Truths.{both}
 use Rattle.spec_checks.specs.Scope.{Scope, inScope, inScopes, inScopeQ, distinct, binders, namesHold}
 use Rattle.spec_encoding.specs.Reader.{Kind, comprehension}
 use Rattle.front_words.specs.NodeTree.{numberOf, monoidAt, argAt, startAt}
@@ -128,9 +129,6 @@ binds s a b y D x S σ l h w d A z = go (eqb x z) refl
     go false p = rw (p, upd) (λ q. later s a b S σ l A z q)
 
 -- ---- the whole
-both : (a b : Bool) → a && b ≡ true → (a ≡ true) × (b ≡ true)
-both a b h = and-eq-true-iff a b .0 h
-
 pub node-at : {s : List ℕ} {d a i j : ℕ} {K : Kind} → j ≡ i → Node s d a j K → Node s d a i K
 node-at {s} {d} {a} {K = K} e N = subst (λ (x : ℕ). Node s d a x K) e N
 

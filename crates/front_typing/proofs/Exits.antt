@@ -5,9 +5,9 @@ use mathlib.Core.Bool.{Bool, true, false, _&&_, and-true, and-false, and-assoc}
 use Prim.Native.Nat.{ℕ, zero, suc, _+_, _-_, _/_, _%_, _≤_, _<_}
 use native.Mathlib.Numerals.{add-one}
 use native.Mathlib.Omega.{arith}
-use lib.Dec.{ltb, leb}
+use lib.Dec.{ltb}
 use lib.ListN.{length, getD, set as put, length-set}
-use borrow.Author.Tests.{lt-ltb, lt-leb, le-leb, leb-false}
+use borrow.Author.Tests.{lt-ltb}
 use types.Run.{OneOf, miss}
 use denote.Enum.Declared.{tagOf}
 use Rattle.front_nodes.proofs.QueryNode as node
@@ -20,8 +20,9 @@ use Rattle.front_nodes.specs.declared.QueryNode.{QueryNode}
 use Rattle.front_nodes.specs.declared.QueryNode.the-variants as No
 use Rattle.front_nodes.specs.declared.Found.{Found}
 use Rattle.front_nodes.specs.declared.Found.the-variants.{At, Nothing}
-use Rattle.front_nodes.specs.NodeTable.{siblings, childrenOf, chainUpto, chain, qualifiersOf, nodesOf}
+use Rattle.front_nodes.specs.NodeTable.{siblings, childrenOf, chain, qualifiersOf, nodesOf}
 use Rattle.front_nodes.specs.Look.{nodeNamed, LookPost, nth, ChildPost}
+use Rattle.front_nodes.proofs.QualifierChain.{chain-none, chain-more}
 use Rattle.base_syntax.specs.declared.Monoid.{Monoid}
 use Rattle.base_syntax.specs.declared.Monoid.the-variants as Mo
 use Rattle.base_syntax.specs.MonoidWord.{monoidOf}
@@ -432,30 +433,6 @@ module _ (J : Rule) (I : Known) (N : Nodes) (σ : ℕ → TypeHead) (m : Sy.Mono
 pub qual-other : (b : Bool) (m : Sy.Monoid) {s : List ℕ} {c : ℕ} {n : QueryNode} → LookPost s c n → OneOf terms (tagOf node.the-type n) → false ≡ qualFitsAt b s m c
 qual-other b m {s} {c} {n} H h = no-qual (rules b) (knownIn s) (nodesOf s) (shapesIn s) m s c n h ∙ ap (qualFits (rules b) (knownIn s) (nodesOf s) (shapesIn s) m) (sym (H .is))
 
--- steps to spare change nothing
-chain-enough : (f g : ℕ) (s : List ℕ) (lo e : ℕ) → e ≤ f → e ≤ g → chainUpto f s lo e ≡ chainUpto g s lo e
-unfolding chainUpto pick
-chain-enough zero zero s lo e a b = refl
-chain-enough zero (suc g) s lo e a b = rw (le-leb e lo (omega arith))
-chain-enough (suc f) zero s lo e a b = rw (le-leb e lo (omega arith))
-chain-enough (suc f) (suc g) s lo e a b = go (leb e lo) refl (λ h. chain-enough f g s lo (startAt s (e - 1)) (omega arith) (omega arith))
-  where
-    go : (t : Bool) → leb e lo ≡ t → (lo < e → chainUpto f s lo (startAt s (e - 1)) ≡ chainUpto g s lo (startAt s (e - 1))) →
-        pick t [] (chainUpto f s lo (startAt s (e - 1)) ++ ((e - 1) ∷ [])) ≡ pick t [] (chainUpto g s lo (startAt s (e - 1)) ++ ((e - 1) ∷ []))
-    go true p h = refl
-    go false p h = ap (λ l. l ++ ((e - 1) ∷ [])) (h (leb-false e lo p))
-
-chain-next : (s : List ℕ) (lo e : ℕ) → lo < e → chain s lo e ≡ chain s lo (startAt s (e - 1)) ++ ((e - 1) ∷ [])
-unfolding chainUpto pick
-chain-next s lo zero h = absurd (omega arith)
-chain-next s lo (suc e) h =
-    rw (lt-leb (suc e) lo h) (ap (λ l. l ++ ((suc e - 1) ∷ [])) (chain-enough e (startAt s (suc e - 1)) s lo (startAt s (suc e - 1)) (omega arith) (omega arith)))
-
-chain-end : (s : List ℕ) (lo e : ℕ) → e ≤ lo → chain s lo e ≡ []
-unfolding chainUpto pick
-chain-end s lo zero h = refl
-chain-end s lo (suc e) h = rw (le-leb (suc e) lo h)
-
 abbrev pub fitting : Rule → List ℕ → Sy.Monoid → List ℕ → Bool
 fitting J s m l = qualsFit J (knownIn s) (nodesOf s) (shapesIn s) m l
 
@@ -471,7 +448,7 @@ module _ {J : Rule} {s : List ℕ} {m : Sy.Monoid} {i : ℕ} where
     next : fitting J s m (chain s (startAt s i) e) ≡ fitting J s m (chain s (startAt s i) (startAt s (e - 1))) && b
     unfolding qualsFit
     next =
-        ap (fitting J s m) (chain-next s (startAt s i) e (omega arith)) ∙ quals-append J (knownIn s) (nodesOf s) (shapesIn s) m (chain s (startAt s i) (startAt s (e - 1))) ((e - 1) ∷ []) ∙
+        ap (fitting J s m) (chain-more s (startAt s i) e (omega arith)) ∙ quals-append J (knownIn s) (nodesOf s) (shapesIn s) m (chain s (startAt s i) (startAt s (e - 1))) ((e - 1) ∷ []) ∙
         ap (λ x. fitting J s m (chain s (startAt s i) (startAt s (e - 1))) && x) (and-true (qualFits J (knownIn s) (nodesOf s) (shapesIn s) m (nodesOf s (e - 1))) ∙ sym pb)
 
     pub quals-on : b ≡ true → {d : ℕ} → d ≡ startAt s (e - 1) → Quals J s m i d
@@ -486,7 +463,7 @@ module _ {J : Rule} {s : List ℕ} {m : Sy.Monoid} {i : ℕ} where
 
   pub quals-end : {first e : ℕ} → Quals J s m i e → first ≡ startAt s i → e ≤ first → true ≡ fitting J s m (qualifiersOf s i)
   unfolding qualsFit
-  quals-end {first} {e} W pf h = sym (W .is ∙ ap (fitting J s m) (chain-end s (startAt s i) e (omega arith)))
+  quals-end {first} {e} W pf h = sym (W .is ∙ ap (fitting J s m) (chain-none s (startAt s i) e (omega arith)))
 
 -- ---- the nodes in turn
 pub shaped-next : (b : Bool) (s : List ℕ) (i : ℕ) {t u : List ℕ} {w : ℕ} {a : TypeHead} → t ≡ shapedUpTo b s i → a ≡ shapeOf b t i → w ≡ shapeWord a → u ≡ put t (shapesAt + i) w → u ≡ shapedUpTo b s (i + 1)

@@ -11,7 +11,8 @@ use Rattle.spec_calculus.specs.Lists.{pick}
 use Rattle.spec_calculus.specs.Syntax as Sy
 use Rattle.spec_calculus.specs.Syntax.{Collection, Monoid, of, sum, max, some, all, Bin, plus, minus, times, equal, less, and, or, Fun, choice}
 use Rattle.spec_calculus.specs.Value.{Tables, kindOf, columnsOf}
-use Rattle.spec_checks.specs.Types.{Ty, Tys, number, truth, record′, coll, ynil, ycons, Typed, wrong, has, Typeds, wrongs, hass, cells, typeAt, fieldType, ofNumber, ofTruth, binType, ofThree, choiceType, appType, gathers, compType, ranges, typedAs, record″, allTyped, consType, isTyped}
+use Rattle.spec_checks.specs.Types.{Ty, Tys, number, truth, record′, coll, ynil, Typed, wrong, has, Typeds, wrongs, hass, cells, typeAt, fieldType, ofNumber, ofTruth, binType, ofThree, choiceType, appType, gathers, compType, ranges, typedAs, record″, allTyped, consType, isTyped}
+use Rattle.spec_checks.proofs.Judgement.{cons-typed}
 use Rattle.front_theory.specs.NodeTable.{Node, Nodes, nnum, ntruth, nname, nfield, nrec, nbin, nnegate, napp, ncomp, ntable, ngen, nbind, ncond, nbad, Below, Inside, PostOrder}
 use Rattle.front_typing.specs.declared.TypeHead.{TypeHead}
 use Rattle.front_typing.specs.declared.TypeHead.the-variants.{Wrong, Number, Truth, Record, Row, Table, Coll}
@@ -61,12 +62,6 @@ cons-is (has v) (hass ts) = refl
 
 no-parts : (ts : Tys) → hass ynil ≡ hass ts → ts ≡ ynil
 no-parts ts e = cc
-
-cons-from : (u : Typed) (r : Typeds) (ts : Tys) → consType u r ≡ hass ts → (v : Ty) × (ws : Tys) × (u ≡ has v) × (r ≡ hass ws) × (ts ≡ ycons v ws)
-unfolding consType
-cons-from wrong r ts e = absurd (let z : _≡_ {A = ℕ} 0 1 = cc in omega arith)
-cons-from (has v) wrongs ts e = absurd (let z : _≡_ {A = ℕ} 0 1 = cc in omega arith)
-cons-from (has v) (hass ws) ts e = (v, ws, refl, refl, cc)
 
 -- the type of a choice's second and third terms, where they are alike
 alike : Typed → Typed → Typed
@@ -389,11 +384,11 @@ module _ (J : Rule) (T : Tables) (N : Nodes) where
       unfolding partShape typesBy typeAt Below
       rep-part [] k ts b e = (ap (typeAt k) (no-parts ts e), tt)
       rep-part (c ∷ cs) zero ts b e =
-          let q = cons-from (τ c) (typesBy τ cs) ts e in
+          let q = cons-typed (τ c) (typesBy τ cs) ts e in
           let g = good c (b .0) in
           (subst (Rep (σ c)) (q .2 ∙ sym (ap (typeAt 0) (q .4))) (g .0), within-more i c (omega (arith, b .0)) (σ c) (g .1))
       rep-part (c ∷ cs) (suc k) ts b e =
-          let q = cons-from (τ c) (typesBy τ cs) ts e in
+          let q = cons-typed (τ c) (typesBy τ cs) ts e in
           let r = rep-part cs k (q .1) (b .1) (q .3) in
           (subst (Rep (partShape σ k cs)) (sym (ap (typeAt (suc k)) (q .4))) (r .0), r .1)
 

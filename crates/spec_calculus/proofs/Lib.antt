@@ -1,4 +1,5 @@
 -- Laws of the calculus.
+pub mod Truths
 pub mod Lists
 pub mod Cases
 pub mod Sorting

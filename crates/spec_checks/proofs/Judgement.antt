@@ -182,7 +182,7 @@ unfolding record″
 rec-typed wrongs τ e = untyped e
 rec-typed (hass us) τ e = (us, refl, same-type (record′ us) τ e)
 
-cons-typed : (s : Typed) (r : Typeds) (us : Tys) → consType s r ≡ hass us → (σ : Ty) × (ws : Tys) × (s ≡ has σ) × (r ≡ hass ws) × (us ≡ ycons σ ws)
+pub cons-typed : (s : Typed) (r : Typeds) (us : Tys) → consType s r ≡ hass us → (σ : Ty) × (ws : Tys) × (s ≡ has σ) × (r ≡ hass ws) × (us ≡ ycons σ ws)
 unfolding consType record″
 cons-typed wrong r us e = untyped (ap record″ e)
 cons-typed (has σ) wrongs us e = untyped (ap record″ e)

@@ -2,7 +2,7 @@
 -- 2^62 wherever 28 does not refuse.
 use mathlib.Core.Path.{_≡_, refl, sym, ap, subst, _∙_}
 use mathlib.Core.List.{List, [], _∷_, _++_, foldl}
-use mathlib.Core.Bool.{Bool, true, false, _&&_, and-eq-true-iff}
+use mathlib.Core.Bool.{Bool, true, false, _&&_}
 use Prim.Native.Nat.{ℕ, zero, suc, _+_, _*_, _^_, _≤_}
 use native.Mathlib.Nat.{le-refl, le-trans, mul-le-mul, mul-le-mul-right, mul-comm, mul-left-comm, zero-add, suc-mul, one-mul, pow-succ'}
 use native.Mathlib.Numerals.{one-add}
@@ -20,6 +20,7 @@ use Rattle.spec_calculus.specs.Meaning.{Env}
 use Rattle.spec_calculus.proofs.Lists.{All, all-bind, all-front, all-behind, all-guard}
 use Rattle.spec_calculus.proofs.Magnitude.{abs-plus, abs-minus, abs-times, abs-greater, abs-lesser, abs-against}
 use Rattle.spec_calculus.proofs.WellFormed.{Row, cell-small, row-no-number, WellFormed, rows-at-most, rows-well-formed}
+use Rattle.spec_calculus.proofs.Truths.{both}
 use Rattle.spec_normal_form.specs.Form.{Form, Forms, Clauses, NormalForm, asForm, num, truth, row, cell, rec, bin, negate, app, comp, fnil, fcons, done, gen, cond, value, values, loops}
 use Rattle.spec_normal_form.specs.Bound.{ownGens, binBound, larger, appBound, compBound, bound, bounds, within, withinF, withinC, numbersFit}
 
@@ -172,7 +173,7 @@ bin-bound less v w a b p q = omega arith
 bin-bound and v w a b p q = omega arith
 bin-bound or v w a b p q = omega arith
 
-larger-bounds : (a b : ℕ) → (a ≤ larger a b) × (b ≤ larger a b)
+pub larger-bounds : (a b : ℕ) → (a ≤ larger a b) × (b ≤ larger a b)
 unfolding larger pick
 larger-bounds a b = go (leb a b) refl
   where
@@ -193,11 +194,11 @@ choice-bound true v w a b p q = scalar-bound (larger a b) v (le-trans p (larger-
 choice-bound false v w a b p q = scalar-bound (larger a b) w (le-trans q (larger-bounds a b .1))
 
 -- each value within the bound at its position
-abbrev AllSmall : List ℕ → Values → Type 0
+abbrev pub AllSmall : List ℕ → Values → Type 0
 AllSmall bs vs = (i : ℕ) → Small (getD bs i 0) (nth i vs)
 
 -- What an operator makes of values within their bounds is within its bound.
-app-bound : (f : Fun) (bs : List ℕ) (vs : Values) → AllSmall bs vs → Small (appBound f bs) (appV f vs)
+pub app-bound : (f : Fun) (bs : List ℕ) (vs : Values) → AllSmall bs vs → Small (appBound f bs) (appV f vs)
 unfolding appV appBound choiceV
 app-bound choice bs vs h = choice-bound (asBool (nth 0 vs)) (nth 1 vs) (nth 2 vs) (getD bs 1 0) (getD bs 2 0) (h 1) (h 2)
 
@@ -273,9 +274,6 @@ module _ (E : Entry) {T : Tables} (W : WellFormed T) where
         (accumulated 0 (start m) (start-small m (foldBound m 0 (bound h))))
 
 -- ---- 28: what `within` says of a form it says of each part of it
-both : (a b : Bool) → a && b ≡ true → (a ≡ true) × (b ≡ true)
-both a b h = and-eq-true-iff a b .0 h
-
 -- A form that 28 lets pass has a bound of at most 2^62.
 pub within-bound : (f : Form) → within f ≡ true → bound f ≤ 2 ^ 62
 unfolding within bound

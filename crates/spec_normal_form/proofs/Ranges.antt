@@ -282,7 +282,7 @@ module _ (m : ℕ) where
 mutual
   unfolding gens nodes
 
-  two-each : (t : Form) → 2 * gens t + 1 ≤ nodes t
+  pub two-each : (t : Form) → 2 * gens t + 1 ≤ nodes t
   two-each (Nf.num z) = omega arith
   two-each (Nf.truth b) = omega arith
   two-each (Nf.row g) = omega arith

@@ -7,6 +7,7 @@ use native.Mathlib.Omega.{arith}
 use Rattle.spec_calculus.specs.Lists.{upd}
 use Rattle.spec_calculus.specs.Syntax.{Collection, list, bag, set, Monoid, of, sum, max, min, some, all, and, Term, Terms, Quals, name, field, rec, bin, comp, table, tnil, tcons, qnil, gen, bind, cond}
 use Rattle.spec_calculus.proofs.Lists.{upd-hit}
+use Rattle.spec_calculus.proofs.Truths.{or-right}
 use Rattle.spec_checks.specs.Scope.{Scope, inScope, binders, bindersQ}
 use Rattle.spec_checks.specs.Types.{mayStand}
 use Rattle.spec_normal_form.specs.Form.{done, _⊕_, gens, gensC}
@@ -36,10 +37,6 @@ or-absorbs true x y h = refl
 or-absorbs false true y h = sym (rw (h refl))
 or-absorbs false false true h = refl
 or-absorbs false false false h = refl
-
-or-true : (b y : Bool) → y ≡ true → (b || y) ≡ true
-or-true true y h = refl
-or-true false y h = h
 
 module _ (K : ℕ → Collection) where
   -- qualifiers in front of a rest: first their clauses, then the rest over what the head comes to behind them
@@ -146,5 +143,5 @@ module _ (K : ℕ → Collection) where
   rule-keeps (bare-table k x) δ = table-ok k x δ
   rule-keeps (and-condition m q₁ s t q₃ h) δ = comp-prefix m q₁ (cond (bin and s t) q₃) (cond s (cond t q₃)) h h (λ b ε n. and-walk (b || idempotent m) s t q₃ (λ μ. norm K h μ) ε n) δ
   rule-keeps (flat-generator S m q₁ x c q₂ t q₃ h v a u) δ = comp-prefix m q₁ (gen x (comp (of c) q₂ t) q₃) (q₂ ⊞ bind x t q₃) h h (λ b ε n. gen-walk S b m (of c) (may-stand-idempotent c m v) x q₂ t q₃ h a u ε n) δ
-  rule-keeps (some-condition S m q₁ q₂ t q₃ h v a u) δ = comp-prefix m q₁ (cond (comp some q₂ t) q₃) (q₂ ⊞ cond t q₃) h h (λ b ε n. some-walk S (b || idempotent m) (or-true b (idempotent m) v) q₂ t q₃ h a u ε n) δ
+  rule-keeps (some-condition S m q₁ q₂ t q₃ h v a u) δ = comp-prefix m q₁ (cond (comp some q₂ t) q₃) (q₂ ⊞ cond t q₃) h h (λ b ε n. some-walk S (b || idempotent m) (or-right b (idempotent m) v) q₂ t q₃ h a u ε n) δ
   rule-keeps (rename S m q₁ x y t q₃ h o u a) δ = comp-prefix m q₁ (gen x t q₃) (gen y t (subQ x (name y) q₃)) h (sub x (name y) h) (λ b ε n. rename-walk S (b || idempotent m) x y t q₃ h o u a ε n) δ

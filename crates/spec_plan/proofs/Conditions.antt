@@ -2,7 +2,7 @@
 -- stand before it.
 use mathlib.Core.Path.{_≡_, refl, sym, ap, ap₂, _∙_, fun-ext}
 use mathlib.Core.List.{List, [], _∷_, append-nil}
-use mathlib.Core.Bool.{Bool, true, false, _&&_, _||_, not, and-assoc, or-true, and-eq-true-iff}
+use mathlib.Core.Bool.{Bool, true, false, _&&_, _||_, not, and-assoc, and-eq-true-iff}
 use Prim.Native.Nat.{ℕ}
 use lib.Dec.{eqb, eqb→eq}
 use Rattle.spec_calculus.specs.Lists.{bindL, guard, pick, upd}
@@ -11,6 +11,7 @@ use Rattle.spec_calculus.specs.Value as Va
 use Rattle.spec_calculus.specs.Monoid.{Fold}
 use Rattle.spec_calculus.specs.Meaning.{Env}
 use Rattle.spec_calculus.proofs.Lists.{bind-ext, bind-guard, guard-guard, All, all-any, all-zip, all-imp, upd-other}
+use Rattle.spec_calculus.proofs.Truths.{or-right}
 use Rattle.spec_normal_form.specs.Form.{Form, Forms, Clauses, num, truth, row, cell, rec, bin, negate, app, comp, fnil, fcons, done, gen, cond, value, values, loops}
 use Rattle.spec_plan.specs.Operators.{sourceRows}
 use Rattle.spec_plan.specs.Planner.{free, mentions, mentionsF, mentionsC, Gen, from, fromUnit, source, gensOf, condsOf, orUnit, planGens, sift, early, late}
@@ -53,9 +54,6 @@ pull T (g ∷ gs) p X ρ h =
 or-l : (a b : Bool) → a ≡ true → (a || b) ≡ true
 or-l a b e = ap (λ x. x || b) e
 
-or-r : (a b : Bool) → b ≡ true → (a || b) ≡ true
-or-r a b e = ap (λ x. a || x) e ∙ or-true a
-
 and-mid : (a b c : Bool) → (a && (b && c)) ≡ (b && (a && c))
 and-mid true b c = refl
 and-mid false true c = refl
@@ -77,14 +75,14 @@ module _ (F : Fold) (T : Tables) where
     agree (cell i g) ρ σ a = ap (fieldOf i) (a g (eqb-self g))
     agree (rec ts) ρ σ a = ap Va.rec (agreeF ts ρ σ a)
     agree (app f ts) ρ σ a = ap (appV f) (agreeF ts ρ σ a)
-    agree (bin o s t) ρ σ a = ap₂ (binV o) (agree s ρ σ (λ x e. a x (or-l (mentions x s) (mentions x t) e))) (agree t ρ σ (λ x e. a x (or-r (mentions x s) (mentions x t) e)))
+    agree (bin o s t) ρ σ a = ap₂ (binV o) (agree s ρ σ (λ x e. a x (or-l (mentions x s) (mentions x t) e))) (agree t ρ σ (λ x e. a x (or-right (mentions x s) (mentions x t) e)))
     agree (negate t) ρ σ a = ap notV (agree t ρ σ a)
     agree (comp m q h) ρ σ a = ap (F m) (agreeC q (λ x. mentions x h) (λ τ. value F T h τ ∷ []) (λ τ υ b. ap (λ v. v ∷ []) (agree h τ υ b)) ρ σ
-        (λ x e. a x (or-l (mentionsC x q) (mentions x h) e)) (λ x e. a x (or-r (mentionsC x q) (mentions x h) e)))
+        (λ x e. a x (or-l (mentionsC x q) (mentions x h) e)) (λ x e. a x (or-right (mentionsC x q) (mentions x h) e)))
 
     agreeF : (ts : Forms) (ρ σ : Env) → ((x : ℕ) → mentionsF x ts ≡ true → ρ x ≡ σ x) → values F T ts ρ ≡ values F T ts σ
     agreeF fnil ρ σ a = refl
-    agreeF (fcons t ts) ρ σ a = ap₂ vcons (agree t ρ σ (λ x e. a x (or-l (mentions x t) (mentionsF x ts) e))) (agreeF ts ρ σ (λ x e. a x (or-r (mentions x t) (mentionsF x ts) e)))
+    agreeF (fcons t ts) ρ σ a = ap₂ vcons (agree t ρ σ (λ x e. a x (or-l (mentions x t) (mentionsF x ts) e))) (agreeF ts ρ σ (λ x e. a x (or-right (mentions x t) (mentionsF x ts) e)))
 
     agreeC : (q : Clauses) (S : ℕ → Bool) (K : Env → List Value) → ((τ υ : Env) → ((x : ℕ) → S x ≡ true → τ x ≡ υ x) → K τ ≡ K υ) → (ρ σ : Env)
         → ((x : ℕ) → mentionsC x q ≡ true → ρ x ≡ σ x) → ((x : ℕ) → S x ≡ true → ρ x ≡ σ x) → loops F T q K ρ ≡ loops F T q K σ
@@ -92,7 +90,7 @@ module _ (F : Fold) (T : Tables) where
     agreeC (gen g n q) S K k ρ σ a b = bind-ext (rowsOf T n) (λ v. loops F T q K (upd g v ρ)) (λ v. loops F T q K (upd g v σ))
         (λ v. agreeC q S K k (upd g v ρ) (upd g v σ) (λ x e. upd-agree g v ρ σ x (a x e)) (λ x e. upd-agree g v ρ σ x (b x e)))
     agreeC (cond t q) S K k ρ σ a b = ap₂ guard (ap asBool (agree t ρ σ (λ x e. a x (or-l (mentions x t) (mentionsC x q) e))))
-        (agreeC q S K k ρ σ (λ x e. a x (or-r (mentions x t) (mentionsC x q) e)) b)
+        (agreeC q S K k ρ σ (λ x e. a x (or-right (mentions x t) (mentionsC x q) e)) b)
 
   skip : (g : ℕ) (t : Form) (v : Value) (ρ : Env) → not (mentions g t) ≡ true → value F T t (upd g v ρ) ≡ value F T t ρ
   skip g t v ρ n = agree t (upd g v ρ) ρ (λ x e. go x e (eqb g x) refl)

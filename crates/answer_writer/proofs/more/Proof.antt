@@ -1,5 +1,5 @@
--- `answer_writer::more` meets its contract, by LaidWords.
-use Rattle.answer_writer.proofs.LaidWords.{bump-more, bump-full}
+-- `answer_writer::more` meets its contract, by base_signed/Limit.
+use Rattle.base_signed.proofs.Limit.{bump-more, bump-full}
 use borrow.Author.Needs.{needs}
 use Rattle.answer_writer.proofs.more.Statement.{statement}
 use Rattle.answer_writer.proofs.more.Tie as tie

@@ -1,5 +1,5 @@
--- `base_text::more` meets its contract, by LaidText.
-use Rattle.base_text.proofs.LaidText.{bump-more, bump-full}
+-- `base_text::more` meets its contract, by base_signed/Limit.
+use Rattle.base_signed.proofs.Limit.{bump-more, bump-full}
 use borrow.Author.Needs.{needs}
 use Rattle.base_text.proofs.more.Statement.{statement}
 use Rattle.base_text.proofs.more.Tie as tie

@@ -7,7 +7,7 @@ use Rattle.form_guarded.proofs.merge.Statement.{statement}
 use Rattle.form_guarded.proofs.merge.Tie as tie
 use Rattle.form_guarded.proofs.merge.Reads as reads
 use Rattle.form_guarded.proofs.merge.Lts as lts
-use Rattle.form_guarded.proofs.magnitude.Reads as magnitude-reads
+use Rattle.base_signed.proofs.magnitude.Reads as magnitude-reads
 use Rattle.form_guarded.proofs.mergeable.Reads as mergeable-reads
 use Rattle.base_syntax.proofs.Monoid.merge.Reads as merge-reads
 

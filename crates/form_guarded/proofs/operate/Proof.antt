@@ -8,7 +8,7 @@ use Rattle.form_guarded.proofs.operate.Tie as tie
 use Rattle.form_guarded.proofs.operate.Reads as reads
 use Rattle.form_guarded.proofs.operate.Lts as lts
 use Rattle.form_guarded.proofs.bounded.Reads as bounded-reads
-use Rattle.form_guarded.proofs.magnitude.Reads as magnitude-reads
+use Rattle.base_signed.proofs.magnitude.Reads as magnitude-reads
 use Rattle.form_arith.proofs.operate.Reads as operate-reads
 
 operate-requires : tie.Need-operate-requires

@@ -1,15 +1,15 @@
 -- `front_end::formed` meets its contract, by Exits, PrepareExits.
-use Rattle.front_end.proofs.Exits.{off, on}
+use Rattle.spec_calculus.proofs.Truths.{not-true, not-false}
 use Rattle.front_end.proofs.PrepareExits.{bound-over, all-pass}
 use borrow.Author.Needs.{needs}
 use Rattle.front_end.proofs.formed.Statement.{statement}
 use Rattle.front_end.proofs.formed.Tie as tie
 
 returns : tie.Need-returns
-returns c = bound-over (c .before .before .before .before .before .before .before .before .before .before .before .before .before .write-form .ensures) (c .before .before .before .before .before .before .before .before .before .before .before .before .before .write-form .kept .0) (c .before .before .before .before .before .before .before .before .before .wipe .ensures) (c .before .before .before .before .before .name-tables .ensures) (c .before .bound-fits .ensures) (off (c .before .bound-fits .result) (c .if1 .taken))
+returns c = bound-over (c .before .before .before .before .before .before .before .before .before .before .before .before .before .write-form .ensures) (c .before .before .before .before .before .before .before .before .before .before .before .before .before .write-form .kept .0) (c .before .before .before .before .before .before .before .before .before .wipe .ensures) (c .before .before .before .before .before .name-tables .ensures) (c .before .bound-fits .ensures) (not-true (c .before .bound-fits .result) (c .if1 .taken))
 
 returns-2 : tie.Need-returns-2
-returns-2 c = all-pass (c .before .before .before .before .before .before .before .before .before .before .before .before .before .write-form .ensures) (c .before .before .before .before .before .before .before .before .before .before .before .before .before .write-form .kept .0) (c .before .before .before .before .before .before .before .before .before .wipe .ensures) (c .before .before .before .before .before .name-tables .ensures) (c .before .bound-fits .ensures) (on (c .before .bound-fits .result) (c .if1 .left))
+returns-2 c = all-pass (c .before .before .before .before .before .before .before .before .before .before .before .before .before .write-form .ensures) (c .before .before .before .before .before .before .before .before .before .before .before .before .before .write-form .kept .0) (c .before .before .before .before .before .before .before .before .before .wipe .ensures) (c .before .before .before .before .before .name-tables .ensures) (c .before .bound-fits .ensures) (not-false (c .before .bound-fits .result) (c .if1 .left))
 
 pub formed-spec : {M : Type 1} → statement M
 formed-spec =

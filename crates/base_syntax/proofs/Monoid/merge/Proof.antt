@@ -1,16 +1,15 @@
 -- `base_syntax::Monoid::merge` meets its contract, by base_signed/SignedWords.
 use borrow.Author.Needs.{needs}
 use mathlib.Core.Path.{_≡_, refl, sym, ap, ap₂, subst, _∙_}
-use mathlib.Core.Bool.{Bool, true, false}
+use mathlib.Core.Bool.{Bool}
 use Prim.Native.Nat.{_<_, _^_}
-use lib.IntN.{ℤ, pos, _+ℤ_}
+use lib.IntN.{ℤ, _+ℤ_}
 use lib.Signed.{mag, ltZ}
 use mir.Syntax.{w64}
 use mir.Val.{SFits, toZ, ofZ}
-use mir.Facts.{toZ-ofZ, sfits-lit}
+use mir.Facts.{toZ-ofZ}
 use Rattle.spec_calculus.specs.Lists.{pick}
-use Rattle.spec_calculus.specs.Value.{eqZ}
-use Rattle.base_signed.proofs.SignedWords.{fits, sum-ok, sum-is, eq-yes, eq-no}
+use Rattle.base_signed.proofs.SignedWords.{fits, sum-ok, sum-is, zero-yes, zero-no}
 use Rattle.base_syntax.specs.declared.Monoid.{Monoid}
 use Rattle.base_syntax.specs.MonoidWord.{monoidOf, chosen, mergeWord}
 use Rattle.base_syntax.proofs.Monoid.merge.Statement.{statement}
@@ -40,13 +39,6 @@ module _ (z : tie.Start) {x : Monoid} (e : z .args .self ≡ x) where
 picked : {t u : Bool} (p q : ℤ) → t ≡ u → pick u p q ≡ pick t p q
 picked p q h = sym (ap (λ (v : Bool). pick v p q) h)
 
-module _ {a : ℤ} (f : SFits w64 a) where
-  is-zero : ofZ w64 a ≡ ofZ w64 (pos 0) → eqZ a (pos 0) ≡ true
-  is-zero e = eq-yes f (sfits-lit {z = pos 0} tt) e
-
-  not-zero : (ofZ w64 a ≡ ofZ w64 (pos 0) → ⊥) → eqZ a (pos 0) ≡ false
-  not-zero h = eq-no f (sfits-lit {z = pos 0} tt) h
-
 pub merge-spec : {M : Type 1} → statement M
 unfolding mergeWord pick
 merge-spec =
@@ -73,10 +65,10 @@ merge-spec =
     -- max
     (λ c. let z = c .before .before .before in answers z (c .before .enum-told5 .given .1) (fits (c .choose .ok)) (c .choose .ensures ∙ ap₂ (λ (x y : ℤ). chosen x y (ltZ x y)) (toZ-ofZ (z .fits .a)) (toZ-ofZ (z .fits .b))))
     -- some
-    (λ c. let z = c .before .before .before in answers z (c .before .enum-told6 .given .1) (z .fits .b) (picked (z .args .b) (z .args .a) (is-zero (z .fits .a) (c .if1 .taken))))
-    (λ c. let z = c .before .before .before in answers z (c .before .enum-told6 .given .1) (z .fits .a) (picked (z .args .b) (z .args .a) (not-zero (z .fits .a) (c .if1 .left))))
+    (λ c. let z = c .before .before .before in answers z (c .before .enum-told6 .given .1) (z .fits .b) (picked (z .args .b) (z .args .a) (zero-yes (z .fits .a) (c .if1 .taken))))
+    (λ c. let z = c .before .before .before in answers z (c .before .enum-told6 .given .1) (z .fits .a) (picked (z .args .b) (z .args .a) (zero-no (z .fits .a) (c .if1 .left))))
     -- all
-    (λ c. let z = c .before .before .before in answers z (c .before .enum-told7 .given .1) (z .fits .a) (picked (z .args .a) (z .args .b) (is-zero (z .fits .a) (c .if2 .taken))))
-    (λ c. let z = c .before .before .before in answers z (c .before .enum-told7 .given .1) (z .fits .b) (picked (z .args .a) (z .args .b) (not-zero (z .fits .a) (c .if2 .left))))
+    (λ c. let z = c .before .before .before in answers z (c .before .enum-told7 .given .1) (z .fits .a) (picked (z .args .a) (z .args .b) (zero-yes (z .fits .a) (c .if2 .taken))))
+    (λ c. let z = c .before .before .before in answers z (c .before .enum-told7 .given .1) (z .fits .b) (picked (z .args .a) (z .args .b) (zero-no (z .fits .a) (c .if2 .left))))
     -- min
     (λ c. let z = c .before .before .before in answers z (c .before .enum-told8 .given .1) (fits (c .choose2 .ok)) (c .choose2 .ensures ∙ ap₂ (λ (x y : ℤ). chosen x y (ltZ y x)) (toZ-ofZ (z .fits .a)) (toZ-ofZ (z .fits .b)))))

@@ -11,8 +11,8 @@ use borrow.Author.Tests.{le-ltb}
 use mir.Syntax.{w64}
 use mir.Val.{SFits, toZ, ofZ}
 use mir.ValLaws.{toZ-ofZ}
-use Rattle.base_text.proofs.flipped.Statement.{statement}
-use Rattle.base_text.proofs.flipped.Tie as tie
+use Rattle.base_signed.proofs.flipped.Statement.{statement}
+use Rattle.base_signed.proofs.flipped.Tie as tie
 
 opposite : (z : ℤ) → z <ℤ pos 0 → negsuc 0 -ℤ z ≡ pos (mag z)
 opposite (pos n) h = absurd (not-suc-le-zero (ltb→lt n 0 (h .lt)))

@@ -8,8 +8,8 @@ use lib.Signed.{_≤ℤ_, yes-nonNeg, pos-natAbs, natAbs-le}
 use mir.Syntax.{w64}
 use mir.Val.{Fits, toZ, ofZ}
 use mir.ValLaws.{toZ-ofZ}
-use Rattle.base_text.proofs.natural.Statement.{statement}
-use Rattle.base_text.proofs.natural.Tie as tie
+use Rattle.base_signed.proofs.natural.Statement.{statement}
+use Rattle.base_signed.proofs.natural.Tie as tie
 
 read-pos : (c : tie.Start) → pos 0 ≤ℤ toZ w64 (ofZ w64 (c .args .x))
 read-pos c = subst (λ (z : ℤ). pos 0 ≤ℤ z) (sym (toZ-ofZ w64 (c .args .x) (c .fits .x))) (c .pre)

@@ -10,8 +10,8 @@ use lib.Signed.{_<ℤ_, _≤ℤ_, mag, leZ-yes, ltZ-no}
 use mir.Syntax.{w64}
 use mir.ValLaws.{toZ-ofZ}
 use borrow.Author.Needs.{needs}
-use Rattle.form_guarded.proofs.magnitude.Statement.{statement}
-use Rattle.form_guarded.proofs.magnitude.Tie as tie
+use Rattle.base_signed.proofs.magnitude.Statement.{statement}
+use Rattle.base_signed.proofs.magnitude.Tie as tie
 
 at-least : {z : ℤ} {n : ℕ} → z ≡ pos n → pos 0 ≤ℤ z
 at-least {z} {n} e = subst (λ (y : ℤ). pos 0 ≤ℤ y) (sym e) (leZ-yes (le→leb 0 n zero-le))
