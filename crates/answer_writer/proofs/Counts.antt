@@ -25,7 +25,8 @@ use Rattle.base_syntax.proofs.MergedWords.{Made, fold-made}
 use Rattle.form_env.specs.Environment.{envOf, tablesIn, Held}
 use Rattle.form_env.proofs.BoundRows.{each-row, table-each}
 use Rattle.spec_outcome.specs.WrittenForm.{words, wordsL}
-use Rattle.answer_writer.specs.LaidWords.{big, cutWords, cutWordsL}
+use Rattle.base_signed.specs.Limit.{numberLimit}
+use Rattle.answer_writer.specs.LaidWords.{cutWords, cutWordsL}
 use Rattle.answer_writer.specs.RecordFields.{filled, someF, filledF}
 
 -- Cutting counts changes no length.
@@ -45,7 +46,7 @@ mutual
 -- at least one word, and no count is cut where the words are at most 2^62
 pub record Whole (v : Value) : Type 0 where
   pub some : 1 ≤ length (words v)
-  pub exact : length (words v) ≤ big → cutWords v ≡ words v
+  pub exact : length (words v) ≤ numberLimit → cutWords v ≡ words v
 
 whole-num : (z : ℤ) → Whole (num z)
 unfolding words cutWords
@@ -81,11 +82,11 @@ unfolding appV choiceV
 whole-app choice vs = whole-scalar _
 
 -- two lists of words, one behind the other
-both-exact : {a b c d : List ℤ} → (length b ≤ big → a ≡ b) → (length d ≤ big → c ≡ d) → length (b ++ d) ≤ big → a ++ c ≡ b ++ d
+both-exact : {a b c d : List ℤ} → (length b ≤ numberLimit → a ≡ b) → (length d ≤ numberLimit → c ≡ d) → length (b ++ d) ≤ numberLimit → a ++ c ≡ b ++ d
 both-exact {a} {b} {c} {d} p q l = ap₂ _++_ (p (omega (arith, length-append b d))) (q (omega (arith, length-append b d)))
 
 -- ---- collections
-elements : (l : List Value) → All Whole l → (count (fromList l) ≤ length (wordsL (fromList l))) × (length (wordsL (fromList l)) ≤ big → cutWordsL (fromList l) ≡ wordsL (fromList l))
+elements : (l : List Value) → All Whole l → (count (fromList l) ≤ length (wordsL (fromList l))) × (length (wordsL (fromList l)) ≤ numberLimit → cutWordsL (fromList l) ≡ wordsL (fromList l))
 unfolding words cutWords count
 elements [] h = (omega arith, λ l. refl)
 elements (v ∷ l) h = let r = elements l (h .1) in (
@@ -170,12 +171,12 @@ module _ {d : Bytes} {s : List ℕ} (H : Held d s) where
     fields-some fnil e w ρ R = let z : _≡_ {A = ℕ} 0 1 = cc in absurd (omega arith)
     fields-some (fcons t ts) e w ρ R = omega (arith, form-whole t (both (filled t) (filledF ts) w .0) ρ R .some, length-append (words (valueOf d t ρ)) (wordsL (values raw (tablesIn d) ts ρ)))
 
-    fields-exact : (ts : Forms) → filledF ts ≡ true → (ρ : Env) → Rows ρ → length (wordsL (values raw (tablesIn d) ts ρ)) ≤ big → cutWordsL (values raw (tablesIn d) ts ρ) ≡ wordsL (values raw (tablesIn d) ts ρ)
+    fields-exact : (ts : Forms) → filledF ts ≡ true → (ρ : Env) → Rows ρ → length (wordsL (values raw (tablesIn d) ts ρ)) ≤ numberLimit → cutWordsL (values raw (tablesIn d) ts ρ) ≡ wordsL (values raw (tablesIn d) ts ρ)
     fields-exact fnil w ρ R = λ l. refl
     fields-exact (fcons t ts) w ρ R = let p = both (filled t) (filledF ts) w in
         both-exact {a = cutWords (valueOf d t ρ)} {b = words (valueOf d t ρ)} {c = cutWordsL (values raw (tablesIn d) ts ρ)} {d = wordsL (values raw (tablesIn d) ts ρ)}
         (form-whole t (p .0) ρ R .exact) (fields-exact ts (p .1) ρ R)
 
   -- A value of at most 2^62 words has no count that is cut.
-  pub cut-exact : (t : Form) → filled t ≡ true → length (words (valueOf d t (envOf (tablesIn d) s))) ≤ big → cutWords (valueOf d t (envOf (tablesIn d) s)) ≡ words (valueOf d t (envOf (tablesIn d) s))
+  pub cut-exact : (t : Form) → filled t ≡ true → length (words (valueOf d t (envOf (tablesIn d) s))) ≤ numberLimit → cutWords (valueOf d t (envOf (tablesIn d) s)) ≡ words (valueOf d t (envOf (tablesIn d) s))
   cut-exact t w = form-whole t w (envOf (tablesIn d) s) (each-row H Standing row-whole none-whole) .exact

@@ -8,11 +8,11 @@ use Rattle.base_signed.specs.Limit.{bumpTo}
 use Rattle.spec_calculus.specs.Lists.{pick}
 
 -- 2^63
-abbrev pub big : ℕ
-big = 9223372036854775808
+abbrev pub textLimit : ℕ
+textLimit = 9223372036854775808
 
 abbrev pub bump : ℕ → ℕ
-bump p = bumpTo big p
+bump p = bumpTo textLimit p
 
 -- the buffer, and the place of the next element
 pub data Point (A : Type 0) : Type 0 where

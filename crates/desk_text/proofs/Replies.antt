@@ -21,7 +21,7 @@ use Rattle.spec_outcome.specs.Acceptance.{Accepted, examine}
 use Rattle.spec_outcome.specs.Outcome.{Outcome, Answer, scratchWords, settled, written, answered, looped, byLoops, printed, planLines, G}
 use Rattle.spec_outcome.proofs.Checks.{numbers, examine-only}
 use Rattle.spec_outcome.specs.Gives.{Gives}
-use Rattle.base_text.specs.LaidText.{big, Lays}
+use Rattle.base_text.specs.LaidText.{textLimit, Lays}
 use Rattle.base_text.proofs.LaidText.{lays-behind, lays-reach}
 use Rattle.base_text.proofs.Decimals.{decimal-most}
 use Rattle.spec_desk.specs.Desk.{answerLine, refusalLine, planAndAnswer, orRefusal, asked, desk, textBytes}
@@ -30,11 +30,11 @@ use Rattle.spec_desk.specs.TextInBuffer.{Prints, FrontLength}
 use Rattle.desk_text.proofs.LinesFit.{plan-room}
 
 -- ---- a text that was laid
-pub prints-front : (x t : Bytes) {lim r : ℕ} {t′ : Bytes} → Lays lim x t 0 t′ r → lim ≡ length t → length x ≤ length t → length t < big → Prints x t t′ r
+pub prints-front : (x t : Bytes) {lim r : ℕ} {t′ : Bytes} → Lays lim x t 0 t′ r → lim ≡ length t → length x ≤ length t → length t < textLimit → Prints x t t′ r
 prints-front x t X e l b = record { size = lays-reach X (omega arith) ∙ omega arith; text = lays-behind [] t X (omega (arith, e)) (omega (arith, e)) l }
 
 -- behind one that stands there already
-pub prints-behind : (x y t : Bytes) {lim m r : ℕ} {t′ t″ : Bytes} → t′ ≡ x ++ drop (length x) t → m ≡ length x → Lays lim y t′ m t″ r → lim ≡ length t → length x + length y ≤ length t → length t < big → Prints (x ++ y) t t″ r
+pub prints-behind : (x y t : Bytes) {lim m r : ℕ} {t′ t″ : Bytes} → t′ ≡ x ++ drop (length x) t → m ≡ length x → Lays lim y t′ m t″ r → lim ≡ length t → length x + length y ≤ length t → length t < textLimit → Prints (x ++ y) t t″ r
 prints-behind x y t {lim} {m} {r} {t′} {t″} p q X e l b = record {
   size = lays-reach X (omega (arith, q)) ∙ omega (arith, q, length-append x y);
   text =
@@ -112,7 +112,7 @@ module _ (d l : Bytes) (s : List ℕ) (b : List ℤ) {s′ : List ℕ} {b′ : L
       })
 
 -- "refused" and the number
-pub prints-refusal : {d l t t′ : Bytes} {lim k r : ℕ} → Refuses d l k → Lays lim (refusalLine k) t 0 t′ r → lim ≡ length t → textBytes ≤ length t → length t < big → Prints (asked d l) t t′ r
+pub prints-refusal : {d l t t′ : Bytes} {lim k r : ℕ} → Refuses d l k → Lays lim (refusalLine k) t 0 t′ r → lim ≡ length t → textBytes ≤ length t → length t < textLimit → Prints (asked d l) t t′ r
 unfolding refusalLine ascii
 prints-refusal {d} {l} {t} {t′} {lim} {k} {r} R X e h b =
     subst (λ (x : Bytes). Prints x t t′ r) (sym (R .is)) (prints-front (refusalLine k) t X e (omega (arith, length-append (decimal k) (ascii "\n"), decimal-most 1 k (R .small))) b)
@@ -137,7 +137,7 @@ module _ {d l : Bytes} {n : ℕ} {b : List ℤ} (A : Answers d l n b) where
         (subst (λ (x : Result Accepted). Gives (settled s t (andThen x (printed t))) k m t′ s′) (A .is)
         (subst (λ (o : Outcome ℕ). Gives o k m t′ s′) (scratch-long s t (andThen (examine d l) (printed t)) room) Y))
 
-    pub prints-answer : {lim r : ℕ} {t″ : Bytes} → Lays lim (answerLine (take n b)) t′ m t″ r → length (answerLine (take n b)) ≤ 7 + 21 * length (take n b) → length b ≡ 4096 → lim ≡ length t → length t < big → Prints (asked d l) t t″ r
+    pub prints-answer : {lim r : ℕ} {t″ : Bytes} → Lays lim (answerLine (take n b)) t′ m t″ r → length (answerLine (take n b)) ≤ 7 + 21 * length (take n b) → length b ≡ 4096 → lim ≡ length t → length t < textLimit → Prints (asked d l) t t″ r
     unfolding settled
     prints-answer {lim} {r} {t″} X most long e g = subst (λ (x : Bytes). Prints x t t″ r) (sym asked-is)
         (prints-behind plan (answerLine (take n b)) t (plan-given .buffer) (plan-given .size) X e (omega (arith, most, h, plan-room d l (A .accepted) (A .is), ap length (A .front), A .size, A .within, long)) g)
@@ -150,7 +150,7 @@ prints-counts {x} {t} {t′} {r} P = (within, sym (length-take-le r t′ within)
     within = omega (arith, P .size, ap length (P .text), length-append x (drop (length x) t))
 
 module _ (b t : Bytes) {t′ : Bytes} {r : ℕ} where
-  pub desk-long : {lim : ℕ} → 65536 < length b → Lays lim (ascii "too long\n") t 0 t′ r → lim ≡ length t → textBytes ≤ length t → length t < big → Prints (desk b) t t′ r
+  pub desk-long : {lim : ℕ} → 65536 < length b → Lays lim (ascii "too long\n") t 0 t′ r → lim ≡ length t → textBytes ≤ length t → length t < textLimit → Prints (desk b) t t′ r
   unfolding desk pick ascii
   desk-long l X e h g = rw (lt-leb (length b) 65536 l) (prints-front (ascii "too long\n") t X e (omega arith) g)
 

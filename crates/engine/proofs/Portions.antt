@@ -25,7 +25,7 @@ use Rattle.spec_outcome.proofs.Checks.{handed}
 use Rattle.spec_encoding.proofs.Refusals.{only-then}
 use Rattle.spec_outcome.specs.Gives.{Spares}
 use Rattle.base_signed.proofs.SignedWords.{by-test}
-use Rattle.exec_state.specs.StateWords.{most}
+use Rattle.base_signed.specs.Limit.{numberLimit}
 use Rattle.exec_portions.specs.Run.{Run, counting, begun, portion, rowsDue}
 use Rattle.exec_portions.specs.RunInvariant.{Pending, task}
 use Rattle.base_scratch.specs.Map.{stageAt}
@@ -308,7 +308,7 @@ pub record InPortions (d l : Bytes) (s₀ : List ℕ) (lent : List ℤ) (cs : Li
   pub is : examine d l ≡ got accepted
   pub whole : rowsInAll accepted lent ≤ given cs → Whole (rowsInAll accepted lent) cs (byPlan d l s₀ lent) s′ o′
 
-pub in-portions : (d l : Bytes) {s₀ s : List ℕ} {b : Reply} → BeginPost d l s₀ s b → b .number ≡ 0 → (lent : List ℤ) → length lent < most → (cs : List Call) → 0 < given cs → {s′ : List ℕ} {o′ : List ℤ} → Portions d cs s lent s′ o′
+pub in-portions : (d l : Bytes) {s₀ s : List ℕ} {b : Reply} → BeginPost d l s₀ s b → b .number ≡ 0 → (lent : List ℤ) → length lent < numberLimit → (cs : List Call) → 0 < given cs → {s′ : List ℕ} {o′ : List ℤ} → Portions d cs s lent s′ o′
     → InPortions d l s₀ lent cs s′ o′
 in-portions d l {s₀} {s} {b} B z lent short cs some {s′} {o′} P =
     let n : checked d l s₀ .number ≡ 0 = sym (B .number) ∙ z in
@@ -380,6 +380,6 @@ alone d (another-at j ∷ cs) s o s′ o′ (t, (p, (F, (N, I)))) i (h, u) =
     subst (λ (y : List ℤ). Portions d (portionsOf i cs) (s i) y (s′ i) (o′ i)) (n .1) (subst (λ (y : List ℕ). Portions d (portionsOf i cs) y (p i) (s′ i) (o′ i)) (n .0) (alone d cs t p s′ o′ I i u))
 
 -- "However their portions interleave, each ends with the words and refusal of a single call alone."
-pub interleaved : (d l : Bytes) (i : ℕ) (cs : List Turn) {s₀ : List ℕ} {b : Reply} (s : ℕ → List ℕ) (o : ℕ → List ℤ) (s′ : ℕ → List ℕ) (o′ : ℕ → List ℤ) → BeginPost d l s₀ (s i) b → b .number ≡ 0 → length (o i) < most
+pub interleaved : (d l : Bytes) (i : ℕ) (cs : List Turn) {s₀ : List ℕ} {b : Reply} (s : ℕ → List ℕ) (o : ℕ → List ℤ) (s′ : ℕ → List ℕ) (o′ : ℕ → List ℤ) → BeginPost d l s₀ (s i) b → b .number ≡ 0 → length (o i) < numberLimit
     → Interleaved d cs s o s′ o′ → Undisturbed i cs → 0 < given (portionsOf i cs) → InPortions d l s₀ (o i) (portionsOf i cs) (s′ i) (o′ i)
 interleaved d l i cs s o s′ o′ B z short I u some = in-portions d l B z (o i) short (portionsOf i cs) some (alone d cs s o s′ o′ I i u)

@@ -14,7 +14,7 @@ use Rattle.plan_machine.specs.Offers.{planOffers}
 use Rattle.spec_outcome.specs.Acceptance.{Accepted, examine}
 use Rattle.spec_outcome.specs.Outcome.{scratchWords, G, checked, byPlan}
 use Rattle.spec_outcome.specs.Gives.{Gives, Spares}
-use Rattle.exec_state.specs.StateWords.{most}
+use Rattle.base_signed.specs.Limit.{numberLimit}
 use Rattle.exec_portions.specs.Run.{Run, begun, portion, rowsDue}
 use Rattle.exec_portions.specs.RunInvariant.{Pending, task}
 use Rattle.base_scratch.specs.Map.{stageAt}
@@ -37,7 +37,7 @@ pub record BeginPost (d l : Bytes) (s s′ : List ℕ) (r : Reply) : Type 0 wher
   pub number : r .number ≡ checked d l s .number
   pub size : r .length ≡ checked d l s .size
   pub refused : (r .number ≡ 0 → ⊥) → s′ ≡ checked d l s .scratch
-  pub begins : r .number ≡ 0 → (a : Accepted) → examine d l ≡ got a → (lent : List ℤ) → length lent < most → let q : Pending = record { bytes = l; accepted = a; lent = lent } in Unfinished d q s′ lent (begun (task d q))
+  pub begins : r .number ≡ 0 → (a : Accepted) → examine d l ≡ got a → (lent : List ℤ) → length lent < numberLimit → let q : Pending = record { bytes = l; accepted = a; lent = lent } in Unfinished d q s′ lent (begun (task d q))
   pub spares : r .number ≡ 0 → Spares s s′
 
 -- ---- a portion

@@ -34,7 +34,7 @@ use Rattle.form_arith.specs.WordSorts.{sortOf, wordBound, mergeBound}
 use Rattle.form_arith.proofs.ValueWords.{more-words, comp-within}
 use Rattle.exec_terms.proofs.HeadParts.{term-same}
 use Rattle.exec_terms.proofs.FormAgreement.{tree-is, clauses-are, head-node}
-use Rattle.exec_state.specs.StateWords.{most}
+use Rattle.base_signed.specs.Limit.{numberLimit}
 use Rattle.exec_simulation.specs.RowReads.{headAt}
 use Rattle.exec_initial.specs.HeadBounds.{headBound}
 
@@ -57,7 +57,7 @@ pub record Smalls (s : List ℕ) (c : ℕ) : Type 0 where
 
 -- so is what its heads come to, which is within its own bound; and the same of the comprehensions inside
 pub record CompFits (s : List ℕ) (T : Tables) (y : Spots) : Type 0 where
-  pub total : mergeBound (monoidBy (nodeAt s (compOf y))) (spotTakes s T y) (headBound s (compOf y)) ≤ most
+  pub total : mergeBound (monoidBy (nodeAt s (compOf y))) (spotTakes s T y) (headBound s (compOf y)) ≤ numberLimit
   pub own : mergeBound (monoidBy (nodeAt s (compOf y))) (spotTakes s T y) (headBound s (compOf y)) ≤ wordBound (sortOf (monoidBy (nodeAt s (compOf y)))) (formTree fuel s (compOf y))
   pub smalls : Smalls s (compOf y)
 
@@ -170,11 +170,11 @@ module _ (s : List ℕ) (T : Tables) (few : (k : ℕ) → length (rowsOf T k) �
         (subst (λ (x : Form). mergeBound m (spotTakes s T (spotsOf q h c)) (wordBound (sortOf m) x) ≤ wordBound (sortOf m) (comp m q h)) (sym head-tree)
         (le-trans (more-words m (wordBound (sortOf m) h) (omega (arith, takes-comp m q h c L))) (heads-within m q h))))
 
-    total-small : within (comp m q h) ≡ true → mergeBound (monoidBy (nodeAt s c)) (spotTakes s T (spotsOf q h c)) (headBound s c) ≤ most
+    total-small : within (comp m q h) ≡ true → mergeBound (monoidBy (nodeAt s c)) (spotTakes s T (spotsOf q h c)) (headBound s c) ≤ numberLimit
     unfolding bound
     total-small w =
-        subst (λ (x : Monoid). mergeBound x (spotTakes s T (spotsOf q h c)) (wordBound (sortOf x) (formTree fuel s (headAt s c))) ≤ most) (sym monoid-node)
-        (subst (λ (x : Form). mergeBound m (spotTakes s T (spotsOf q h c)) (wordBound (sortOf m) x) ≤ most) (sym head-tree)
+        subst (λ (x : Monoid). mergeBound x (spotTakes s T (spotsOf q h c)) (wordBound (sortOf x) (formTree fuel s (headAt s c))) ≤ numberLimit) (sym monoid-node)
+        (subst (λ (x : Form). mergeBound m (spotTakes s T (spotsOf q h c)) (wordBound (sortOf m) x) ≤ numberLimit) (sym head-tree)
         (le-trans (more-words m (wordBound (sortOf m) h) (omega (arith, takes-comp m q h c L))) (comp-within m (ownGens q) h (within-bound (comp m q h) w))))
 
     pub comp-fits : within (comp m q h) ≡ true → CompFits s T (spotsOf q h c)
@@ -182,7 +182,7 @@ module _ (s : List ℕ) (T : Tables) (few : (k : ℕ) → length (rowsOf T k) �
         let v = within-comp m q h w in
         let e : c ≡ compOf (spotsOf q h c) = sym (comp-own q h c) in
         record {
-          total = subst (λ (x : ℕ). mergeBound (monoidBy (nodeAt s x)) (spotTakes s T (spotsOf q h c)) (headBound s x) ≤ most) e (total-small w);
+          total = subst (λ (x : ℕ). mergeBound (monoidBy (nodeAt s x)) (spotTakes s T (spotsOf q h c)) (headBound s x) ≤ numberLimit) e (total-small w);
           own = subst (λ (x : ℕ). mergeBound (monoidBy (nodeAt s x)) (spotTakes s T (spotsOf q h c)) (headBound s x) ≤ wordBound (sortOf (monoidBy (nodeAt s x))) (formTree fuel s x)) e own-small;
           smalls = subst (Smalls s) e (record { clauses = ap withinC clauses-tree ∙ v .0; head = ap within head-tree ∙ v .1; term = term-there });
         }

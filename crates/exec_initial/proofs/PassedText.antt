@@ -23,7 +23,7 @@ use Rattle.plan_machine.proofs.TextOverMoves.{row-width, said-grown, past-text,
 use Rattle.plan_machine.proofs.CollectionSpans.{Spans, Keeps, when-in}
 use Rattle.plan_links.specs.Spots.{Spots, compOf}
 use Rattle.form_env.specs.Environment.{tablesIn}
-use Rattle.exec_state.specs.StateWords.{most}
+use Rattle.base_signed.specs.Limit.{numberLimit}
 use Rattle.exec_simulation.specs.WiredProgram.{endI, ids, idAt}
 use Rattle.exec_simulation.specs.PathPlaces.{inside, spotsAt}
 use Rattle.exec_simulation.specs.SimulationRelation.{Question}
@@ -44,7 +44,7 @@ pub record ToldAt {d : Bytes} (Q : Question d) (w : Words) (r : Spans) (π : Pat
   pub operator : ℕ
   pub low : operator < length (ids (Q .spots))
   pub id : idAt (Q .spots) operator ≡ endI j
-  pub ends : r .upto operator ≡ length (textBack most (tablesIn d) (Q .program) w π ++ said most (row (tablesIn d) w π) (uptoWith n x))
+  pub ends : r .upto operator ≡ length (textBack numberLimit (tablesIn d) (Q .program) w π ++ said numberLimit (row (tablesIn d) w π) (uptoWith n x))
 
 module _ {d : Bytes} (Q : Question d) (w : Words) (r : Spans) where
   abbrev q : Program
@@ -54,7 +54,7 @@ module _ {d : Bytes} (Q : Question d) (w : Words) (r : Spans) where
   sp = Q .spots
 
   -- the one passed last
-  here : (π : Path) (i p : Program) → Valid q π (inner i p) → When (writes q (inP π i p)) (r .upto (pos π + before i) ≡ length (textInto most (tablesIn d) q w (pastP π i p)))
+  here : (π : Path) (i p : Program) → Valid q π (inner i p) → When (writes q (inP π i p)) (r .upto (pos π + before i) ≡ length (textInto numberLimit (tablesIn d) q w (pastP π i p)))
       → shapeOf (nodeAt (Q .base) (compOf (inside (spotsAt sp π)))) ≡ Sh.Collection → ToldAt Q w r (pastP π i p) p (width π) (compOf (inside (spotsAt sp π)))
   unfolding told pick pos spotsAt
   here π i p v k c =
@@ -66,7 +66,7 @@ module _ {d : Bytes} (Q : Question d) (w : Words) (r : Spans) where
         operator = pos π + before i;
         low = number-low Q (inP π i p) i (refl, v);
         id = end-id Q (inP π i p) i (refl, v);
-        ends = when-in (writes q (inP π i p)) g k ∙ ap (λ (ts : List PTerm). length (textBack most (tablesIn d) q w (pastP π i p) ++ said most (row (tablesIn d) w (pastP π i p)) ts)) t;
+        ends = when-in (writes q (inP π i p)) g k ∙ ap (λ (ts : List PTerm). length (textBack numberLimit (tablesIn d) q w (pastP π i p) ++ said numberLimit (row (tablesIn d) w (pastP π i p)) ts)) t;
       }
 
   -- those before it
@@ -75,7 +75,7 @@ module _ {d : Bytes} (Q : Question d) (w : Words) (r : Spans) where
   grows π i p v = go (writes q (inP π i p)) refl
     where
       go : (b : Bool) → writes q (inP π i p) ≡ b → Begins (told q π) (pick b (uptoWith (width π) p) (told q π))
-      go true e = begins-on (told q π) (upto (width π) (headParts p)) (uptoWith (width π) p) (told-ahead most (tablesIn d) q π i p w v (Q .tidy) e) (place (width π) ∷ [], refl)
+      go true e = begins-on (told q π) (upto (width π) (headParts p)) (uptoWith (width π) p) (told-ahead numberLimit (tablesIn d) q π i p w v (Q .tidy) e) (place (width π) ∷ [], refl)
       go false e = ([], sym (append-nil (told q π)))
 
   on : (π : Path) (i p : Program) (n j : ℕ) → Valid q π (inner i p) → ToldAt Q w r π (inner i p) n j → ToldAt Q w r (pastP π i p) p n j
@@ -88,11 +88,11 @@ module _ {d : Bytes} (Q : Question d) (w : Words) (r : Spans) where
         operator = E .operator;
         low = E .low;
         id = E .id;
-        ends = E .ends ∙ ap length (ap (λ y. y ++ said most (row (tablesIn d) w π) ts) (sym (past-text most (tablesIn d) q π i p w))
-            ∙ ap (λ y. textBack most (tablesIn d) q w (pastP π i p) ++ y) (sym (said-grown most (width π) (row (tablesIn d) w π) (val (valueFrom i (w .acc (pos π + before i))) ∷ []) ts (row-width (tablesIn d) w π) f)));
+        ends = E .ends ∙ ap length (ap (λ y. y ++ said numberLimit (row (tablesIn d) w π) ts) (sym (past-text numberLimit (tablesIn d) q π i p w))
+            ∙ ap (λ y. textBack numberLimit (tablesIn d) q w (pastP π i p) ++ y) (sym (said-grown numberLimit (width π) (row (tablesIn d) w π) (val (valueFrom i (w .acc (pos π + before i))) ∷ []) ts (row-width (tablesIn d) w π) f)));
       }
 
-  pub told-pass : (π : Path) (x : Program) → Valid q π x → Keeps most (tablesIn d) q true w r π → (n j : ℕ) → Has n j (passes sp π) → shapeOf (nodeAt (Q .base) j) ≡ Sh.Collection → ToldAt Q w r π x n j
+  pub told-pass : (π : Path) (x : Program) → Valid q π x → Keeps numberLimit (tablesIn d) q true w r π → (n j : ℕ) → Has n j (passes sp π) → shapeOf (nodeAt (Q .base) j) ≡ Sh.Collection → ToldAt Q w r π x n j
   unfolding passes
   told-pass start x v k n j h c = absurd h
   told-pass (loopP π a t p) x v k n j h c = absurd h

@@ -25,7 +25,7 @@ use Rattle.plan_links.specs.Spots.{Spots, end, loop, inner, loopCode, compOf}
 use Rattle.plan_links.specs.SpotWords.{fuel, SourceAt}
 use Rattle.form_arith.specs.WordSorts.{asWord, sortOf, wordBound, mergeBound}
 use Rattle.form_arith.proofs.ValueWords.{start-small}
-use Rattle.exec_state.specs.StateWords.{most}
+use Rattle.base_signed.specs.Limit.{numberLimit}
 use Rattle.exec_simulation.specs.WiredProgram.{Wired}
 use Rattle.exec_simulation.specs.RowReads.{headAt}
 use Rattle.exec_simulation.specs.AccumulatorRoom.{takesOf, compAt}
@@ -117,11 +117,11 @@ module _ (s : List ℕ) (T : Tables) (q : Program) (sp : Spots) (W : Wired s 1 q
   own-at π i p v = heads-here (inP π i p) i (refl, v) (λ m. wordBound (sortOf m) (formTree fuel s (compOf (inside (spotsAt sp π))))) (inner-fits π i p v .own)
 
   -- All rows that can come to an open comprehension leave it within 2^62.
-  pub fits-at : CompFits s T sp → (π : Path) (x : Program) → Valid q π x → mergeBound (endOf (compAt q π) .monoid) (takesOf T (compAt q π)) (boundAt s sp (last q π)) ≤ most
+  pub fits-at : CompFits s T sp → (π : Path) (x : Program) → Valid q π x → mergeBound (endOf (compAt q π) .monoid) (takesOf T (compAt q π)) (boundAt s sp (last q π)) ≤ numberLimit
   unfolding compAt last pos spotsAt
-  fits-at C Fl.start x v = subst (λ (n : ℕ). mergeBound (endOf q .monoid) (takesOf T q) (boundAt s sp n) ≤ most) (omega arith) (heads-here Fl.start q refl (λ m. most) (C .total))
+  fits-at C Fl.start x v = subst (λ (n : ℕ). mergeBound (endOf q .monoid) (takesOf T q) (boundAt s sp n) ≤ numberLimit) (omega arith) (heads-here Fl.start q refl (λ m. numberLimit) (C .total))
   fits-at C (loopP π a t p) x v = fits-at C π (Pr.loop a t p) (v .1)
-  fits-at C (inP π i p) x v = heads-here (inP π i p) i (refl, v .1) (λ m. most) (inner-fits π i p (v .1) .total)
+  fits-at C (inP π i p) x v = heads-here (inP π i p) i (refl, v .1) (λ m. numberLimit) (inner-fits π i p (v .1) .total)
   fits-at C (pastP π i p) x v = fits-at C π (Pr.inner i p) (v .1)
 
   -- The bound of an open comprehension is that of its head.

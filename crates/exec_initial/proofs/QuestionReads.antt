@@ -29,7 +29,7 @@ use Rattle.plan_links.specs.Contract.{Term}
 use Rattle.form_env.specs.Environment.{tablesIn}
 use Rattle.form_arith.specs.WordSorts.{sortOf, wordBound, mergeBound}
 use Rattle.exec_terms.specs.PartsWalk.{AgreesP}
-use Rattle.exec_state.specs.StateWords.{most}
+use Rattle.base_signed.specs.Limit.{numberLimit}
 use Rattle.exec_simulation.specs.PathPlaces.{inside, loopNode, spotsAt}
 use Rattle.exec_simulation.specs.RowReads.{headAt, LoopReads, EndReads}
 use Rattle.exec_simulation.specs.AccumulatorRoom.{takesOf, Room}
@@ -65,7 +65,7 @@ module _ {d : Bytes} (a : Accepted) (s s₁ s₂ : List ℕ) (r : ℕ) (A : Prep
       → mergeBound (endOf i .monoid) (takesOf (tablesIn d) i) (boundAt s₂ sp (pos π + before i)) ≤ wordBound (sortOf (endOf i .monoid)) (formTree fuel s₂ (compOf (inside (spotsAt sp π))))
   question-own = own-at s₂ (tablesIn d) (programOf f) sp (wired a s s₁ s₂ r A Q L) (fit a s s₁ s₂ r A Q L)
 
-  module _ (lent : List ℤ) (short : length lent ≤ most) where
+  module _ (lent : List ℤ) (short : length lent ≤ numberLimit) where
     abbrev asked : Question d
     asked = question a s s₁ s₂ r A Q L lent short
 

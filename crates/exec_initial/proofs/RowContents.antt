@@ -44,7 +44,8 @@ use Rattle.form_arith.specs.WordSorts.{asWord, sortOf, wordBound, mergeBound}
 use Rattle.form_arith.proofs.ValueWords.{small-fits, finish-word}
 use Rattle.exec_terms.specs.KeptWord.{accOf}
 use Rattle.exec_terms.specs.Agreement as Ag
-use Rattle.exec_state.specs.StateWords.{most, Total, offeredAt, totalIn}
+use Rattle.base_signed.specs.Limit.{numberLimit}
+use Rattle.exec_state.specs.StateWords.{Total, offeredAt, totalIn}
 use Rattle.exec_simulation.specs.PathPlaces.{inside, loopNode, spotsAt, backAt}
 use Rattle.exec_simulation.specs.AccumulatorRoom.{takesOf, Room, compAt}
 use Rattle.exec_simulation.specs.SimulationRelation.{Question, SaysEnd, SaysRow, SaysAt, Stands}
@@ -159,9 +160,9 @@ module _ {d : Bytes} (Q : Question d) (s : List ℕ) (w : Words) (r : Spans) (S 
           (subst (λ (t : Form). natAbs (asWord (sortOf (endOf i .monoid)) (w .acc o)) ≤ wordBound (sortOf (endOf i .monoid)) t) (sym (form-same s (Q .base) (S .kept .form) fuel c)) (le-trans room (own π i p v)))
 
       -- within 2^62 too
-      nest-small : natAbs (asWord (sortOf (monoidBy (nodeAt s c))) (w .acc o)) ≤ most
+      nest-small : natAbs (asWord (sortOf (monoidBy (nodeAt s c))) (w .acc o)) ≤ numberLimit
       unfolding compAt last
-      nest-small = subst (λ (m : Monoid). natAbs (asWord (sortOf m) (w .acc o)) ≤ most) (sym monoid-is) (le-trans room (Q .fits (inP π i p) i (refl, v)))
+      nest-small = subst (λ (m : Monoid). natAbs (asWord (sortOf m) (w .acc o)) ≤ numberLimit) (sym monoid-is) (le-trans room (Q .fits (inP π i p) i (refl, v)))
 
       nest-kept : collects (monoidBy (nodeAt s c)) ≡ false → Ag.Kept s c (monoidBy (nodeAt s c)) (formTree fuel s c) (finish (monoidBy (nodeAt s c)) (w .acc o))
       nest-kept e =

@@ -33,7 +33,8 @@ use Rattle.exec_terms.proofs.PartsText.{partsIn}
 use Rattle.exec_terms.proofs.HeadParts.{head-parts}
 use Rattle.exec_terms.proofs.FormAgreement.{tree-is}
 use Rattle.exec_terms.proofs.PartsBefore.{PartAt, part-within, parts-upto}
-use Rattle.exec_state.specs.StateWords.{most, endIn}
+use Rattle.base_signed.specs.Limit.{numberLimit}
+use Rattle.exec_state.specs.StateWords.{endIn}
 use Rattle.exec_simulation.specs.PathPlaces.{inside, spotsAt}
 use Rattle.exec_simulation.specs.RowReads.{headAt}
 use Rattle.exec_simulation.specs.SimulationRelation.{Question, Stands}
@@ -56,14 +57,14 @@ abbrev pub Tells : {d : Bytes} → Question d → List ℕ → List ℤ → ℕ 
 Tells {d} Q s o limit w π b more =
     let c = compOf (spotsAt (Q .spots) π) in
     let r = row (tablesIn d) w π in
-    let n = length (textInto most (tablesIn d) (Q .program) w π) in
-    walk fuel limit s r (headAt s c) b (pt o (endIn s c)) ≡ pt (puts limit n (said most r more) o) (min (n + length (said most r more)) most)
+    let n = length (textInto numberLimit (tablesIn d) (Q .program) w π) in
+    walk fuel limit s r (headAt s c) b (pt o (endIn s c)) ≡ pt (puts limit n (said numberLimit r more) o) (min (n + length (said numberLimit r more)) numberLimit)
 
 module _ {d : Bytes} (Q : Question d) (H : Fills (Q .base) [] (Q .spots)) (small : (π : Path) (x : Program) → Valid (Q .program) π x → Smalls (Q .base) (compOf (spotsAt (Q .spots) π)))
     {s : List ℕ} {o : List ℤ} {limit : ℕ} {w : Words} {r : Spans} (B : Based s 0 0 (Q .spots)) (S : Stands Q s w r) where
   -- at a path, in a comprehension that is written
-  module _ (π : Path) (x : Program) (v : Valid (Q .program) π x) (wr : writes (Q .program) π ≡ true) (W : Written limit (Q .lent) o (textInto most (tablesIn d) (Q .program) w π))
-      (K : Keeps most (tablesIn d) (Q .program) true w r π) (A : CompAt (Q .base) (compOf (spotsAt (Q .spots) π))) (T : LaterOf s (compOf (spotsAt (Q .spots) π)) (basis π)) where
+  module _ (π : Path) (x : Program) (v : Valid (Q .program) π x) (wr : writes (Q .program) π ≡ true) (W : Written limit (Q .lent) o (textInto numberLimit (tablesIn d) (Q .program) w π))
+      (K : Keeps numberLimit (tablesIn d) (Q .program) true w r π) (A : CompAt (Q .base) (compOf (spotsAt (Q .spots) π))) (T : LaterOf s (compOf (spotsAt (Q .spots) π)) (basis π)) where
     abbrev c : ℕ
     c = compOf (spotsAt (Q .spots) π)
 
@@ -98,7 +99,7 @@ module _ {d : Bytes} (Q : Question d) (H : Fills (Q .base) [] (Q .spots)) (small
     tells b more N l e = ap (λ (y : ℕ). walk fuel limit s (row (tablesIn d) w π) y b (pt o (endIn s c))) place-now ∙ walks Q π x v wr W K S h (A .head) stands-there later-now parts-now b (done-now b N) more l e
 
   -- The two ways.
-  pub tells-end : (π : Path) (e : End) → Valid (Q .program) π (Pr.end e) → writes (Q .program) π ≡ true → Written limit (Q .lent) o (textInto most (tablesIn d) (Q .program) w π) → Keeps most (tablesIn d) (Q .program) true w r π
+  pub tells-end : (π : Path) (e : End) → Valid (Q .program) π (Pr.end e) → writes (Q .program) π ≡ true → Written limit (Q .lent) o (textInto numberLimit (tablesIn d) (Q .program) w π) → Keeps numberLimit (tablesIn d) (Q .program) true w r π
       → (more : List PTerm) → parts (e .head) ≡ told (Q .program) π ++ more → Tells Q s o limit w π (next s (compOf (spotsAt (Q .spots) π))) more
   unfolding endOf
   tells-end π e v wr W K more m =
@@ -110,7 +111,7 @@ module _ {d : Bytes} (Q : Question d) (H : Fills (Q .base) [] (Q .spots)) (small
       tells π (Pr.end e) v wr W K A T b more (upto-whole (Q .base) (fillers (Q .spots) π) b (A .head) (headOf A) (E .head)) (omega (arith, L .behind))
       (ap (partsIn fuel s (headOf A)) (L .behind) ∙ head-parts s (A .head) (headOf A) fuel fuel (L .lies) (L .ends) (L .low) (omega arith) (omega arith) ∙ parts-now π (Pr.end e) v wr W K A T ∙ m)
 
-  pub tells-inner : (π : Path) (i p : Program) → Valid (Q .program) π (Pr.inner i p) → writes (Q .program) (inP π i p) ≡ true → Written limit (Q .lent) o (textInto most (tablesIn d) (Q .program) w π) → Keeps most (tablesIn d) (Q .program) true w r π
+  pub tells-inner : (π : Path) (i p : Program) → Valid (Q .program) π (Pr.inner i p) → writes (Q .program) (inP π i p) ≡ true → Written limit (Q .lent) o (textInto numberLimit (tablesIn d) (Q .program) w π) → Keeps numberLimit (tablesIn d) (Q .program) true w r π
       → (more : List PTerm) → upto (width π) (headParts p) ≡ told (Q .program) π ++ more → Tells Q s o limit w π (compOf (inside (spotsAt (Q .spots) π))) more
   unfolding endOf writes spotsAt
   tells-inner π i p v g W K more m =

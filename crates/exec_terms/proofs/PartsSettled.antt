@@ -20,7 +20,8 @@ use Rattle.form_arith.specs.declared.Sort.the-variants as So
 use Rattle.form_arith.specs.WordSorts.{resultSort}
 use Rattle.answer_writer.specs.declared.WriteForm.{WriteForm}
 use Rattle.answer_writer.specs.declared.WriteForm.the-variants as Sh
-use Rattle.answer_writer.specs.LaidWords.{big, Point, pt, lays, cutWords}
+use Rattle.base_signed.specs.Limit.{numberLimit}
+use Rattle.answer_writer.specs.LaidWords.{Point, pt, lays, cutWords}
 use Rattle.answer_writer.specs.Shapes.{comprehensionShape, shapeOf}
 use Rattle.answer_writer.proofs.LaidWords.{lays-append}
 use Rattle.plan_marks.specs.Marks.{markAt}
@@ -50,7 +51,7 @@ module _ (s : List ℕ) (F : ℕ) (enough : left 0 + 1 < F) where
 module _ (lim : ℕ) (s : List ℕ) (r : Row) (b F : ℕ) (P : Point) (enough : left 0 + 1 < F) where
   -- where the words of parts end
   abbrev pub behind : List PTerm → Point
-  behind ts = lays lim (said big r ts) P
+  behind ts = lays lim (said numberLimit r ts) P
 
   -- the collection at j stands there, and ends where its kept word says
   abbrev pub Stood : List PTerm → ℕ → Type 0
@@ -58,8 +59,8 @@ module _ (lim : ℕ) (s : List ℕ) (r : Row) (b F : ℕ) (P : Point) (enough : 
 
   behind-more : (t : PTerm) (ts : List PTerm) → lays lim (cutWords (evalP t r)) (behind ts) ≡ behind (ts ++ t ∷ [])
   unfolding said bindL
-  behind-more t ts = sym (ap (λ (l : List ℤ). lays lim l P) (bind-append ts (t ∷ []) (λ (u : PTerm). wordsTo big (evalP u r)))
-      ∙ lays-append lim (said big r ts) (wordsTo big (evalP t r) ++ []) P ∙ ap (λ (l : List ℤ). lays lim l (behind ts)) (append-nil (wordsTo big (evalP t r)) ∙ words-cut (evalP t r)))
+  behind-more t ts = sym (ap (λ (l : List ℤ). lays lim l P) (bind-append ts (t ∷ []) (λ (u : PTerm). wordsTo numberLimit (evalP u r)))
+      ∙ lays-append lim (said numberLimit r ts) (wordsTo numberLimit (evalP t r) ++ []) P ∙ ap (λ (l : List ℤ). lays lim l (behind ts)) (append-nil (wordsTo numberLimit (evalP t r)) ∙ words-cut (evalP t r)))
 
   lays-none : (Q : Point) → lays lim [] Q ≡ Q
   unfolding lays

@@ -14,7 +14,8 @@ use Rattle.spec_plan.specs.Operators.{Row, evalP}
 use Rattle.form_words.specs.NodeWord.{next, nodeAt}
 use Rattle.answer_writer.specs.declared.WriteForm.{WriteForm}
 use Rattle.answer_writer.specs.declared.WriteForm.the-variants as Sh
-use Rattle.answer_writer.specs.LaidWords.{big, Point, pt, lays, cutWords, cutWordsL}
+use Rattle.base_signed.specs.Limit.{numberLimit}
+use Rattle.answer_writer.specs.LaidWords.{Point, pt, lays, cutWords, cutWordsL}
 use Rattle.answer_writer.specs.Shapes.{shapeOf}
 use Rattle.answer_writer.proofs.LaidWords.{lays-append}
 use Rattle.plan_marks.specs.PlanIn.{termIn}
@@ -26,13 +27,13 @@ use Rattle.exec_terms.specs.PartsWalk.{wordsAt, goOn, walkBy, walk}
 mutual
   unfolding wordsTo cutWords
 
-  pub words-cut : (v : Value) → wordsTo big v ≡ cutWords v
+  pub words-cut : (v : Value) → wordsTo numberLimit v ≡ cutWords v
   words-cut (num z) = refl
   words-cut (truth b) = refl
   words-cut (rec vs) = words-cuts vs
-  words-cut (coll vs) = ap (λ (l : List ℤ). pos (min (count vs) big) ∷ l) (words-cuts vs)
+  words-cut (coll vs) = ap (λ (l : List ℤ). pos (min (count vs) numberLimit) ∷ l) (words-cuts vs)
 
-  words-cuts : (vs : Values) → wordsToL big vs ≡ cutWordsL vs
+  words-cuts : (vs : Values) → wordsToL numberLimit vs ≡ cutWordsL vs
   words-cuts vnil = refl
   words-cuts (vcons v vs) = ap₂ _++_ (words-cut v) (words-cuts vs)
 
@@ -61,7 +62,7 @@ Walkable (suc f) lim s r a b P = a < b → walkableBy (λ j Q. Walkable f lim s 
 module _ (lim : ℕ) (s : List ℕ) (r : Row) (b : ℕ) where
   -- the words of parts, laid
   abbrev saying : List PTerm → Point → Point
-  saying ts P = lays lim (said big r ts) P
+  saying ts P = lays lim (said numberLimit r ts) P
 
   say-none : (P : Point) → P ≡ saying [] P
   unfolding said bindL lays
@@ -69,7 +70,7 @@ module _ (lim : ℕ) (s : List ℕ) (r : Row) (b : ℕ) where
 
   say-more : (f a : ℕ) (ts : List PTerm) (P : Point) → saying ts (lays lim (wordsAt f s r a) P) ≡ saying (termIn f s a ∷ ts) P
   unfolding said bindL
-  say-more f a ts P = sym (ap (λ (l : List ℤ). lays lim (l ++ said big r ts) P) (words-cut (evalP (termIn f s a) r)) ∙ lays-append lim (wordsAt f s r a) (said big r ts) P)
+  say-more f a ts P = sym (ap (λ (l : List ℤ). lays lim (l ++ said numberLimit r ts) P) (words-cut (evalP (termIn f s a) r)) ∙ lays-append lim (wordsAt f s r a) (said numberLimit r ts) P)
 
   pub walk-said : (f a : ℕ) (P : Point) → Walkable f lim s r a b P → walk f lim s r a b P ≡ saying (partsIn f s a b) P
   unfolding walk partsIn Walkable pick

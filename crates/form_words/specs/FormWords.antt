@@ -9,6 +9,7 @@ use Rattle.spec_calculus.specs.Lists.{pick}
 use Rattle.spec_normal_form.specs.Form.{Form, Forms, Clauses, num, truth, row, cell, rec, bin, negate, app, comp, fnil, fcons, done, gen, cond}
 use Rattle.base_syntax.specs.Numbers.{opArg, funArg, monoidArg}
 use Rattle.form_words.specs.NodeWord.{wordAt, pack}
+use Rattle.form_words.specs.Kinds.{numberKind, truthKind, rowKind, cellKind, recordKind, binaryKind, negationKind, comprehensionKind, generatorKind, conditionKind, operatorKind, pairSpan}
 
 -- how many words it has
 unfoldable mutual
@@ -39,15 +40,15 @@ numberArg (negsuc n) = 0x7fffffff - n
 
 unfoldable mutual
   pub flat : Form → List ℕ
-  flat (num z) = pack 1 0 (numberArg z) ∷ []
-  flat (truth b) = pack 2 0 (pick b 1 0) ∷ []
-  flat (row g) = pack 3 0 g ∷ []
-  flat (cell c g) = pack 4 0 (1024 * c + g) ∷ []
-  flat (rec ts) = pack 5 (sizeF ts) 0 ∷ flatF ts
-  flat (bin o s t) = pack 6 (size s + size t) (opArg o) ∷ (flat s ++ flat t)
-  flat (negate t) = pack 7 (size t) 0 ∷ flat t
-  flat (app f ts) = pack 11 (sizeF ts) (funArg f) ∷ flatF ts
-  flat (comp m q h) = pack 8 (sizeC q + size h) (monoidArg m) ∷ (flatC q ++ flat h)
+  flat (num z) = pack numberKind 0 (numberArg z) ∷ []
+  flat (truth b) = pack truthKind 0 (pick b 1 0) ∷ []
+  flat (row g) = pack rowKind 0 g ∷ []
+  flat (cell c g) = pack cellKind 0 (pairSpan * c + g) ∷ []
+  flat (rec ts) = pack recordKind (sizeF ts) 0 ∷ flatF ts
+  flat (bin o s t) = pack binaryKind (size s + size t) (opArg o) ∷ (flat s ++ flat t)
+  flat (negate t) = pack negationKind (size t) 0 ∷ flat t
+  flat (app f ts) = pack operatorKind (sizeF ts) (funArg f) ∷ flatF ts
+  flat (comp m q h) = pack comprehensionKind (sizeC q + size h) (monoidArg m) ∷ (flatC q ++ flat h)
 
   pub flatF : Forms → List ℕ
   flatF fnil = []
@@ -56,8 +57,8 @@ unfoldable mutual
   -- below a generator is nothing, below a condition its form
   pub flatC : Clauses → List ℕ
   flatC done = []
-  flatC (gen g k q) = pack 9 0 (1024 * g + k) ∷ flatC q
-  flatC (cond t q) = pack 10 (size t) 0 ∷ (flat t ++ flatC q)
+  flatC (gen g k q) = pack generatorKind 0 (pairSpan * g + k) ∷ flatC q
+  flatC (cond t q) = pack conditionKind (size t) 0 ∷ (flat t ++ flatC q)
 
 -- constants within 32 bits signed; generators, columns and tables below 1,024
 abbrev mutual

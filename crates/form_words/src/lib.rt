@@ -15,7 +15,7 @@ use base_syntax::Monoid;
 use base_syntax::OFFSET;
 use base_syntax::Op;
 
-// The kinds of nodes.
+// The kinds of nodes (specs/Kinds.antt).
 pub const NUMBER: u64 = 1;
 
 pub const TRUTH: u64 = 2;

@@ -15,13 +15,13 @@ use Rattle.spec_encoding.specs.Reader as Re
 use Rattle.front_theory.specs.NodeTable.{Node, nnum, ntruth, nname, nfield, nrec, nbin, nnegate, napp, ncomp, ntable, ngen, nbind, ncond, nbad}
 use Rattle.front_theory.specs.CappedOffsets.{limit}
 use Rattle.front_theory.specs.FormWords.{words}
-use Rattle.base_scratch.specs.Map.{places}
+use Rattle.base_scratch.specs.Map.{places, mostNodes}
 use Rattle.form_words.specs.FormWords.{numberArg}
 use Rattle.front_words.specs.NodeWord.{argOf, nodeWord}
 use Rattle.front_words.specs.NodeTree.{numberOf, kindAt, argAt}
 use Rattle.base_syntax.specs.declared.Fun.{Fun}
 use Rattle.base_syntax.specs.Numbers.{funOf, funArg}
-use Rattle.front_nodes.specs.NodeTable.{most, above, nameBy, nodeBy, nodesOf}
+use Rattle.front_nodes.specs.NodeTable.{above, nameBy, nodeBy, nodesOf}
 use Rattle.front_nodes.proofs.PostOrder.{by-pick}
 use Rattle.front_resolve.specs.Place.{Place, FormAt}
 use Rattle.front_resolve.specs.declared.Form.{Form}
@@ -86,7 +86,7 @@ says-kind s i Re.unknown = tt
 
 pub number-arg : (s : List ℕ) (i : ℕ) (z : ℤ) → nodesOf s i ≡ nnum z → argAt s i ≡ numberArg z
 unfolding nodesOf
-number-arg s i z e = subst (Says (argAt s i)) e (by-pick (Says (argAt s i)) (ltb i most) (nodeBy s i (kindAt s i)) nbad (λ t. says-kind s i (kindAt s i)) (λ t. tt))
+number-arg s i z e = subst (Says (argAt s i)) e (by-pick (Says (argAt s i)) (ltb i mostNodes) (nodeBy s i (kindAt s i)) nbad (λ t. says-kind s i (kindAt s i)) (λ t. tt))
 
 -- ---- which forms have terms
 -- all but a record and an operator

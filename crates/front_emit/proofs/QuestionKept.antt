@@ -17,11 +17,11 @@ use Rattle.spec_normal_form.specs.Size.{nodesC}
 use Rattle.front_theory.specs.NodeTable.{Node, Nodes, nnum, ntruth, nname, nfield, nrec, nbin, nnegate, napp, ncomp, ntable, ngen, nbind, ncond, nbad}
 use Rattle.front_theory.specs.NodeForms.{Env, Offsets, At, boundOf, qualOf, semOf, semAt, sem}
 use Rattle.front_theory.specs.CappedOffsets.{limit}
-use Rattle.base_scratch.specs.Map.{bindersAt, formAt, sizesAt}
+use Rattle.base_scratch.specs.Map.{bindersAt, formAt, sizesAt, mostNodes}
 use Rattle.front_words.specs.NodeWord.{nodeWord}
 use Rattle.front_sizes.specs.declared.FormSize.{FormSize}
 use Rattle.front_sizes.specs.SizeWords.{wordAt, secondPair, thirdPair, conditionCount, stored}
-use Rattle.front_nodes.specs.NodeTable.{most, depthAt, childrenOf, qualifiersOf, nodesOf, nodeBy}
+use Rattle.front_nodes.specs.NodeTable.{depthAt, childrenOf, qualifiersOf, nodesOf, nodeBy}
 use Rattle.front_nodes.specs.Levels.{Level}
 use Rattle.front_nodes.proofs.PostOrder.{post-order}
 use Rattle.front_nodes.proofs.Depths.{level-same}
@@ -83,38 +83,38 @@ module _ (K : ℕ → Collection) (N : Nodes) (off off′ : Offsets) (O : (x c :
   sem-offsets = fun-ext λ i. ap (λ (A : At). A i) (at-offsets (suc i))
 
 -- a generator is one of the nodes
-gen-inside : (s : List ℕ) (x c : ℕ) → nodesOf s x ≡ ngen c → x < most
+gen-inside : (s : List ℕ) (x c : ℕ) → nodesOf s x ≡ ngen c → x < mostNodes
 unfolding nodesOf pick
-gen-inside s x c e = go (ltb x most) refl e
+gen-inside s x c e = go (ltb x mostNodes) refl e
   where
-    go : (b : Bool) → ltb x most ≡ b → pick b (nodeBy s x (kindAt s x)) nbad ≡ ngen c → x < most
-    go true t p = ltb-true x most t
+    go : (b : Bool) → ltb x mostNodes ≡ b → pick b (nodeBy s x (kindAt s x)) nbad ≡ ngen c → x < mostNodes
+    go true t p = ltb-true x mostNodes t
     go false t p = let z : _≡_ {A = ℕ} 0 1 = cc in absurd (omega arith)
 
 -- ---- what the scratch says
 module _ {s s′ : List ℕ} (H : Kept s s′) where
-  node-words : (j : ℕ) → j < most → nodeWord s′ j ≡ nodeWord s j
+  node-words : (j : ℕ) → j < mostNodes → nodeWord s′ j ≡ nodeWord s j
   node-words j h = H .same (16 + j) (omega arith)
 
-  binder-words : (x : ℕ) → x < most → getD s′ (bindersAt + x) 0 ≡ getD s (bindersAt + x) 0
+  binder-words : (x : ℕ) → x < mostNodes → getD s′ (bindersAt + x) 0 ≡ getD s (bindersAt + x) 0
   binder-words x h = H .same (bindersAt + x) (omega arith)
 
   pub nodes-kept : nodesOf s′ ≡ nodesOf s
   nodes-kept = nodes-same s s′ node-words binder-words
 
-  pub depth-kept : (i : ℕ) → i < most → depthAt s′ i ≡ depthAt s i
+  pub depth-kept : (i : ℕ) → i < mostNodes → depthAt s′ i ≡ depthAt s i
   depth-kept = depth-same s s′ node-words binder-words
 
-  pub children-kept : (i : ℕ) → i < most → childrenOf s′ i ≡ childrenOf s i
+  pub children-kept : (i : ℕ) → i < mostNodes → childrenOf s′ i ≡ childrenOf s i
   children-kept = children-same s s′ node-words binder-words
 
-  qualifiers-kept : (i : ℕ) → i < most → qualifiersOf s′ i ≡ qualifiersOf s i
+  qualifiers-kept : (i : ℕ) → i < mostNodes → qualifiersOf s′ i ≡ qualifiersOf s i
   qualifiers-kept = qualifiers-same s s′ node-words binder-words
 
   node-kept : (i : ℕ) {y z : Node} → nodesOf s i ≡ y → y ≡ z → nodesOf s′ i ≡ z
   node-kept i e f = ap (λ (N : Nodes). N i) nodes-kept ∙ e ∙ f
 
-  pub fine-kept : {h : Place} → h .node < most → Fine s h → Fine s′ h
+  pub fine-kept : {h : Place} → h .node < mostNodes → Fine s h → Fine s′ h
   fine-kept {h} l F = record { form = go (h .form) (F .form); long = F .long }
     where
       go : (f : Form) → FormAt s (h .node) (h .depth) f → FormAt s′ (h .node) (h .depth) f
@@ -134,14 +134,14 @@ module _ {s s′ : List ℕ} (H : Kept s s′) where
   unfolding collections
   collections-kept = fun-ext λ k. ap (λ (w : ℕ). collectionOf (collectionIn w)) (table-same s′ s (λ j p. H .same j (omega arith)) k)
 
-  size-word : (x k : ℕ) → x < most → k < 2 → wordAt s′ x k ≡ wordAt s x k
+  size-word : (x k : ℕ) → x < mostNodes → k < 2 → wordAt s′ x k ≡ wordAt s x k
   size-word x k h l = H .same (sizesAt + 2 * x + k) (omega arith)
 
-  count-kept : (x : ℕ) (v : Bool) → x < most → conditionCount s′ x v ≡ conditionCount s x v
+  count-kept : (x : ℕ) (v : Bool) → x < mostNodes → conditionCount s′ x v ≡ conditionCount s x v
   unfolding conditionCount
   count-kept x v h = ap (λ (w : ℕ). pick v (thirdPair w) (secondPair w)) (size-word x 0 h (omega arith))
 
-  offsets-kept : (x : ℕ) → x < most → offsets s′ x ≡ offsets s x
+  offsets-kept : (x : ℕ) → x < mostNodes → offsets s′ x ≡ offsets s x
   unfolding stored
   offsets-kept x h = fun-ext λ v. fun-ext λ n. ap (λ (w : ℕ). min (n + pick v (thirdPair w .gens) (thirdPair w .size)) limit) (size-word x 1 h (omega arith))
 

@@ -14,8 +14,8 @@ use Rattle.front_theory.specs.NodeForms.{Env, At, semsOf, levels}
 use Rattle.front_theory.specs.FormWords.{words, wordsF, wordsC}
 use Rattle.spec_normal_form.proofs.FixedPoint.{quote-binary}
 use Rattle.base_syntax.specs.declared.Monoid.{Monoid}
-use Rattle.base_scratch.specs.Map.{places}
-use Rattle.front_nodes.specs.NodeTable.{most, depthAt, childrenOf, nodesOf}
+use Rattle.base_scratch.specs.Map.{places, mostNodes}
+use Rattle.front_nodes.specs.NodeTable.{depthAt, childrenOf, nodesOf}
 use Rattle.front_nodes.specs.Look.{nth, ChildPost}
 use Rattle.front_nodes.specs.Levels.{AllAt, Level}
 use Rattle.base_syntax.specs.declared.Fun.{Fun}
@@ -92,7 +92,7 @@ module _ {s : List ℕ} {h : Place} {st : State} {k : ℕ} (S : StartsAt s h st 
   node-level {y} e =
       subst (λ d. Level (depthAt s) d y) (S .starts .depth) (subst (Level (depthAt s) (depthAt s (h .node))) e (S .starts .ready .levelled (h .node) (S .starts .inside)))
 
-  in-table : h .node < most
+  in-table : h .node < mostNodes
   in-table = omega (arith, S .starts .inside, S .starts .ready .few)
 
   -- a node below it

@@ -14,34 +14,35 @@ use Rattle.front_theory.specs.Writer.{state, tellC, Emits, EmitsF, EmitsC, Emit
 use Rattle.front_theory.specs.Writer as No
 use Rattle.form_words.specs.NodeWord.{pack}
 use Rattle.form_words.specs.FormWords.{numberArg}
+use Rattle.form_words.specs.Kinds.{numberKind, truthKind, rowKind, cellKind, recordKind, binaryKind, negationKind, comprehensionKind, generatorKind, conditionKind, operatorKind, pairSpan}
 use Rattle.base_scratch.specs.Map.{formAt}
 use Rattle.front_emit.specs.declared.State.{State}
 use Rattle.base_syntax.specs.Numbers.{opArg, funArg, monoidArg}
 
 -- a word in scratch: kind, how many words are below it, argument
 abbrev pub kindIn : Label → ℕ
-kindIn (wnum z) = 1
-kindIn (wtruth b) = 2
-kindIn (wrow g) = 3
-kindIn (wcell c g) = 4
-kindIn wrec = 5
-kindIn (wbin o) = 6
-kindIn wnegate = 7
-kindIn (wcomp m) = 8
-kindIn (wgen g k) = 9
-kindIn wcond = 10
-kindIn (wapp f) = 11
+kindIn (wnum z) = numberKind
+kindIn (wtruth b) = truthKind
+kindIn (wrow g) = rowKind
+kindIn (wcell c g) = cellKind
+kindIn wrec = recordKind
+kindIn (wbin o) = binaryKind
+kindIn wnegate = negationKind
+kindIn (wcomp m) = comprehensionKind
+kindIn (wgen g k) = generatorKind
+kindIn wcond = conditionKind
+kindIn (wapp f) = operatorKind
 
 abbrev pub argIn : Label → ℕ
 argIn (wnum z) = numberArg z
 argIn (wtruth b) = pick b 1 0
 argIn (wrow g) = g
-argIn (wcell c g) = 1024 * c + g
+argIn (wcell c g) = pairSpan * c + g
 argIn wrec = 0
 argIn (wbin o) = opArg o
 argIn wnegate = 0
 argIn (wcomp m) = monoidArg m
-argIn (wgen g k) = 1024 * g + k
+argIn (wgen g k) = pairSpan * g + k
 argIn wcond = 0
 argIn (wapp f) = funArg f
 
@@ -80,7 +81,7 @@ pub record ClosePost (k a p e : ℕ) (s s′ : List ℕ) : Type 0 where
   pub is : s′ ≡ set s (formAt + p) (pack k (e - (p + 1)) a)
 
 pub record GeneratorPost (k : ℕ) (s : List ℕ) (st : State) (s′ : List ℕ) (r : State) : Type 0 where
-  pub is : s′ ≡ set s (formAt + st .place) (pack 9 0 (1024 * st .next + k))
+  pub is : s′ ≡ set s (formAt + st .place) (pack generatorKind 0 (pairSpan * st .next + k))
   pub on : r ≡ numbered st
 
 -- Just the words of this were written: as a term, as the terms of a record or an operator, as a condition, as a generator's term.

@@ -4,6 +4,7 @@ use mathlib.Core.Bool.{Bool, true, false, _||_}
 use mathlib.Core.List.{List}
 use Prim.Native.Nat.{ℕ, suc, _+_, _<_, _≤_}
 use lib.ListN.{length, drop}
+use Rattle.form_words.specs.Kinds.{recordKind, operatorKind}
 use Rattle.spec_calculus.specs.Syntax.{Collection, of}
 use Rattle.spec_encoding.specs.Data.{collectionOf}
 use Rattle.base_tables.specs.Description.{collectionIn, tableIn}
@@ -17,9 +18,9 @@ use Rattle.base_syntax.specs.declared.Monoid.{Monoid}
 use Rattle.base_syntax.specs.MonoidWord.{monoidOf}
 use Rattle.base_syntax.specs.declared.Fun.{Fun}
 use Rattle.base_syntax.specs.Numbers.{funOf, funArg}
-use Rattle.base_scratch.specs.Map.{places}
+use Rattle.base_scratch.specs.Map.{places, mostNodes}
 use Rattle.front_sizes.specs.SizeWords.{conditionCount}
-use Rattle.front_nodes.specs.NodeTable.{most, depthAt, childrenOf, chain, qualifiersOf, nodesOf}
+use Rattle.front_nodes.specs.NodeTable.{depthAt, childrenOf, chain, qualifiersOf, nodesOf}
 use Rattle.front_nodes.specs.Levels.{AllAt, Levelled}
 use Rattle.front_resolve.specs.Place.{Place, envOf, semN, placeSem, FormAt, Fine}
 use Rattle.front_resolve.specs.declared.Form.{Form}
@@ -84,7 +85,7 @@ Measured s n = (x : ℕ) → x < n → (v : Bool) → conditionCount s x v .size
 
 -- The depths of the first n nodes agree, and their sizes are stored.
 pub record Ready (s : List ℕ) (n : ℕ) : Type 0 where
-  pub few : n ≤ most
+  pub few : n ≤ mostNodes
   pub levelled : Levelled (nodesOf s) (depthAt s) n
   pub measured : Measured s n
 
@@ -144,8 +145,8 @@ QualifiersPre s lo e D l v st = StartsQ s lo e D st (wordsC (clausesOf (nodesOf 
 
 -- the forms with any number of terms, and the kind and the argument of their word
 pub data Headed : Form → ℕ → ℕ → Type 0 where
-  a-record : Headed Record 5 0
-  an-operator : (f : Fun) → Headed (Operator f) 11 (funArg (funOf f))
+  a-record : Headed Record recordKind 0
+  an-operator : (f : Fun) → Headed (Operator f) operatorKind (funArg (funOf f))
 
 abbrev pub Termed : Form → Type 0
 Termed f = (k : ℕ) × (a : ℕ) × Headed f k a

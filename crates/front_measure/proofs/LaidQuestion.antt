@@ -15,7 +15,8 @@ use Rattle.front_words.specs.LaidTree.{nodes, nodesL, nodesQ, Node, Laid, LaidL
 use Rattle.front_words.proofs.NodeWords.{some-nodes, laid-start}
 use Rattle.front_theory.specs.NodeTable as No
 use Rattle.front_words.specs.Binders.{binderWord}
-use Rattle.front_nodes.specs.NodeTable.{most, depthAt, childrenOf, chain, qualifiersOf, above, nameBy, nodeBy, nodesOf}
+use Rattle.base_scratch.specs.Map.{mostNodes}
+use Rattle.front_nodes.specs.NodeTable.{depthAt, childrenOf, chain, qualifiersOf, above, nameBy, nodeBy, nodesOf}
 use Rattle.front_nodes.proofs.PostOrder.{by-pick}
 use Rattle.front_nodes.proofs.QualifierChain.{chain-none, chain-more}
 use Rattle.front_nodes.proofs.TableHolds.{node-is, up, node-at, lastsL, children-are}
@@ -41,10 +42,10 @@ pub record Last (s : List ℕ) (d j : ℕ) : Type 0 where
   pub depth : depthAt s j ≡ d
   pub kind : TermAt s j
 
-last-by : {s : List ℕ} {d a i : ℕ} {K : Kind} → Node s d a i K → (j : ℕ) → i ≡ j → j < most → qualifies (nodeBy s j K) ≡ false → Last s d j
+last-by : {s : List ℕ} {d a i : ℕ} {K : Kind} → Node s d a i K → (j : ℕ) → i ≡ j → j < mostNodes → qualifies (nodeBy s j K) ≡ false → Last s d j
 last-by {s} N j e h q = record { depth = ap (depthAt s) (sym e) ∙ N .depth; kind = ap qualifies (node-is (node-at e N) h) ∙ q }
 
-last : (t : Term) (s : List ℕ) (d a : ℕ) → Laid s d a t → a + nodes t ≤ most → (j : ℕ) → a + nodes t ≡ j + 1 → Last s d j
+last : (t : Term) (s : List ℕ) (d a : ℕ) → Laid s d a t → a + nodes t ≤ mostNodes → (j : ℕ) → a + nodes t ≡ j + 1 → Last s d j
 unfolding nodes
 last (num z) s d a L m j e = last-by (L .0) j (omega arith) (omega arith) refl
 last (truth b) s d a L m j e = last-by (L .0) j (omega arith) (omega arith) refl
@@ -58,10 +59,10 @@ last (comp n qs h) s d a L m j e = last-by (L .2) j (omega arith) (omega arith) 
 last (table k) s d a L m j e = last-by (L .0) j (omega arith) (omega arith) refl
 
 -- the node before the end of a tree
-last-at : (t : Term) (s : List ℕ) (d a j : ℕ) → Laid s d a t → a + nodes t ≤ most → a + nodes t ≡ j → Last s d (j - 1)
+last-at : (t : Term) (s : List ℕ) (d a j : ℕ) → Laid s d a t → a + nodes t ≤ mostNodes → a + nodes t ≡ j → Last s d (j - 1)
 last-at t s d a j L m e = last t s d a L m (j - 1) (omega (arith, some-nodes t))
 
-terms-at : (ts : Terms) (s : List ℕ) (d a : ℕ) → LaidL s d a ts → a + nodesL ts ≤ most → TermsAt s (lastsL a ts)
+terms-at : (ts : Terms) (s : List ℕ) (d a : ℕ) → LaidL s d a ts → a + nodesL ts ≤ mostNodes → TermsAt s (lastsL a ts)
 unfolding nodes TermsAt lastsL
 terms-at tnil s d a L m = tt
 terms-at (tcons t ts) s d a L m = (last-at t s d a (a + nodes t) (L .0) (omega arith) refl .kind, terms-at ts s d (a + nodes t) (L .1) (omega arith))
@@ -73,7 +74,7 @@ Ahead s d a = 0 < a → depthAt s (a - 1) ≤ d
 deeper : (s : List ℕ) (d a : ℕ) → Ahead s d a → Ahead s (d + 1) a
 deeper s d a h p = omega (arith, h p)
 
-behind-tree : (t : Term) (s : List ℕ) (d a : ℕ) → Laid s d a t → a + nodes t ≤ most → Ahead s d (a + nodes t)
+behind-tree : (t : Term) (s : List ℕ) (d a : ℕ) → Laid s d a t → a + nodes t ≤ mostNodes → Ahead s d (a + nodes t)
 behind-tree t s d a L m p = omega (arith, last-at t s d a (a + nodes t) L m refl .depth)
 
 behind-node : {s : List ℕ} {d a i : ℕ} {K : Kind} → Node s d a i K → Ahead s d (i + 1)
@@ -108,10 +109,10 @@ row-step {s} {d} {a} {q} N l h lo k p =
     let b : startAt s (e - 1) ≡ a = ap (startAt s) z ∙ omega (arith, N .start) in
     chain-more s lo e (omega arith) ∙ ap (λ (x : List ℕ). x ++ ((e - 1) ∷ [])) (ap (chain s lo) b ∙ p ∙ ap (row s d) (sym b)) ∙ sym (row-more s d e (row-ends N h e refl))
 
-is-qualifier : {s : List ℕ} {d a q : ℕ} {K : Kind} (y : No.Node) → Node s d a q K → q < most → 0 < q → nodeBy s q K ≡ above q y → qualifies y ≡ true → qualifies (nodesOf s q) ≡ true
+is-qualifier : {s : List ℕ} {d a q : ℕ} {K : Kind} (y : No.Node) → Node s d a q K → q < mostNodes → 0 < q → nodeBy s q K ≡ above q y → qualifies y ≡ true → qualifies (nodesOf s q) ≡ true
 is-qualifier {q = q} y N h p e t = ap qualifies (node-is N h ∙ e ∙ up q y p) ∙ t
 
-laid-row : (qs : Quals) (s : List ℕ) (d a lo : ℕ) → LaidQ s d a qs → a + nodesQ qs ≤ most → lo ≤ a → chain s lo a ≡ row s d a → (e : ℕ) → a + nodesQ qs ≡ e → chain s lo e ≡ row s d e
+laid-row : (qs : Quals) (s : List ℕ) (d a lo : ℕ) → LaidQ s d a qs → a + nodesQ qs ≤ mostNodes → lo ≤ a → chain s lo a ≡ row s d a → (e : ℕ) → a + nodesQ qs ≡ e → chain s lo e ≡ row s d e
 unfolding nodes
 laid-row qnil s d a lo L m k p e q = subst (λ (x : ℕ). chain s lo x ≡ row s d x) (omega (arith, q)) p
 laid-row (gen x t qs) s d a lo L m k p e q =
@@ -124,7 +125,7 @@ laid-row (cond t qs) s d a lo L m k p e q =
     let i = a + nodes t in
     laid-row qs s d (i + 1) lo (L .2) (omega arith) (omega arith) (row-step (L .1) (omega arith) (is-qualifier (No.ncond (i - 1)) (L .1) (omega arith) (omega (arith, some-nodes t)) refl refl) lo k p) e (omega arith)
 
-comp-row : (qs : Quals) (h : Term) (s : List ℕ) (d a j : ℕ) → LaidQ s (d + 1) a qs → Laid s (d + 1) (a + nodesQ qs) h → Node s d a j comprehension → a + nodesQ qs + nodes h ≡ j → j < most → Ahead s d a
+comp-row : (qs : Quals) (h : Term) (s : List ℕ) (d a j : ℕ) → LaidQ s (d + 1) a qs → Laid s (d + 1) (a + nodesQ qs) h → Node s d a j comprehension → a + nodesQ qs + nodes h ≡ j → j < mostNodes → Ahead s d a
     → (qualifiersOf s j ≡ row s (depthAt s (j - 1)) (startAt s (j - 1))) × TermAt s (j - 1)
 comp-row qs h s d a j L M N e m B =
     let z = last-at h s (d + 1) (a + nodesQ qs) j M (omega arith) e in
@@ -139,7 +140,7 @@ comp-row qs h s d a j L M N e m B =
 abbrev AlignedOf : List ℕ → ℕ → Type 0
 AlignedOf s j = Aligned s (nodesOf s j)
 
-aligned-by : {s : List ℕ} {d a i : ℕ} {K : Kind} → Node s d a i K → (j : ℕ) → i ≡ j → j < most → Aligned s (nodeBy s j K) → AlignedOf s j
+aligned-by : {s : List ℕ} {d a i : ℕ} {K : Kind} → Node s d a i K → (j : ℕ) → i ≡ j → j < mostNodes → Aligned s (nodeBy s j K) → AlignedOf s j
 aligned-by {s} N j e h l = subst (Aligned s) (sym (node-is (node-at e N) h)) l
 
 aligned-above : (s : List ℕ) (i : ℕ) (n : No.Node) → Aligned s n → Aligned s (above i n)
@@ -162,7 +163,7 @@ either s j y p q = by-test (ltb j y) (λ t. p (ltb-true j y t)) (λ t. q (ltb-fa
 upto : (s : List ℕ) (j y : ℕ) → j < y + 1 → (j < y → AlignedOf s j) → (y ≡ j → AlignedOf s j) → AlignedOf s j
 upto s j y h p q = either s j y p (λ l. q (omega arith))
 
-two-terms : (t u : Term) (s : List ℕ) (d a j : ℕ) → Laid s d a t → Laid s d (a + nodes t) u → a + nodes t + nodes u ≡ j → j < most → TermAt s (startAt s (j - 1) - 1) × TermAt s (j - 1)
+two-terms : (t u : Term) (s : List ℕ) (d a j : ℕ) → Laid s d a t → Laid s d (a + nodes t) u → a + nodes t + nodes u ≡ j → j < mostNodes → TermAt s (startAt s (j - 1) - 1) × TermAt s (j - 1)
 two-terms t u s d a j L M e m =
     let b : startAt s (j - 1) ≡ a + nodes t = ap (λ (x : ℕ). startAt s (x - 1)) (sym e) ∙ laid-start u s d (a + nodes t) M in
     (ap (λ (x : ℕ). qualifies (nodesOf s (x - 1))) b ∙ last-at t s d a (a + nodes t) L (omega arith) refl .kind, last-at u s d (a + nodes t) j M (omega arith) e .kind)
@@ -170,7 +171,7 @@ two-terms t u s d a j L M e m =
 mutual
   unfolding nodes
 
-  aligned : (t : Term) (s : List ℕ) (d a : ℕ) → Laid s d a t → a + nodes t ≤ most → Ahead s d a → (j : ℕ) → a ≤ j → j < a + nodes t → AlignedOf s j
+  aligned : (t : Term) (s : List ℕ) (d a : ℕ) → Laid s d a t → a + nodes t ≤ mostNodes → Ahead s d a → (j : ℕ) → a ≤ j → j < a + nodes t → AlignedOf s j
   aligned (num z) s d a L m B j p q = aligned-by (L .0) j (omega arith) (omega arith) tt
   aligned (truth b) s d a L m B j p q = aligned-by (L .0) j (omega arith) (omega arith) tt
   aligned (name x) s d a L m B j p q = aligned-by (L .0) j (omega arith) (omega arith) (aligned-name s j (binderWord s (argAt s j)))
@@ -197,12 +198,12 @@ mutual
       (λ e. aligned-by (L .2) j e (omega arith) (aligned-above s j (No.ncomp (monoidAt (argAt s j)) (qualifiersOf s j) (j - 1)) (comp-row qs t s d a j (L .0) (L .1) (node-at e (L .2)) e (omega arith) B)))
   aligned (table k) s d a L m B j p q = aligned-by (L .0) j (omega arith) (omega arith) tt
 
-  alignedL : (ts : Terms) (s : List ℕ) (d a : ℕ) → LaidL s d a ts → a + nodesL ts ≤ most → Ahead s d a → (j : ℕ) → a ≤ j → j < a + nodesL ts → AlignedOf s j
+  alignedL : (ts : Terms) (s : List ℕ) (d a : ℕ) → LaidL s d a ts → a + nodesL ts ≤ mostNodes → Ahead s d a → (j : ℕ) → a ≤ j → j < a + nodesL ts → AlignedOf s j
   alignedL tnil s d a L m B j p q = absurd (omega arith)
   alignedL (tcons t ts) s d a L m B j p q =
       either s j (a + nodes t) (λ k. aligned t s d a (L .0) (omega arith) B j p k) (λ k. alignedL ts s d (a + nodes t) (L .1) (omega arith) (behind-tree t s d a (L .0) (omega arith)) j k (omega arith))
 
-  alignedQ : (qs : Quals) (s : List ℕ) (d a : ℕ) → LaidQ s d a qs → a + nodesQ qs ≤ most → Ahead s d a → (j : ℕ) → a ≤ j → j < a + nodesQ qs → AlignedOf s j
+  alignedQ : (qs : Quals) (s : List ℕ) (d a : ℕ) → LaidQ s d a qs → a + nodesQ qs ≤ mostNodes → Ahead s d a → (j : ℕ) → a ≤ j → j < a + nodesQ qs → AlignedOf s j
   alignedQ qnil s d a L m B j p q = absurd (omega arith)
   alignedQ (gen x t qs) s d a L m B j p q =
       either s j (a + nodes t + 1)
@@ -221,7 +222,7 @@ mutual
       (λ k. alignedQ qs s d (a + nodes t + 1) (L .2) (omega arith) (behind-node (L .1)) j k (omega arith))
 
 -- The nodes of a question that lies in the words are as measuring asks.
-pub laid-arranged : (s : List ℕ) (t : Term) → Laid s 0 0 t → nodes t ≤ most → Arranged s (nodes t)
+pub laid-arranged : (s : List ℕ) (t : Term) → Laid s 0 0 t → nodes t ≤ mostNodes → Arranged s (nodes t)
 laid-arranged s t L h = record {
   levelled = laid-levelled s t L h;
   aligned = λ i l. aligned t s 0 0 L (omega arith) (λ p. absurd (omega arith)) i (omega arith) (omega arith);

@@ -9,12 +9,11 @@ use lib.ListN.{length, getD, set, length-set}
 use borrow.Author.Tests.{ltb-true, ltb-false}
 use Rattle.spec_calculus.specs.Lists.{pick}
 use Rattle.spec_calculus.specs.Syntax.{Collection}
-use Rattle.base_scratch.specs.Map.{sizesAt}
+use Rattle.base_scratch.specs.Map.{sizesAt, mostNodes}
 use Rattle.base_signed.proofs.SignedWords.{by-test}
 use Rattle.front_sizes.specs.declared.FormSize.{FormSize}
 use Rattle.front_sizes.specs.SizeWords.{place, wordAt, pack, Small, firstPair, secondPair, thirdPair, conditionCount, splicedCount, stored}
 use Rattle.front_sizes.proofs.SizeWords.{put-term, put-condition, put-spliced, put-stored, put-other, put-word}
-use Rattle.front_nodes.specs.NodeTable.{most}
 use Rattle.front_measure.specs.declared.Ways.{Ways}
 use Rattle.front_measure.specs.declared.Weight.{Weight}
 use Rattle.front_measure.specs.MeasurableNodes.{Arranged}
@@ -106,14 +105,14 @@ pub record Going (s₀ : List ℕ) (n : ℕ) (s : List ℕ) (i : ℕ) : Type 0 w
   pub long : length s ≡ length s₀
   pub front : (j : ℕ) → j < sizesAt → getD s j 0 ≡ getD s₀ j 0
   pub back : (j : ℕ) → place i 0 ≤ j → getD s j 0 ≡ getD s₀ j 0
-  pub kept : Arranged s₀ n → n ≤ most → place n 0 ≤ length s₀ → (K : ℕ → Collection) (j : ℕ) → j < i → Kept K s₀ s j
+  pub kept : Arranged s₀ n → n ≤ mostNodes → place n 0 ≤ length s₀ → (K : ℕ → Collection) (j : ℕ) → j < i → Kept K s₀ s j
 
 pub going-first : (s : List ℕ) (n : ℕ) → Going s n s 0
 going-first s n = record { upto = omega arith; long = refl; front = λ j h. refl; back = λ j h. refl; kept = λ A m r K j h. absurd (omega (arith, h)) }
 
 module _ {s₀ : List ℕ} {n : ℕ} {s : List ℕ} {i : ℕ} (G : Going s₀ n s i) where
   -- what is kept of the table of s₀ is kept of the table of s, and back
-  own : n ≤ most → {K : ℕ → Collection} {j : ℕ} → j < n → Kept K s₀ s j → Kept K s s j
+  own : n ≤ mostNodes → {K : ℕ → Collection} {j : ℕ} → j < n → Kept K s₀ s j → Kept K s s j
   own m h M = measured-same s₀ s (G .front) (omega arith) M
 
   pub going-on : {w : Weight} {r : List ℕ} → i < n → WeighPost s i w → r ≡ storing s i w → Going s₀ n r (i + 1)

@@ -22,7 +22,8 @@ use Rattle.front_theory.proofs.CappedOffsets.{written}
 use Rattle.front_words.specs.NodeTree.{startAt}
 use Rattle.front_sizes.specs.declared.FormSize.{FormSize}
 use Rattle.front_sizes.specs.SizeWords.{place, termCount, conditionCount, stored}
-use Rattle.front_nodes.specs.NodeTable.{most, depthAt, nodesOf}
+use Rattle.base_scratch.specs.Map.{mostNodes}
+use Rattle.front_nodes.specs.NodeTable.{depthAt, nodesOf}
 use Rattle.front_nodes.specs.Levels.{AllAt}
 use Rattle.front_nodes.proofs.PostOrder.{by-pick, post-order}
 use Rattle.front_measure.specs.Measure.{clausesCount, beside, none, termOf, qualifierOf, total, allOf, OffsetsQ}
@@ -204,7 +205,7 @@ module _ (r : List ℕ) (n : ℕ) (A : Arranged r n) (kept : (K : ℕ → Collec
       (λ t. tt))
 
 -- ---- after measuring
-module _ {s r : List ℕ} {n : ℕ} (M : MeasurePost s n r) (A : Arranged s n) (few : n ≤ most) (room : place n 0 ≤ length s) where
+module _ {s r : List ℕ} {n : ℕ} (M : MeasurePost s n r) (A : Arranged s n) (few : n ≤ mostNodes) (room : place n 0 ≤ length s) where
   pub still-arranged : Arranged r n
   still-arranged = arranged-same s r (M .front) n few A
 

@@ -6,10 +6,10 @@ use Prim.Native.Nat.{ℕ, _<_, _≤_}
 use lib.ListN.{length, getD}
 use Rattle.spec_calculus.specs.Syntax.{Collection}
 use Rattle.front_theory.specs.NodeTable.{Nodes}
-use Rattle.base_scratch.specs.Map.{sizesAt}
+use Rattle.base_scratch.specs.Map.{sizesAt, mostNodes}
 use Rattle.front_sizes.specs.declared.FormSize.{FormSize}
 use Rattle.front_sizes.specs.SizeWords.{place, termCount, conditionCount, splicedCount, stored}
-use Rattle.front_nodes.specs.NodeTable.{most, depthAt, nodesOf}
+use Rattle.front_nodes.specs.NodeTable.{depthAt, nodesOf}
 use Rattle.front_measure.specs.Measure.{none, termOf, conditionOf, spliceOf, qualifierOf, allOf}
 use Rattle.front_measure.specs.MeasurableNodes.{qualifies, ahead, Arranged}
 
@@ -41,4 +41,4 @@ pub record MeasurePost (s : List ℕ) (n : ℕ) (r : List ℕ) : Type 0 where
   pub long : length r ≡ length s
   pub front : (j : ℕ) → j < sizesAt → getD r j 0 ≡ getD s j 0
   pub back : (j : ℕ) → place n 0 ≤ j → getD r j 0 ≡ getD s j 0
-  pub kept : Arranged s n → n ≤ most → place n 0 ≤ length s → (K : ℕ → Collection) (i : ℕ) → i < n → Kept K s r i
+  pub kept : Arranged s n → n ≤ mostNodes → place n 0 ≤ length s → (K : ℕ → Collection) (i : ℕ) → i < n → Kept K s r i

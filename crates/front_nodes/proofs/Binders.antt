@@ -7,11 +7,10 @@ use native.Mathlib.Omega.{arith}
 use Rattle.spec_calculus.specs.Syntax.{Term, Terms, Quals, num, truth, name, field, rec, bin, negate, app, comp, table, tnil, tcons, qnil, gen, bind, cond, Question, asTerm}
 use Rattle.spec_encoding.specs.Reader.{Kind, unknown, number, truthK, nameK, fieldK, record′, not, tableK, comprehension, generator, binding, condition, choiceK, two-terms}
 use lib.ListN.{getD}
-use Rattle.base_scratch.specs.Map.{bindersAt}
+use Rattle.base_scratch.specs.Map.{bindersAt, mostNodes}
 use Rattle.front_words.specs.NodeTree.{kindAt, argAt}
 use Rattle.front_words.specs.LaidTree.{nodes, nodesL, nodesQ, Laid, LaidL, LaidQ}
 use Rattle.front_words.specs.Binders.{binderWord}
-use Rattle.front_nodes.specs.NodeTable.{most}
 use Rattle.front_nodes.specs.QuestionTree.{BindersAt, BindersAtL, BindersAtQ, BindersRight}
 use Rattle.front_words.proofs.NodeWords.{binder-at}
 
@@ -34,7 +33,7 @@ Binding unknown = ⊥
 
 -- each qualifier below n that binds a name is in the name's word
 abbrev pub EachBound : List ℕ → ℕ → Type 0
-EachBound s n = (y : ℕ) → y < n → Binding (kindAt s y) → (argAt s y < most) × (getD s (bindersAt + argAt s y) 0 ≡ y + 1)
+EachBound s n = (y : ℕ) → y < n → Binding (kindAt s y) → (argAt s y < mostNodes) × (getD s (bindersAt + argAt s y) 0 ≡ y + 1)
 
 module _ (s : List ℕ) (n : ℕ) (E : EachBound s n) where
   at-binder : (y x : ℕ) (K : Kind) → y < n → kindAt s y ≡ K → Binding K → argAt s y ≡ x → binderWord s x ≡ y + 1

@@ -14,7 +14,8 @@ use Rattle.front_words.specs.LaidTree.{nodes, nodesL, nodesQ, Node, Laid, LaidL
 use Rattle.front_words.proofs.NodeWords.{laid-start}
 use Rattle.front_theory.specs.NodeTable as No
 use Rattle.front_words.specs.Binders.{binderWord}
-use Rattle.front_nodes.specs.NodeTable.{most, depthAt, childrenOf, qualifiersOf, above, nameBy, nodeBy, nodesOf}
+use Rattle.base_scratch.specs.Map.{mostNodes}
+use Rattle.front_nodes.specs.NodeTable.{depthAt, childrenOf, qualifiersOf, above, nameBy, nodeBy, nodesOf}
 use Rattle.front_nodes.specs.Levels.{AllAt, Level, Levelled}
 use Rattle.front_nodes.proofs.PostOrder.{by-pick}
 use Rattle.front_nodes.proofs.TableHolds.{node-is, node-at, lastsL, lastsQ, children-are, qualifiers-are}
@@ -63,7 +64,7 @@ abbrev LevelOf : List ℕ → ℕ → Type 0
 LevelOf s j = Level (depthAt s) (depthAt s j) (nodesOf s j)
 
 -- a node that lies there, by its kind
-level-by : {s : List ℕ} {d a i : ℕ} {K : Kind} → Node s d a i K → (j : ℕ) → i ≡ j → j < most → Level (depthAt s) d (nodeBy s j K) → LevelOf s j
+level-by : {s : List ℕ} {d a i : ℕ} {K : Kind} → Node s d a i K → (j : ℕ) → i ≡ j → j < mostNodes → Level (depthAt s) d (nodeBy s j K) → LevelOf s j
 level-by {s} {d} {K = K} N j e h l =
     subst (Level (depthAt s) (depthAt s j)) (sym (node-is (node-at e N) h)) (subst (λ (D : ℕ). Level (depthAt s) D (nodeBy s j K)) (sym (depth-at N j e)) l)
 
@@ -98,7 +99,7 @@ comp-depths qs h s d a j L M N e =
 mutual
   unfolding nodes
 
-  levels : (t : Term) (s : List ℕ) (d a : ℕ) → Laid s d a t → a + nodes t ≤ most → (j : ℕ) → a ≤ j → j < a + nodes t → LevelOf s j
+  levels : (t : Term) (s : List ℕ) (d a : ℕ) → Laid s d a t → a + nodes t ≤ mostNodes → (j : ℕ) → a ≤ j → j < a + nodes t → LevelOf s j
   levels (num z) s d a L m j p q = level-by (L .0) j (omega arith) (omega arith) tt
   levels (truth b) s d a L m j p q = level-by (L .0) j (omega arith) (omega arith) tt
   levels (name x) s d a L m j p q = level-by (L .0) j (omega arith) (omega arith) (name-level s d j (binderWord s (argAt s j)))
@@ -124,11 +125,11 @@ mutual
       (λ e. level-by (L .2) j e (omega arith) (level-above s d j (No.ncomp (monoidAt (argAt s j)) (qualifiersOf s j) (j - 1)) (comp-depths qs t s d a j (L .0) (L .1) (node-at e (L .2)) e)))
   levels (table k) s d a L m j p q = level-by (L .0) j (omega arith) (omega arith) tt
 
-  levelsL : (ts : Terms) (s : List ℕ) (d a : ℕ) → LaidL s d a ts → a + nodesL ts ≤ most → (j : ℕ) → a ≤ j → j < a + nodesL ts → LevelOf s j
+  levelsL : (ts : Terms) (s : List ℕ) (d a : ℕ) → LaidL s d a ts → a + nodesL ts ≤ mostNodes → (j : ℕ) → a ≤ j → j < a + nodesL ts → LevelOf s j
   levelsL tnil s d a L m j p q = absurd (omega arith)
   levelsL (tcons t ts) s d a L m j p q = either s j (a + nodes t) (λ k. levels t s d a (L .0) (omega arith) j p k) (λ k. levelsL ts s d (a + nodes t) (L .1) (omega arith) j k (omega arith))
 
-  levelsQ : (qs : Quals) (s : List ℕ) (d a : ℕ) → LaidQ s d a qs → a + nodesQ qs ≤ most → (j : ℕ) → a ≤ j → j < a + nodesQ qs → LevelOf s j
+  levelsQ : (qs : Quals) (s : List ℕ) (d a : ℕ) → LaidQ s d a qs → a + nodesQ qs ≤ mostNodes → (j : ℕ) → a ≤ j → j < a + nodesQ qs → LevelOf s j
   levelsQ qnil s d a L m j p q = absurd (omega arith)
   levelsQ (gen x t qs) s d a L m j p q =
       either s j (a + nodes t + 1)
@@ -144,7 +145,7 @@ mutual
       (λ k. levelsQ qs s d (a + nodes t + 1) (L .2) (omega arith) j k (omega arith))
 
 -- The depths of all nodes of a question that lies in the words agree.
-pub laid-levelled : (s : List ℕ) (t : Term) → Laid s 0 0 t → nodes t ≤ most → Levelled (nodesOf s) (depthAt s) (nodes t)
+pub laid-levelled : (s : List ℕ) (t : Term) → Laid s 0 0 t → nodes t ≤ mostNodes → Levelled (nodesOf s) (depthAt s) (nodes t)
 laid-levelled s t L h i l = levels t s 0 0 L (omega arith) i (omega arith) (omega arith)
 
 -- the last node of a tree has the tree's depth

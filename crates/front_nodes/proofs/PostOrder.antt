@@ -10,7 +10,8 @@ use Rattle.spec_calculus.specs.Lists.{pick}
 use Rattle.spec_encoding.specs.Reader.{Kind, unknown, number, truthK, nameK, fieldK, record′, not, tableK, comprehension, generator, binding, condition, choiceK, two-terms}
 use Rattle.front_words.specs.NodeTree.{monoidAt, kindAt, argAt, startAt}
 use Rattle.front_theory.specs.NodeTable.{Node, nname, nfield, nbin, nnegate, ncomp, ngen, nbind, ncond, nbad, Below, Inside, PostOrder}
-use Rattle.front_nodes.specs.NodeTable.{most, depthAt, siblings, childrenOf, chainUpto, qualifiersOf, above, nameBy, nodeBy, nodesOf}
+use Rattle.base_scratch.specs.Map.{mostNodes}
+use Rattle.front_nodes.specs.NodeTable.{depthAt, siblings, childrenOf, chainUpto, qualifiersOf, above, nameBy, nodeBy, nodesOf}
 
 -- what holds where the test does, and where it does not
 pub by-pick : {A : Type 0} (P : A → Type 0) (b : Bool) (x y : A) → (b ≡ true → P x) → (b ≡ false → P y) → P (pick b x y)
@@ -74,4 +75,4 @@ inside-kind s i unknown = tt
 
 pub post-order : (s : List ℕ) → PostOrder (nodesOf s)
 unfolding nodesOf
-post-order s i = by-pick (Inside i) (ltb i most) (nodeBy s i (kindAt s i)) nbad (λ t. inside-kind s i (kindAt s i)) (λ t. tt)
+post-order s i = by-pick (Inside i) (ltb i mostNodes) (nodeBy s i (kindAt s i)) nbad (λ t. inside-kind s i (kindAt s i)) (λ t. tt)

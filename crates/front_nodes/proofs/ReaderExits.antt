@@ -23,7 +23,7 @@ use Rattle.spec_encoding.specs.Reader.{kinds, unknown}
 use Rattle.spec_encoding.specs.Reader as Re
 use Rattle.base_syntax.specs.declared.Monoid.{Monoid}
 use Rattle.base_syntax.specs.MonoidWord.{monoidOf}
-use Rattle.base_scratch.specs.Map.{bindersAt}
+use Rattle.base_scratch.specs.Map.{bindersAt, mostNodes}
 use Rattle.front_words.specs.NodeWord.{kindOf, argOf, nodeWord}
 use Rattle.front_words.specs.NodeTree.{numberOf, monoidAt, kindAt, argAt, startAt}
 use Rattle.front_words.specs.LaidTree.{operator}
@@ -38,7 +38,7 @@ use Rattle.front_nodes.specs.declared.QueryNode.{QueryNode}
 use Rattle.front_nodes.specs.declared.QueryNode.the-variants.{Number, Truth, Name, Field, Record, Two, Not, Comp, Table, Gen, Bind, Cond, Operator, Bad}
 use Rattle.front_nodes.specs.declared.Found.the-variants.{At, Nothing}
 use Rattle.front_nodes.specs.declared.Binder.the-variants as Bi
-use Rattle.front_nodes.specs.NodeTable.{most, depthAt, siblings, qualifiersOf, above, nameBy, nodeBy, nodesOf}
+use Rattle.front_nodes.specs.NodeTable.{depthAt, siblings, qualifiersOf, above, nameBy, nodeBy, nodesOf}
 use Rattle.front_nodes.specs.Look.{kindNamed, nodeNamed, Small, LookPost, NamedPost, RaisedPost, nth, ChildPost, Unbinding, BoundByPost}
 use Rattle.front_words.specs.Binders.{binderWord}
 use Rattle.front_nodes.proofs.PostOrder.{by-pick, post-order}
@@ -113,14 +113,14 @@ module _ (s : List ℕ) (i : ℕ) where
   pub arg-is : {w a : ℕ} → w ≡ nodeWord s i → a ≡ argOf w → a ≡ argAt s i
   arg-is p q = q ∙ ap argOf p
 
-pub look-far : {s : List ℕ} {i : ℕ} → most ≤ i → LookPost s i Bad
+pub look-far : {s : List ℕ} {i : ℕ} → mostNodes ≤ i → LookPost s i Bad
 unfolding nodesOf pick
-look-far {s} {i} h = record { is = rw (le-ltb i most h); small = tt }
+look-far {s} {i} h = record { is = rw (le-ltb i mostNodes h); small = tt }
 
-module _ {s : List ℕ} {i : ℕ} (l : i < most) where
+module _ {s : List ℕ} {i : ℕ} (l : i < mostNodes) where
   plainly : (K : Re.Kind) (n : QueryNode) → kindAt s i ≡ K → nodeBy s i K ≡ nodeNamed s i n → Small n → LookPost s i n
   unfolding nodesOf pick
-  plainly K n e q m = record { is = rw (lt-ltb i most l) (ap (nodeBy s i) e ∙ q); small = m }
+  plainly K n e q m = record { is = rw (lt-ltb i mostNodes l) (ap (nodeBy s i) e ∙ q); small = m }
 
   pub raised-by : (K : Re.Kind) (n : QueryNode) {r : QueryNode} → kindAt s i ≡ K → nodeBy s i K ≡ above i (nodeNamed s i n) → Small n → RaisedPost i n r → LookPost s i r
   unfolding above pick

@@ -18,15 +18,16 @@ use Rattle.front_theory.specs.NodeTable as No
 use Rattle.front_theory.specs.NodeForms.{levels}
 use Rattle.front_theory.specs.QuestionNodes.{Slot, Slots, slot, noNames, firstOf, restOf, behind, Holds, HoldsL, HoldsQ}
 use Rattle.front_words.specs.Binders.{binderWord}
-use Rattle.front_nodes.specs.NodeTable.{most, depthAt, siblings, childrenOf, chain, qualifiersOf, above, nameBy, nodeBy, nodesOf}
+use Rattle.base_scratch.specs.Map.{mostNodes}
+use Rattle.front_nodes.specs.NodeTable.{depthAt, siblings, childrenOf, chain, qualifiersOf, above, nameBy, nodeBy, nodesOf}
 use Rattle.front_nodes.specs.QuestionTree.{BindersAt, BindersAtL, BindersAtQ, BindersRight, nesting, nestingL, nestingQ}
 use Rattle.front_nodes.proofs.PostOrder.{by-pick}
 use Rattle.front_nodes.proofs.QualifierChain.{chain-none, chain-more}
 
 -- ---- a node that lies there
-pub node-is : {s : List ℕ} {d a i : ℕ} {K : Kind} → Node s d a i K → i < most → nodesOf s i ≡ nodeBy s i K
+pub node-is : {s : List ℕ} {d a i : ℕ} {K : Kind} → Node s d a i K → i < mostNodes → nodesOf s i ≡ nodeBy s i K
 unfolding nodesOf pick
-node-is {s} {i = i} N h = rw (lt-ltb i most h) (ap (nodeBy s i) (N .kind))
+node-is {s} {i = i} N h = rw (lt-ltb i mostNodes h) (ap (nodeBy s i) (N .kind))
 
 pub up : (i : ℕ) (n : No.Node) → 0 < i → above i n ≡ n
 unfolding above pick
@@ -142,7 +143,7 @@ Behind s a S k = (τ : Scope) × (k τ ≡ true) × Agrees s a S τ
 mutual
   unfolding Holds nodes inScope nesting lastsL lastsQ behind firstOf restOf Agrees
 
-  holds : (t : Term) (s : List ℕ) (D a i : ℕ) (S : Slots) (σ : Scope) → Laid s D a t → i + 1 ≡ a + nodes t → i < most → D + nesting t ≤ levels → BindersAt s a t → inScope t σ ≡ true → Agrees s a S σ → HoldsT s t i D S
+  holds : (t : Term) (s : List ℕ) (D a i : ℕ) (S : Slots) (σ : Scope) → Laid s D a t → i + 1 ≡ a + nodes t → i < mostNodes → D + nesting t ≤ levels → BindersAt s a t → inScope t σ ≡ true → Agrees s a S σ → HoldsT s t i D S
   holds (num z) s D a i S σ L e h n B I A =
       let q : a ≡ i = omega arith in
       node-is (node-at q (L .0)) h ∙ ap (λ (j : ℕ). No.nnum (numberOf (argAt s j))) (sym q) ∙ ap No.nnum (L .1)
@@ -205,7 +206,7 @@ mutual
       let q : a ≡ i = omega arith in
       node-is (node-at q (L .0)) h ∙ ap (λ (j : ℕ). No.ntable (argAt s j)) (sym q) ∙ ap No.ntable (L .1)
 
-  holdsL : (ts : Terms) (s : List ℕ) (D a i : ℕ) (S : Slots) (σ : Scope) → LaidL s D a ts → a + nodesL ts ≤ i → i < most → D + nestingL ts ≤ levels → BindersAtL s a ts → inScopes ts σ ≡ true → Agrees s a S σ → HoldsL (nodesOf s) (depthAt s) ts (lastsL a ts) D S
+  holdsL : (ts : Terms) (s : List ℕ) (D a i : ℕ) (S : Slots) (σ : Scope) → LaidL s D a ts → a + nodesL ts ≤ i → i < mostNodes → D + nestingL ts ≤ levels → BindersAtL s a ts → inScopes ts σ ≡ true → Agrees s a S σ → HoldsL (nodesOf s) (depthAt s) ts (lastsL a ts) D S
   holdsL tnil s D a i S σ L e h n B I A = refl
   holdsL (tcons t ts) s D a i S σ L e h n B I A =
       let one = some-nodes t in
@@ -217,7 +218,7 @@ mutual
         holdsL ts s D (a + nodes t) i S σ (L .1) (omega arith) h (omega arith) (B .1) (w .1) (later s a (a + nodes t) S σ (omega arith) A),
       )
 
-  holdsQ : (qs : Quals) (s : List ℕ) (D a i : ℕ) (S : Slots) (σ : Scope) (k : Scope → Bool) → LaidQ s (D + 1) a qs → a + nodesQ qs ≤ i → i < most → D + 1 + nestingQ qs ≤ levels → BindersAtQ s a qs → inScopeQ qs k σ ≡ true
+  holdsQ : (qs : Quals) (s : List ℕ) (D a i : ℕ) (S : Slots) (σ : Scope) (k : Scope → Bool) → LaidQ s (D + 1) a qs → a + nodesQ qs ≤ i → i < mostNodes → D + 1 + nestingQ qs ≤ levels → BindersAtQ s a qs → inScopeQ qs k σ ≡ true
       → Agrees s a S σ → HoldsQ (nodesOf s) (depthAt s) qs (lastsQ a qs) D S × Behind s (a + nodesQ qs) (behind qs (lastsQ a qs) D S) k
   holdsQ qnil s D a i S σ k L e h n B I A = (refl, (σ, I, later s a (a + 0) S σ (omega arith) A))
   holdsQ (gen x t qs) s D a i S σ k L e h n B I A =
@@ -273,7 +274,7 @@ mutual
 
 -- A question of at most 256 nodes and 32 levels that lies in the words from node 0 on, whose names hold and whose binders'
 -- words are right: its last node holds it.
-pub laid-holds : (s : List ℕ) (q : Question) → Laid s 0 0 (asTerm q) → nodes (asTerm q) ≤ most → nesting (asTerm q) ≤ levels → namesHold q ≡ true → BindersRight s q
+pub laid-holds : (s : List ℕ) (q : Question) → Laid s 0 0 (asTerm q) → nodes (asTerm q) ≤ mostNodes → nesting (asTerm q) ≤ levels → namesHold q ≡ true → BindersRight s q
     → Holds (nodesOf s) (depthAt s) (asTerm q) (nodes (asTerm q) - 1) 0 noNames
 unfolding namesHold Agrees
 laid-holds s q L h n I B =

@@ -18,10 +18,6 @@ use Rattle.front_theory.specs.NodeTable.{Node, Nodes, nnum, ntruth, nname, nfie
 abbrev pub depthAt : List ℕ → ℕ → ℕ
 depthAt s i = depthOf (nodeWord s i)
 
--- "a 257th record" is refused (23), so there are no more nodes and words of binders than this
-abbrev pub most : ℕ
-most = mostNodes
-
 -- the n nodes one behind the other that end at e, in front of cs
 unfoldable pub siblings : List ℕ → ℕ → ℕ → List ℕ → List ℕ
 siblings s zero e cs = cs
@@ -70,4 +66,4 @@ nodeBy s i condition = above i (ncond (i - 1))
 nodeBy s i unknown = nbad
 
 unfoldable pub nodesOf : List ℕ → Nodes
-nodesOf s i = pick (ltb i most) (nodeBy s i (kindAt s i)) nbad
+nodesOf s i = pick (ltb i mostNodes) (nodeBy s i (kindAt s i)) nbad

@@ -3,6 +3,7 @@ ghost use mathlib.Core.Path.{_≡_};
 ghost use mathlib.Core.Bool.{false, _&&_};
 ghost use Prim.Native.Nat.{_+_, _≤_, _<_, _^_};
 ghost use lib.ListN.{length, getD};
+ghost use Rattle.base_scratch.specs.Map.{names as mostNames};
 ghost use Rattle.front_words.specs.NodeWord.{kindOf, nodeWord};
 ghost use Rattle.front_words.specs.NodeTree.{argAt};
 ghost use Rattle.front_scope.specs.Binders.{cleared, noted, bindersOf};
@@ -39,11 +40,11 @@ fn arg_at(s: &[u64], i: usize) -> u64
 // names that hold here. `ok`: whether no rule is broken so far. The arrays are lent, so that a call does not copy them.
 
 // A name is used.
-fn used(scope: &[bool; 256], x: u64, ok: bool) -> bool
-    requires { ⌜ length (now scope) ≡ 256 ⌝ }
+fn used(scope: &[bool; NAMES], x: u64, ok: bool) -> bool
+    requires { ⌜ length (now scope) ≡ mostNames ⌝ }
     ensures { λ r. ⌜ r ≡ ok && getD (now (scope .entry)) x false ⌝ }
 {
-    if x < 256 {
+    if x < NAMES as u64 {
         let i = x as usize;
         if scope[i] {
             return ok;
@@ -53,11 +54,11 @@ fn used(scope: &[bool; 256], x: u64, ok: bool) -> bool
 }
 
 // A name is bound.
-fn bound(seen: &mut [bool; 256], scope: &mut [bool; 256], x: u64, ok: bool) -> bool
+fn bound(seen: &mut [bool; NAMES], scope: &mut [bool; NAMES], x: u64, ok: bool) -> bool
     requires { ⌜ Full (names (now seen) (now scope) ok) ⌝ }
     ensures { λ r. ⌜ names (now (seen .exit)) (now (scope .exit)) r ≡ binds x (names (now (seen .entry)) (now (scope .entry)) ok) ⌝ }
 {
-    if 256 <= x {
+    if NAMES as u64 <= x {
         return false;
     }
     let i = x as usize;
@@ -71,8 +72,8 @@ fn bound(seen: &mut [bool; 256], scope: &mut [bool; 256], x: u64, ok: bool) -> b
 }
 
 // Node 0, which nothing lies before: a name, or nothing to check.
-fn leaf(s: &[u64], scope: &[bool; 256], ok: bool) -> bool
-    requires { ⌜ length (now scope) ≡ 256 ⌝ }
+fn leaf(s: &[u64], scope: &[bool; NAMES], ok: bool) -> bool
+    requires { ⌜ length (now scope) ≡ mostNames ⌝ }
     ensures { λ r. ⌜ LeafPost (now (s .entry)) (now (scope .entry)) ok r ⌝ }
 {
     if kind_at(s, 0) == KIND_NAME {
@@ -82,7 +83,7 @@ fn leaf(s: &[u64], scope: &[bool; 256], ok: bool) -> bool
 }
 
 // The term that ends at e.
-fn term(s: &[u64], e: usize, seen: &mut [bool; 256], scope: &mut [bool; 256], ok: bool) -> bool
+fn term(s: &[u64], e: usize, seen: &mut [bool; NAMES], scope: &mut [bool; NAMES], ok: bool) -> bool
     requires { ⌜ Full (names (now seen) (now scope) ok) ⌝ }
     ensures { λ r. ⌜ TermPost (now (s .entry)) e (names (now (seen .entry)) (now (scope .entry)) ok) (names (now (seen .exit)) (now (scope .exit)) r) ⌝ }
 {
@@ -103,7 +104,13 @@ fn term(s: &[u64], e: usize, seen: &mut [bool; 256], scope: &mut [bool; 256], ok
 }
 
 // The two operands of node i: the second ends at i, the first where the second begins.
-fn operands(s: &[u64], i: usize, seen: &mut [bool; 256], scope: &mut [bool; 256], ok: bool) -> bool
+fn operands(
+    s: &[u64],
+    i: usize,
+    seen: &mut [bool; NAMES],
+    scope: &mut [bool; NAMES],
+    ok: bool,
+) -> bool
     requires { ⌜ (1 ≤ i) × Full (names (now seen) (now scope) ok) ⌝ }
     ensures { λ r. ⌜ OperandsPost (now (s .entry)) i (names (now (seen .entry)) (now (scope .entry)) ok) (names (now (seen .exit)) (now (scope .exit)) r) ⌝ }
 {
@@ -116,8 +123,8 @@ fn operands(s: &[u64], i: usize, seen: &mut [bool; 256], scope: &mut [bool; 256]
 fn comprehension(
     s: &[u64],
     i: usize,
-    seen: &mut [bool; 256],
-    scope: &mut [bool; 256],
+    seen: &mut [bool; NAMES],
+    scope: &mut [bool; NAMES],
     ok: bool,
 ) -> bool
     requires { ⌜ (1 ≤ i) × Full (names (now seen) (now scope) ok) ⌝ }
@@ -137,8 +144,8 @@ fn terms(
     s: &[u64],
     lo: usize,
     e: usize,
-    seen: &mut [bool; 256],
-    scope: &mut [bool; 256],
+    seen: &mut [bool; NAMES],
+    scope: &mut [bool; NAMES],
     ok: bool,
 ) -> bool
     requires { ⌜ Full (names (now seen) (now scope) ok) ⌝ }
@@ -157,8 +164,8 @@ fn quals(
     s: &[u64],
     lo: usize,
     e: usize,
-    seen: &mut [bool; 256],
-    scope: &mut [bool; 256],
+    seen: &mut [bool; NAMES],
+    scope: &mut [bool; NAMES],
     ok: bool,
 ) -> bool
     requires { ⌜ Full (names (now seen) (now scope) ok) ⌝ }
@@ -173,7 +180,13 @@ fn quals(
 }
 
 // The qualifier that is node i: its term, then the name that it binds.
-fn qualifier(s: &[u64], i: usize, seen: &mut [bool; 256], scope: &mut [bool; 256], ok: bool) -> bool
+fn qualifier(
+    s: &[u64],
+    i: usize,
+    seen: &mut [bool; NAMES],
+    scope: &mut [bool; NAMES],
+    ok: bool,
+) -> bool
     requires { ⌜ Full (names (now seen) (now scope) ok) ⌝ }
     ensures { λ r. ⌜ QualifierPost (now (s .entry)) i (names (now (seen .entry)) (now (scope .entry)) ok) (names (now (seen .exit)) (now (scope .exit)) r) ⌝ }
 {
@@ -195,14 +208,14 @@ fn qualifier(s: &[u64], i: usize, seen: &mut [bool; 256], scope: &mut [bool; 256
 pub fn names_hold(s: &[u64], n: usize) -> bool
     ensures { λ r. ⌜ NamesHoldPost (now (s .entry)) n r ⌝ }
 {
-    let mut seen = [false; 256];
-    let mut scope = [false; 256];
+    let mut seen = [false; NAMES];
+    let mut scope = [false; NAMES];
     term(s, n, &mut seen, &mut scope, true)
 }
 
 // No name has a binder.
 fn clear(s: &mut [u64])
-    ensures { λ _. ⌜ now (s .exit) ≡ cleared (now (s .entry)) 256 ⌝ }
+    ensures { λ _. ⌜ now (s .exit) ≡ cleared (now (s .entry)) mostNames ⌝ }
 {
     let mut x = 0;
     while x < NAMES {

@@ -18,7 +18,7 @@ use Rattle.form_prepared.proofs.SettledOutcome.{settles-refused, settles-got}
 use Rattle.plan_marks.specs.PlanIn.{planAt, planIn}
 use Rattle.plan_marks.specs.Contract.{Laid, MakePlanPost}
 use Rattle.plan_lines.specs.declared.Printed.the-variants.{Short, Length}
-use Rattle.base_text.specs.LaidText.{big, Lays, Text}
+use Rattle.base_text.specs.LaidText.{textLimit, Lays, Text}
 use Rattle.plan_lines.specs.PlanCall.{PlanLinesPost}
 use Rattle.base_text.proofs.LaidText.{lays-as, first-same, first-length, second-length, second-text}
 
@@ -38,7 +38,7 @@ module _ (a : Accepted) where
   unfolding printed require
   lines-full {b} l e f = rw (le-leb (length linesOf) (length b) l) (settles-got (record { size = length linesOf; front = linesOf }) e f)
 
-module _ {s s₁ b b₁ : List ℕ} {n : ℕ} (M : MakePlanPost s s₁) (X : Text (left 0) (λ f. lines (planAt f s₁)) 0 b 0 b₁ n) (short : length b < big) where
+module _ {s s₁ b b₁ : List ℕ} {n : ℕ} (M : MakePlanPost s s₁) (X : Text (left 0) (λ f. lines (planAt f s₁)) 0 b 0 b₁ n) (short : length b < textLimit) where
   module _ {d : Bytes} {a : Accepted} (P : Prepared d a s) where
     same : lines (planAt 2048 s₁) ≡ lines (planOf (a .form))
     unfolding planIn

@@ -19,7 +19,7 @@ use Rattle.plan_machine.specs.Offers.{planOffers}
 use Rattle.plan_machine.proofs.WholePass.{pass-portion}
 use Rattle.plan_marks.specs.Contract.{MakePlanPost}
 use Rattle.plan_links.specs.Contract.{Term}
-use Rattle.exec_state.specs.StateWords.{most}
+use Rattle.base_signed.specs.Limit.{numberLimit}
 use Rattle.form_env.specs.Environment.{tablesIn}
 use Rattle.exec_simulation.specs.SimulationRelation.{Question, Waits}
 use Rattle.exec_simulation.specs.RowReads.{Readable}
@@ -39,7 +39,7 @@ unfolding run
 begin-offers T f = omega (arith, pass-portion T f 0 .1)
 
 -- s holds the question, s₁ its plan too, s₂ also its links; r is where the first row enters
-module _ {d : Bytes} {s s₁ s₂ : List ℕ} {r : ℕ} (X : Asked d s) (Q : MakePlanPost s s₁) (L : Term s₁ 0 1 s₂ r) (o : List ℤ) (b : length o ≤ most) where
+module _ {d : Bytes} {s s₁ s₂ : List ℕ} {r : ℕ} (X : Asked d s) (Q : MakePlanPost s s₁) (L : Term s₁ 0 1 s₂ r) (o : List ℤ) (b : length o ≤ numberLimit) where
   abbrev asks : {a : Accepted} → Prepared d a s → Question d
   asks {a} A = question a s s₁ s₂ r A Q L o b
 
