@@ -15,7 +15,7 @@ use Rattle.spec_calculus.proofs.Folds.{arranged, from-to}
 use Rattle.spec_checks.specs.Types.{Ty, Tys, number, truth, record′, coll, ynil, ycons}
 use Rattle.spec_checks.proofs.Refold.{onParts, refold, refolds, arrangeAs, arrange-coll}
 use Rattle.spec_outcome.specs.WrittenForm.{words, wordsL}
-use Rattle.base_scratch.specs.Map.{places}
+use Rattle.base_scratch.specs.Map.{formWords}
 use Rattle.form_words.specs.NodeWord.{next}
 use Rattle.form_words.specs.FormTree.{left}
 use Rattle.form_words.proofs.NodeWords.{next-past}
@@ -117,7 +117,7 @@ module _ {s : List ℕ} {c end : ℕ} {e : Ends} {o : List ℤ} where
   fields-none : end ≤ c → WalkFieldsPost s c end e o o e
   fields-none q = record { is = by-none s (λ ts. WalksEach ts e o o e) q none-by }
 
-  fields-more : {d : ℕ} {g r : Ends} {o₁ o₂ : List ℤ} → c < end → end ≤ places → Written s c e o o₁ g → d ≡ next s c → WalkFieldsPost s d end g o₁ o₂ r → WalkFieldsPost s c end e o o₂ r
+  fields-more : {d : ℕ} {g r : Ends} {o₁ o₂ : List ℤ} → c < end → end ≤ formWords → Written s c e o o₁ g → d ≡ next s c → WalkFieldsPost s d end g o₁ o₂ r → WalkFieldsPost s c end e o o₂ r
   fields-more {d} {g} {r} {o₁} {o₂} l m W ed F = record {
     is = by-more s (λ ts. WalksEach ts e o o₂ r) l m (λ f k j.
         more-by (W .is f k) (subst (λ (x : ℕ). WalksEach (typesAt f s x end) g o₁ o₂ r) ed (F .is f (omega (arith, ap left ed)))));
@@ -133,7 +133,7 @@ pub fields-first : {s : List ℕ} {c end : ℕ} {e : Ends} {o : List ℤ} → Wa
 fields-first = record { long = refl; past = omega arith; rest = λ F. F }
 
 module _ {s : List ℕ} {c end d : ℕ} {e₀ e : Ends} {o₀ o : List ℤ} (I : WalkingFields s c end e₀ o₀ o d e) where
-  module _ (l : d < end) (m : end ≤ places) {n : ℕ} (en : n ≡ next s d) where
+  module _ (l : d < end) (m : end ≤ formWords) {n : ℕ} (en : n ≡ next s d) where
     pub fields-again : {g : Ends} {o′ : List ℤ} → length o′ ≡ length o → Written s d e o o′ g → WalkingFields s c end e₀ o₀ o′ n g
     fields-again el W = record { long = el ∙ I .long; past = omega (arith, I .past, en, next-past s d (omega (arith, l, m))); rest = λ F. I .rest (fields-more l m W en F) }
 

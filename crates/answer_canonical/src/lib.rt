@@ -1,6 +1,6 @@
 // A value, raw in the answer buffer, is brought to its written form in place.
 ghost use Prim.Native.Nat.{_≤_};
-ghost use Rattle.base_scratch.specs.Map.{places};
+ghost use Rattle.base_scratch.specs.Map.{formWords};
 ghost use Rattle.answer_types.specs.Shape.{Shaped};
 ghost use Rattle.answer_canonical.specs.CompactingWalk.{CarryPost, ArrangePost, WalkPost, WalkFieldsPost, WalkElementsPost, FinishPost};
 use answer_sort::order;
@@ -80,7 +80,7 @@ fn walk(s: &[u64], o: &mut [i64], t: Layout, e: Ends) -> Ends
 
 // Fields, their types from place c to end.
 fn walk_fields(s: &[u64], o: &mut [i64], c: usize, end: usize, e: Ends) -> Ends
-    requires { ⌜ end ≤ places ⌝ }
+    requires { ⌜ end ≤ formWords ⌝ }
     ensures { λ r. ⌜ WalkFieldsPost (now (s .entry)) c end e (now (o .entry)) (now (o .exit)) r ⌝ }
 {
     let mut i = c;

@@ -19,7 +19,7 @@ use Rattle.form_words.specs.declared.FormNode.{FormNode}
 use Rattle.form_words.specs.declared.FormNode.the-variants.{Number, Truth, Row, Cell, Record, Binary, Negation, Operator, Comprehension, Generator, Condition, Nothing}
 use Rattle.form_words.specs.NodeWord.{next}
 use Rattle.form_words.specs.FormTree.{formTree, headTree, left}
-use Rattle.base_scratch.specs.Map.{places}
+use Rattle.base_scratch.specs.Map.{formWords}
 use Rattle.form_words.specs.declared.Clause.the-variants as Cl
 use Rattle.form_words.specs.Look.{Looks, LooksC}
 use Rattle.form_words.specs.HeadPlace.{headNode}
@@ -53,7 +53,7 @@ module _ {s : List ℕ} {j : ℕ} where
 -- on the way from i to the head, at j, where a clause ends at e
 pub record Seeking (s : List ℕ) (i j e : ℕ) : Type 0 where
   pub past : i ≤ j
-  pub upto : i ≤ places → j ≤ places
+  pub upto : i ≤ formWords → j ≤ formWords
   pub clause : ClauseEndPost s j e
   pub same : (f : ℕ) → left i + 1 < f → (g : ℕ) × (left j + 1 < g) × (headTree f s i ≡ headTree g s j) × (headNode f s i ≡ headNode g s j)
 
@@ -61,7 +61,7 @@ pub seek-first : {s : List ℕ} {i e : ℕ} → ClauseEndPost s i e → Seeking 
 seek-first C = record { past = omega arith; upto = λ l. l; clause = C; same = λ f l. (f, l, refl, refl) }
 
 module _ {s : List ℕ} {i j e : ℕ} (I : Seeking s i j e) where
-  pub seek-less : j < e → places - e < places - j
+  pub seek-less : j < e → formWords - e < formWords - j
   seek-less l = omega (arith, I .clause .upto l)
 
   pub seek-again : {d : ℕ} → j < e → ClauseEndPost s e d → Seeking s i e d
@@ -100,7 +100,7 @@ module _ {s : List ℕ} {i : ℕ} {n : FormNode} (H : Looks s i n) (P : Form →
   at-node h = elim [ zero ↦ λ l. absurd (omega arith) | suc f ↦ λ l. subst P (sym (form-is H f)) (h f l) ]
 
 -- behind the words of the form the type is a number's
-pub type-out : (s : List ℕ) {i : ℕ} → places ≤ i → (f : ℕ) → left i < f → typeAt f s i ≡ number
+pub type-out : (s : List ℕ) {i : ℕ} → formWords ≤ i → (f : ℕ) → left i < f → typeAt f s i ≡ number
 unfolding typeOf
 type-out s l = at-node (look-out l) (λ t. typeOf (columns s) t ≡ number) (λ f k. refl)
 
@@ -288,6 +288,6 @@ module _ (s : List ℕ) {c e : ℕ} (P : Tys → Type 0) where
   by-none q p = elim [ zero ↦ λ l. absurd (omega arith) | suc f ↦ λ l. subst (λ t. P (typesOf (columns s) t)) (sym (forms-end f s c e q)) p ]
 
   -- the first, at place c, and the others
-  pub by-more : c < e → e ≤ places → ((f : ℕ) → left c < f → left (next s c) + 1 < f → P (ycons (typeAt f s c) (typesAt f s (next s c) e))) → (f : ℕ) → left c + 1 < f → P (typesAt f s c e)
+  pub by-more : c < e → e ≤ formWords → ((f : ℕ) → left c < f → left (next s c) + 1 < f → P (ycons (typeAt f s c) (typesAt f s (next s c) e))) → (f : ℕ) → left c + 1 < f → P (typesAt f s c e)
   unfolding typeOf
   by-more q m p = elim [ zero ↦ λ l. absurd (omega arith) | suc f ↦ λ l. subst (λ t. P (typesOf (columns s) t)) (sym (forms-more f s c e q)) (p f (omega arith) (omega (arith, next-past s c (omega arith)))) ]

@@ -15,7 +15,7 @@ use Rattle.form_words.specs.declared.FormNode.{FormNode}
 use Rattle.form_words.specs.declared.FormNode.the-variants.{Number, Truth, Row, Cell, Record, Binary, Negation, Operator, Comprehension, Generator, Condition, Nothing}
 use Rattle.form_words.specs.declared.Clause.{Clause}
 use Rattle.form_words.specs.declared.Clause.the-variants as Cl
-use Rattle.base_scratch.specs.Map.{places}
+use Rattle.base_scratch.specs.Map.{formWords}
 use Rattle.form_words.specs.NodeWord.{nodeAt}
 use Rattle.form_words.specs.FormTree.{clauseOf, formTree, formsTree, headTree, left}
 use Rattle.form_words.specs.HeadPlace.{headNode}
@@ -61,7 +61,7 @@ collectionOf Ki.Set = set
 pub record HeadPost (s : List ℕ) (j h : ℕ) : Type 0 where
   pub is : (f : ℕ) → left j + 1 < f → h ≡ headNode f s j
   pub past : j ≤ h
-  pub upto : j ≤ places → h ≤ places
+  pub upto : j ≤ formWords → h ≤ formWords
   pub form : (f : ℕ) → left j + 1 < f → (g : ℕ) × (left h < g) × (headTree f s j ≡ formTree g s h)
 
 -- where the clause at place j ends: at j itself where a head stands
@@ -74,7 +74,7 @@ endBy j Cl.Head = j
 pub record ClauseEndPost (s : List ℕ) (j e : ℕ) : Type 0 where
   pub is : e ≡ endBy j (clauseOf (nodeAt s j))
   pub past : j ≤ e
-  pub upto : j < e → e ≤ places
+  pub upto : j < e → e ≤ formWords
   pub over : j < e → (f : ℕ) → (headTree (suc f) s j ≡ headTree f s e) × (headNode (suc f) s j ≡ headNode f s e)
   pub none : e ≤ j → (f : ℕ) → (headTree (suc f) s j ≡ formTree f s j) × (headNode (suc f) s j ≡ j)
 
@@ -126,8 +126,8 @@ isWord (Elements k h) = false
 abbrev pub ShapedAs : List ℕ → ℕ → ValueType → Type 0
 ShapedAs s i Word = (f : ℕ) → left i < f → true ≡ isSingle (typeAt f s i)
 ShapedAs s i (Words n) = (f : ℕ) → left i < f → Flat (typeAt f s i) × (n ≡ widthOf (typeAt f s i))
-ShapedAs s i (Fields e) = (i < places) × (e ≤ places) × ((f : ℕ) → left i < f → (g : ℕ) × (left (i + 1) + 1 < g) × (typeAt f s i ≡ record′ (typesAt g s (i + 1) e)))
-ShapedAs s i (Elements k h) = (i < h) × (h ≤ places) × ((f : ℕ) → left i < f → (g : ℕ) × (left h < g) × (typeAt f s i ≡ coll (collectionOf k) (typeAt g s h)))
+ShapedAs s i (Fields e) = (i < formWords) × (e ≤ formWords) × ((f : ℕ) → left i < f → (g : ℕ) × (left (i + 1) + 1 < g) × (typeAt f s i ≡ record′ (typesAt g s (i + 1) e)))
+ShapedAs s i (Elements k h) = (i < h) × (h ≤ formWords) × ((f : ℕ) → left i < f → (g : ℕ) × (left h < g) × (typeAt f s i ≡ coll (collectionOf k) (typeAt g s h)))
 
 pub record Shaped (s : List ℕ) (i : ℕ) (r : ValueType) : Type 0 where
   pub is : ShapedAs s i r

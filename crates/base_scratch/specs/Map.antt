@@ -55,12 +55,12 @@ sizesAt = shapesAt + mostNodes
 abbrev pub formAt : ℕ
 formAt = sizesAt + 2 * mostNodes
 
-abbrev pub places : ℕ
-places = 512
+abbrev pub formWords : ℕ
+formWords = 512
 
 -- "27: a normal form over 512 nodes": a generator is two of them
 abbrev pub generators : ℕ
-generators = places / 2
+generators = formWords / 2
 
 -- ---- loops, and a plan that runs
 -- the slot of each generator: its table and its row (form_env/specs/Environment)
@@ -72,7 +72,7 @@ abbrev pub totalsAt : ℕ
 totalsAt = envAt + generators
 
 abbrev pub startsAt : ℕ
-startsAt = totalsAt + places
+startsAt = totalsAt + formWords
 
 -- while a plan is made, the mark of each generator's place (plan_marks/specs/Marks)
 abbrev pub seatsAt : ℕ
@@ -80,7 +80,7 @@ seatsAt = totalsAt
 
 -- ---- an unfinished question, between its portions (exec_portions/specs/UnfinishedQuestion)
 abbrev pub stageAt : ℕ
-stageAt = formAt + places
+stageAt = formAt + formWords
 
 abbrev pub codeAt : ℕ
 codeAt = stageAt + 1

@@ -17,7 +17,7 @@ use Rattle.form_words.specs.declared.FormNode.{FormNode}
 use Rattle.form_words.specs.declared.FormNode.the-variants as N
 use Rattle.form_words.specs.declared.Clause.{Clause}
 use Rattle.form_words.specs.declared.Clause.the-variants as Cl
-use Rattle.base_scratch.specs.Map.{places}
+use Rattle.base_scratch.specs.Map.{formWords}
 use Rattle.form_words.specs.NodeWord.{nodeAt}
 use Rattle.form_words.specs.FormTree.{clauseOf, formTree, clausesTree, left}
 use Rattle.form_words.specs.FormWords.{size, sizeF, sizeC}
@@ -130,14 +130,14 @@ module _ (s : List ℕ) (T : Tables) (few : (k : ℕ) → length (rowsOf T k) �
       (takes-gens q (c + 1) p (L .1 .0) (takes-innersC q (c + 1) (inners h (c + 1 + sizeC q) (end c)) ∙ takes-inners h (c + 1 + sizeC q) (end c)))
 
   -- ---- the head's term, whatever fuel is left behind the clauses
-  head-term : (q : Clauses) (i f e : ℕ) (x : PTerm) → LiesC s i q → e ≡ i + sizeC q → clauseOf (nodeAt s e) ≡ Cl.Head → e < places → left i + 1 < f → ((g : ℕ) → left e < g → termIn g s e ≡ x) → headIn f s i ≡ x
+  head-term : (q : Clauses) (i f e : ℕ) (x : PTerm) → LiesC s i q → e ≡ i + sizeC q → clauseOf (nodeAt s e) ≡ Cl.Head → e < formWords → left i + 1 < f → ((g : ℕ) → left e < g → termIn g s e ≡ x) → headIn f s i ≡ x
   unfolding size
   head-term done i f e x h k c l p w = subst (λ j. headIn f s j ≡ x) (omega (arith, k)) (head-in s f e c (omega arith) ∙ w (pred f) (omega arith))
   head-term (gen g t q) i f e x h k c l p w = head-in s f i (ap clauseOf (h .0)) (omega arith) ∙ head-term q (i + 1) (pred f) e x (h .1 .1) (omega arith) c l (omega arith) w
   head-term (cond t q) i f e x h k c l p w = head-in s f i (ap clauseOf (h .0)) (omega arith) ∙ head-term q (i + 1 + size t) (pred f) e x (h .1 .1) (omega arith) c l (omega arith) w
 
   -- ---- what they come to
-  module _ (m : Monoid) (q : Clauses) (h : Form) (c : ℕ) (L : Lies s c (comp m q h)) (n : c + size (comp m q h) ≤ places) where
+  module _ (m : Monoid) (q : Clauses) (h : Form) (c : ℕ) (L : Lies s c (comp m q h)) (n : c + size (comp m q h) ≤ formWords) where
     head-place : headAt s c ≡ c + 1 + sizeC q
     unfolding size
     head-place = head-node s q (c + 1) fuel (c + 1 + sizeC q) (L .1 .0) refl (L .1 .1 .0) (omega (arith, n, size-some h)) (omega arith)
@@ -190,7 +190,7 @@ module _ (s : List ℕ) (T : Tables) (few : (k : ℕ) → length (rowsOf T k) �
   mutual
     unfolding inners size spotsOf
 
-    fit-inners : (t : Form) (i : ℕ) (p : Spots) → Lies s i t → i + size t ≤ places → within t ≡ true → Fit s T p → Fit s T (inners t i p)
+    fit-inners : (t : Form) (i : ℕ) (p : Spots) → Lies s i t → i + size t ≤ formWords → within t ≡ true → Fit s T p → Fit s T (inners t i p)
     fit-inners (num z) i p L n w h = h
     fit-inners (truth b) i p L n w h = h
     fit-inners (row g) i p L n w h = h
@@ -211,13 +211,13 @@ module _ (s : List ℕ) (T : Tables) (few : (k : ℕ) → length (rowsOf T k) �
           ),
         )
 
-    fit-innersF : (ts : Forms) (i : ℕ) (p : Spots) → LiesF s i ts → i + sizeF ts ≤ places → withinF ts ≡ true → Fit s T p → Fit s T (innersF ts i p)
+    fit-innersF : (ts : Forms) (i : ℕ) (p : Spots) → LiesF s i ts → i + sizeF ts ≤ formWords → withinF ts ≡ true → Fit s T p → Fit s T (innersF ts i p)
     fit-innersF fnil i p L n w h = h
     fit-innersF (fcons t ts) i p L n w h =
         let v = within-field t ts w in
         fit-inners t i (innersF ts (i + size t) p) (L .1 .0) (omega arith) (v .0) (fit-innersF ts (i + size t) p (L .1 .1) (omega arith) (v .1) h)
 
-    fit-innersC : (q : Clauses) (i : ℕ) (p : Spots) → LiesC s i q → i + sizeC q ≤ places → withinC q ≡ true → Fit s T p → Fit s T (innersC q i p)
+    fit-innersC : (q : Clauses) (i : ℕ) (p : Spots) → LiesC s i q → i + sizeC q ≤ formWords → withinC q ≡ true → Fit s T p → Fit s T (innersC q i p)
     fit-innersC done i p L n w h = h
     fit-innersC (gen g k q) i p L n w h = fit-innersC q (i + 1) p (L .1 .1) (omega arith) (within-gen g k q w) h
     fit-innersC (cond t q) i p L n w h =
@@ -225,6 +225,6 @@ module _ (s : List ℕ) (T : Tables) (few : (k : ℕ) → length (rowsOf T k) �
         fit-inners t (i + 1) (innersC q (i + 1 + size t) p) (L .1 .0) (omega arith) (v .0) (fit-innersC q (i + 1 + size t) p (L .1 .1) (omega arith) (v .1) h)
 
   -- those inside a comprehension
-  pub fit-inside : (m : Monoid) (q : Clauses) (u : Form) (c : ℕ) → Lies s c (comp m q u) → c + size (comp m q u) ≤ places → within (comp m q u) ≡ true → Fit s T (spotsOf q u c)
+  pub fit-inside : (m : Monoid) (q : Clauses) (u : Form) (c : ℕ) → Lies s c (comp m q u) → c + size (comp m q u) ≤ formWords → within (comp m q u) ≡ true → Fit s T (spotsOf q u c)
   unfolding inners spotsOf
   fit-inside m q u c L n w = fit-inners (comp m q u) c (end c) L n w tt .1 .0

@@ -15,7 +15,7 @@ use Rattle.spec_normal_form.specs.Form.{Form, Clauses, comp, done, gen, cond, g
 use Rattle.spec_normal_form.specs.NoRule.{behind, Ordered, OrderedC}
 use Rattle.spec_normal_form.proofs.NoRuleApplies.{behind-grows}
 use Rattle.form_words.specs.declared.FormNode.the-variants as N
-use Rattle.base_scratch.specs.Map.{places}
+use Rattle.base_scratch.specs.Map.{formWords}
 use Rattle.form_words.specs.NodeWord.{next, nodeAt}
 use Rattle.form_words.specs.FormWords.{size, sizeC}
 use Rattle.base_signed.proofs.SignedWords.{by-test}
@@ -47,7 +47,7 @@ pub record Body (s : List ℕ) : Type 0 where
   pub first : ℕ
   pub width : ℕ
   pub lies : Lies s node (comp monoid clauses head)
-  pub few : node + size (comp monoid clauses head) ≤ places
+  pub few : node + size (comp monoid clauses head) ≤ formWords
   pub past : next s node ≡ node + size (comp monoid clauses head)
   pub past-head : next s (node + 1 + sizeC clauses) ≡ node + 1 + sizeC clauses + size head
   pub scalars : ScalarC clauses

@@ -9,7 +9,7 @@ use lib.ListN.{length}
 use Rattle.spec_calculus.specs.Syntax.{Monoid}
 use Rattle.spec_encoding.specs.Record.{Bytes}
 use Rattle.spec_normal_form.specs.Form.{Form, Forms, Clauses, NormalForm, asForm, num, truth, row, cell, rec, bin, negate, app, comp, fnil, fcons, done, gen, cond}
-use Rattle.base_scratch.specs.Map.{places}
+use Rattle.base_scratch.specs.Map.{formWords}
 use Rattle.form_words.specs.NodeWord.{next, nodeAt}
 use Rattle.form_words.specs.FormTree.{formTree}
 use Rattle.form_words.specs.FormWords.{size, sizeF, sizeC}
@@ -55,7 +55,7 @@ record Without (s : List ℕ) (n i j : ℕ) : Type 0 where
 
 module _ (s : List ℕ) (c : ℕ → ℕ) where
   -- a form's own places end before n
-  whole-without : (t : Form) (i k n : ℕ) → Lies s i t → Marked s i t c k → ((g : ℕ) → c g ≤ k) → i + size t ≤ places → P.next t k ≤ n → among n (parts (termIn fuel s i)) ≡ false
+  whole-without : (t : Form) (i k n : ℕ) → Lies s i t → Marked s i t c k → ((g : ℕ) → c g ≤ k) → i + size t ≤ formWords → P.next t k ≤ n → among n (parts (termIn fuel s i)) ≡ false
   whole-without t i k n L w b l h =
       let e : termIn fuel s i ≡ P.term t (slotsBy c) k = term-read s t fuel i c k L w (omega (arith, l)) in
       ap (λ y. among n (parts y)) e ∙ by-test (among n (parts (P.term t (slotsBy c) k)))
@@ -69,7 +69,7 @@ module _ (s : List ℕ) (c : ℕ → ℕ) where
   mutual
     unfolding size P.next
 
-    without : (t : Form) (i k j n : ℕ) → Lies s i t → Marked s i t c k → ((g : ℕ) → c g ≤ k) → i + size t ≤ places → PartAt i t j → Collected s j → markAt s j ≡ suc n → Without s n i j
+    without : (t : Form) (i k j n : ℕ) → Lies s i t → Marked s i t c k → ((g : ℕ) → c g ≤ k) → i + size t ≤ formWords → PartAt i t j → Collected s j → markAt s j ≡ suc n → Without s n i j
     without (num z) i k j n L w b l h x m = here i j n h
     without (truth z) i k j n L w b l h x m = here i j n h
     without (row g) i k j n L w b l h x m = here i j n h
@@ -83,7 +83,7 @@ module _ (s : List ℕ) (c : ℕ → ℕ) where
     without (negate t) i k j n L w b l h x m = here i j n h
     without (comp o q u) i k j n L w b l h x m = here i j n h
 
-    withouts : (ts : Forms) (i k j n : ℕ) → LiesF s i ts → MarkedF s i ts c k → ((g : ℕ) → c g ≤ k) → i + sizeF ts ≤ places → PartAtF i ts j → Collected s j → markAt s j ≡ suc n → Without s n i j
+    withouts : (ts : Forms) (i k j n : ℕ) → LiesF s i ts → MarkedF s i ts c k → ((g : ℕ) → c g ≤ k) → i + sizeF ts ≤ formWords → PartAtF i ts j → Collected s j → markAt s j ≡ suc n → Without s n i j
     withouts fnil i k j n L w b l h x m = absurd h
     withouts (fcons t ts) i k j n L w b l (inl h) x m = without t i k j n (L .1 .0) (w .0) b (omega (arith, l)) h x m
     withouts (fcons t ts) i k j n L w b l (inr h) x m =
@@ -99,7 +99,7 @@ module _ (s : List ℕ) (c : ℕ → ℕ) where
 
 -- ---- the comprehension at i, planned at width k
 module _ (s : List ℕ) where
-  later-comp : (m : Monoid) (q : Clauses) (u : Form) (i k : ℕ) (c : ℕ → ℕ) → Lies s i (comp m q u) → Marked s i (comp m q u) c k → ((g : ℕ) → c g ≤ k) → i + size (comp m q u) ≤ places → LaterOf s i (behind q k)
+  later-comp : (m : Monoid) (q : Clauses) (u : Form) (i k : ℕ) (c : ℕ → ℕ) → Lies s i (comp m q u) → Marked s i (comp m q u) c k → ((g : ℕ) → c g ≤ k) → i + size (comp m q u) ≤ formWords → LaterOf s i (behind q k)
   unfolding size
   later-comp m q u i k c L w b l =
       let h : ℕ = i + 1 + sizeC q in
@@ -122,7 +122,7 @@ module _ (s : List ℕ) where
   mutual
     unfolding size inners spotsOf compOf P.next nextC
 
-    term-based : (t : Form) (i k b : ℕ) (c : ℕ → ℕ) (p : Spots) → Lies s i t → Marked s i t c k → ((g : ℕ) → c g ≤ k) → i + size t ≤ places → LaterOf s (compOf p) b → Based s b (P.next t k) p → Based s b k (inners t i p)
+    term-based : (t : Form) (i k b : ℕ) (c : ℕ → ℕ) (p : Spots) → Lies s i t → Marked s i t c k → ((g : ℕ) → c g ≤ k) → i + size t ≤ formWords → LaterOf s (compOf p) b → Based s b (P.next t k) p → Based s b k (inners t i p)
     term-based (num z) i k b c p L w d l h B = B
     term-based (truth z) i k b c p L w d l h B = B
     term-based (row g) i k b c p L w d l h B = B
@@ -142,13 +142,13 @@ module _ (s : List ℕ) where
         (term-based u (i + 1 + sizeC q) (nextC q n) n (seatsOf q k c) (end i) (L .1 .1 .1) (w .1 .1 .1) (λ g. omega (arith, s₁ g, nextC-up q n)) (omega (arith, l)) own own) in
         (h, (loops-based (orUnit i (gensAt q (i + 1))) k (innersC q (i + 1) e) (subst (λ (y : ℕ). Based s y y (innersC q (i + 1) e)) (sym (own-count q i (i + 1) k)) x), B))
 
-    terms-based : (ts : Forms) (i k b : ℕ) (c : ℕ → ℕ) (p : Spots) → LiesF s i ts → MarkedF s i ts c k → ((g : ℕ) → c g ≤ k) → i + sizeF ts ≤ places → LaterOf s (compOf p) b → Based s b (P.nexts ts k) p → Based s b k (innersF ts i p)
+    terms-based : (ts : Forms) (i k b : ℕ) (c : ℕ → ℕ) (p : Spots) → LiesF s i ts → MarkedF s i ts c k → ((g : ℕ) → c g ≤ k) → i + sizeF ts ≤ formWords → LaterOf s (compOf p) b → Based s b (P.nexts ts k) p → Based s b k (innersF ts i p)
     terms-based fnil i k b c p L w d l h B = B
     terms-based (fcons t ts) i k b c p L w d l h B =
         term-based t i k b c (innersF ts (i + size t) p) (L .1 .0) (w .0) d (omega (arith, l)) (later-same (compOf p) (compOf (innersF ts (i + size t) p)) b (comp-innersF ts (i + size t) p) h)
         (terms-based ts (i + size t) (P.next t k) b c p (L .1 .1) (w .1) (λ g. omega (arith, d g, next-up t k)) (omega (arith, l)) h B)
 
-    clauses-based : (q : Clauses) (i n k b : ℕ) (c : ℕ → ℕ) (p : Spots) → LiesC s i q → MarkedC s i q c n k → ((g : ℕ) → c g ≤ k) → i + sizeC q ≤ places → LaterOf s (compOf p) b → Based s b (nextC q k) p → Based s b k (innersC q i p)
+    clauses-based : (q : Clauses) (i n k b : ℕ) (c : ℕ → ℕ) (p : Spots) → LiesC s i q → MarkedC s i q c n k → ((g : ℕ) → c g ≤ k) → i + sizeC q ≤ formWords → LaterOf s (compOf p) b → Based s b (nextC q k) p → Based s b k (innersC q i p)
     clauses-based done i n k b c p L w d l h B = B
     clauses-based (gen x y q) i n k b c p L w d l h B = clauses-based q (i + 1) n k b c p (L .1 .1) w d (omega (arith, l)) h B
     clauses-based (cond t q) i n k b c p L w d l h B =
@@ -156,7 +156,7 @@ module _ (s : List ℕ) where
         (clauses-based q (i + 1 + size t) n (P.next t k) b c p (L .1 .1) (w .1 .1) (λ g. omega (arith, d g, next-up t k)) (omega (arith, l)) h B)
 
   -- all of a question's normal form
-  pub form-based : (f : NormalForm) → Lies s 0 (asForm f) → Marked s 0 (asForm f) (λ g. 0) 0 → size (asForm f) ≤ places → Based s 0 0 (spotsOf (f .clauses) (f .head) 0)
+  pub form-based : (f : NormalForm) → Lies s 0 (asForm f) → Marked s 0 (asForm f) (λ g. 0) 0 → size (asForm f) ≤ formWords → Based s 0 0 (spotsOf (f .clauses) (f .head) 0)
   unfolding inners spotsOf compOf
   form-based f L w n =
       let own : LaterOf s 0 (behind (f .clauses) 0) = later-comp (f .monoid) (f .clauses) (f .head) 0 0 (λ g. 0) L w (λ g. omega arith) (omega (arith, n)) in

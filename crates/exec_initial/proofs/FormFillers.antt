@@ -12,7 +12,7 @@ use Rattle.spec_normal_form.specs.Form.{Form, Forms, Clauses, NormalForm, asFor
 use Rattle.spec_normal_form.proofs.Locality.{Grows}
 use Rattle.spec_normal_form.specs.NoRule.{behind, Ordered, OrderedF, OrderedC}
 use Rattle.spec_normal_form.proofs.NoRuleApplies.{behind-grows}
-use Rattle.base_scratch.specs.Map.{places}
+use Rattle.base_scratch.specs.Map.{formWords}
 use Rattle.form_words.specs.FormWords.{size, sizeF, sizeC}
 use Rattle.spec_plan.specs.Planner as P
 use Rattle.plan_marks.specs.Marks.{markAt}
@@ -39,7 +39,7 @@ scalars-fitting fnil h = tt
 scalars-fitting (fcons t ts) h = (scalar-fitting t (h .0), scalars-fitting ts (h .1))
 
 -- a comprehension planned at width k
-module _ (s : List ℕ) (m : Monoid) (q : Clauses) (u : Form) (c k j : ℕ) (d : ℕ → ℕ) (S : ℕ → Bool) (L : Lies s c (comp m q u)) (n : c + size (comp m q u) ≤ places) (z : Steps s c (comp m q u)) (w : Marked s c (comp m q u) d k)
+module _ (s : List ℕ) (m : Monoid) (q : Clauses) (u : Form) (c k j : ℕ) (d : ℕ → ℕ) (S : ℕ → Bool) (L : Lies s c (comp m q u)) (n : c + size (comp m q u) ≤ formWords) (z : Steps s c (comp m q u)) (w : Marked s c (comp m q u) d k)
     (o : OrderedC q S j) (v : Ordered u (behind q S) (j + gensC q)) (f : Fitting (comp m q u)) (b : (g : ℕ) → d g ≤ k) where
   abbrev body : Body s
   body = record {
@@ -94,7 +94,7 @@ module _ (s : List ℕ) where
   mutual
     unfolding size inners spotsOf compOf Ordered P.next P.free nextC behind
 
-    term-fills : (t : Form) (i k j : ℕ) (B : Body s) (S : ℕ → Bool) (F : List Id) (p : Spots) → Lies s i t → i + size t ≤ places → Steps s i t → Marked s i t (B .seats) k → Ordered t S j → Fitting t → Grows S (holds B)
+    term-fills : (t : Form) (i k j : ℕ) (B : Body s) (S : ℕ → Bool) (F : List Id) (p : Spots) → Lies s i t → i + size t ≤ formWords → Steps s i t → Marked s i t (B .seats) k → Ordered t S j → Fitting t → Grows S (holds B)
         → ((b : ℕ) → TopAt i t b → tops B b) → compOf p ≡ B .node → Filled B F k → ((G : List Id) → Filled B G (P.next t k) → Fills s G p) → Fills s F (inners t i p)
     term-fills (num z) i k j B S F p L n y w o f g b e H K = K F H
     term-fills (truth z) i k j B S F p L n y w o f g b e H K = K F H
@@ -119,14 +119,14 @@ module _ (s : List ℕ) where
           ),
         )
 
-    terms-fills : (ts : Forms) (i k j : ℕ) (B : Body s) (S : ℕ → Bool) (F : List Id) (p : Spots) → LiesF s i ts → i + sizeF ts ≤ places → StepsF s i ts → MarkedF s i ts (B .seats) k → OrderedF ts S j → FittingF ts → Grows S (holds B)
+    terms-fills : (ts : Forms) (i k j : ℕ) (B : Body s) (S : ℕ → Bool) (F : List Id) (p : Spots) → LiesF s i ts → i + sizeF ts ≤ formWords → StepsF s i ts → MarkedF s i ts (B .seats) k → OrderedF ts S j → FittingF ts → Grows S (holds B)
         → ((b : ℕ) → TopAtF i ts b → tops B b) → compOf p ≡ B .node → Filled B F k → ((G : List Id) → Filled B G (P.nexts ts k) → Fills s G p) → Fills s F (innersF ts i p)
     terms-fills fnil i k j B S F p L n y w o f g b e H K = K F H
     terms-fills (fcons t ts) i k j B S F p L n y w o f g b e H K =
         term-fills t i k j B S F (innersF ts (i + size t) p) (L .1 .0) (omega (arith, n)) (y .0) (w .0) (o .0) (f .0) g (λ x h. b x (inl h)) (comp-innersF ts (i + size t) p ∙ e) H
         (λ G J. terms-fills ts (i + size t) (P.next t k) (j + gens t) B S G p (L .1 .1) (omega (arith, n)) (y .1) (w .1) (o .1) (f .1) g (λ x h. b x (inr h)) e J K)
 
-    clauses-fills : (r : Clauses) (i k j : ℕ) (B : Body s) (S : ℕ → Bool) (F : List Id) (p : Spots) → LiesC s i r → i + sizeC r ≤ places → StepsC s i r → MarkedC s i r (B .seats) (B .first) k → OrderedC r S j → ScalarC r → Grows (behind r S) (holds B)
+    clauses-fills : (r : Clauses) (i k j : ℕ) (B : Body s) (S : ℕ → Bool) (F : List Id) (p : Spots) → LiesC s i r → i + sizeC r ≤ formWords → StepsC s i r → MarkedC s i r (B .seats) (B .first) k → OrderedC r S j → ScalarC r → Grows (behind r S) (holds B)
         → ((b : ℕ) → TopAtC i r b → tops B b) → compOf p ≡ B .node → Filled B F k → ((G : List Id) → Filled B G (nextC r k) → Fills s G p) → Fills s F (innersC r i p)
     clauses-fills done i k j B S F p L n y w o f g b e H K = K F H
     clauses-fills (gen x v r) i k j B S F p L n y w o f g b e H K = clauses-fills r (i + 1) k (suc j) B (upd x true S) F p (L .1 .1) (omega (arith, n)) y w (o .1) f g b e H K
@@ -135,7 +135,7 @@ module _ (s : List ℕ) where
         (λ G J. clauses-fills r (i + 1 + size t) (P.next t k) (j + gens t) B S G p (L .1 .1) (omega (arith, n)) (y .1) (w .1 .1) (o .1) (f .1) g (λ x h. b x (inr h)) e J K)
 
 -- The operators of a question's normal form, from a row of no places on.
-pub form-fills : (f : NormalForm) (s : List ℕ) → Lies s 0 (asForm f) → size (asForm f) ≤ places → Steps s 0 (asForm f) → Marked s 0 (asForm f) (λ g. 0) 0 → Ordered (asForm f) (λ g. false) 0 → Fitting (asForm f)
+pub form-fills : (f : NormalForm) (s : List ℕ) → Lies s 0 (asForm f) → size (asForm f) ≤ formWords → Steps s 0 (asForm f) → Marked s 0 (asForm f) (λ g. 0) 0 → Ordered (asForm f) (λ g. false) 0 → Fitting (asForm f)
     → Fills s [] (spotsOf (f .clauses) (f .head) 0)
 unfolding size compOf Ordered
 form-fills f s L n y w o h =

@@ -8,7 +8,7 @@ use Prim.Native.Nat.{ℕ, _+_, _≤_}
 use Rattle.spec_encoding.specs.Record.{Bytes}
 use Rattle.spec_normal_form.specs.Form.{comp}
 use Rattle.spec_normal_form.specs.Bound.{within}
-use Rattle.base_scratch.specs.Map.{places}
+use Rattle.base_scratch.specs.Map.{formWords}
 use Rattle.form_words.specs.NodeWord.{next, wordAt}
 use Rattle.form_words.specs.FormTree.{formTree}
 use Rattle.form_words.specs.FormWords.{size, sizeC}
@@ -71,14 +71,14 @@ module _ (d : Bytes) (p : Spots) (b s : List ℕ) (same : (i : ℕ) → wordAt s
   unfolding size
   head-agrees e h =
       let f : Scalar (A .head) = subst (λ x. Either x (Fitting (A .head)) (Scalar (A .head))) e (A .fitting) in
-      let n : headOf A + size (A .head) ≤ places = omega (arith, A .few) in
+      let n : headOf A + size (A .head) ≤ formWords = omega (arith, A .few) in
       subst (Agrees fuel d s r) (sym (head-now b s same A)) (agrees-on d s r (A .head) (headOf A) fuel (lies-now b s same A .1 .1 .1) n (omega arith) (agrees-named d p b s same w F r H (A .head) (headOf A) (A .lies .1 .1 .1) n f h))
 
   -- the parts of the head before node e
   pub parts-agree : (e : ℕ) → within (A .head) ≡ true → NamedUpto b F e (headOf A) (A .head) → e ≤ headOf A + size (A .head) → AgreesP fuel d s r (headAt s c) e
   unfolding size
   parts-agree e v h l =
-      let n : headOf A + size (A .head) ≤ places = omega (arith, A .few) in
+      let n : headOf A + size (A .head) ≤ formWords = omega (arith, A .few) in
       let k = next-same s b same (headOf A) ∙ A .past-head in
       subst (λ i. AgreesP fuel d s r i e) (sym (head-now b s same A)) (agrees-upto d s r e (A .head) (headOf A) fuel (lies-now b s same A .1 .1 .1) k n v
       (agrees-named-upto d p b s same w F r H (A .head) e (headOf A) (A .lies .1 .1 .1) n (head-fits (collects (A .monoid)) (A .head) (A .fitting)) h) (omega arith) l)

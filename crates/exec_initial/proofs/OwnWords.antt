@@ -14,7 +14,7 @@ use Rattle.form_words.specs.declared.FormNode.{FormNode}
 use Rattle.form_words.specs.declared.FormNode.the-variants as N
 use Rattle.form_words.specs.declared.Clause.{Clause}
 use Rattle.form_words.specs.declared.Clause.the-variants as Cl
-use Rattle.base_scratch.specs.Map.{formAt, places, envAt, totalsAt}
+use Rattle.base_scratch.specs.Map.{formAt, formWords, envAt, totalsAt}
 use Rattle.form_words.specs.NodeWord.{nodeAt}
 use Rattle.form_words.specs.FormTree.{clauseOf}
 use Rattle.form_words.specs.FormWords.{size}
@@ -87,12 +87,12 @@ generator-node (N.Generator x y) g k e = cc
 generator-node (N.Condition j) g k e = cc
 generator-node N.Nothing g k e = cc
 
-module _ (f : NormalForm) (s : List ℕ) (n : size (asForm f) ≤ places) (L : Lies s 0 (asForm f)) (w : Numbered (asForm f) 0) (m : gens (asForm f) ≤ 256) where
+module _ (f : NormalForm) (s : List ℕ) (n : size (asForm f) ≤ formWords) (L : Lies s 0 (asForm f)) (w : Numbered (asForm f) 0) (m : gens (asForm f) ≤ 256) where
   low-number : (i g k : ℕ) → i < size (asForm f) → clauseOf (nodeAt s i) ≡ Cl.Generator g k → g < 256
   low-number i g k l e = omega (arith, m, numbers-within f s L w i g k l (generator-node (nodeAt s i) g k e))
 
   -- generators' words stand below those of ends, those of loops over unit behind them
-  cursor-zone : (i : ℕ) → i < size (asForm f) → (c : Clause) → clauseOf (nodeAt s i) ≡ c → (envAt ≤ cursorBy i c) × ((cursorBy i c < formAt) × ((j : ℕ) → j < places → cursorBy i c ≡ totalsAt + j → ⊥))
+  cursor-zone : (i : ℕ) → i < size (asForm f) → (c : Clause) → clauseOf (nodeAt s i) ≡ c → (envAt ≤ cursorBy i c) × ((cursorBy i c < formAt) × ((j : ℕ) → j < formWords → cursorBy i c ≡ totalsAt + j → ⊥))
   cursor-zone i l (Cl.Generator g k) e = (omega arith, (omega (arith, low-number i g k l e), (λ j a b. omega (arith, low-number i g k l e, b))))
   cursor-zone i l (Cl.Condition j) e = (omega arith, (omega (arith, l, n), (λ x a b. omega (arith, a, b))))
   cursor-zone i l Cl.Head e = (omega arith, (omega (arith, l, n), (λ x a b. omega (arith, a, b))))

@@ -9,7 +9,7 @@ use Rattle.spec_calculus.specs.Syntax.{Monoid, of, sum, max, some, all}
 use Rattle.spec_calculus.specs.Value.{Value}
 use Rattle.spec_encoding.specs.Record.{Bytes}
 use Rattle.spec_normal_form.specs.Form.{Form, Forms, Clauses, num, truth, row, cell, rec, bin, negate, app, comp, fnil, fcons, done, gen, cond}
-use Rattle.base_scratch.specs.Map.{places}
+use Rattle.base_scratch.specs.Map.{formWords}
 use Rattle.form_words.specs.NodeWord.{wordAt, nodeAt}
 use Rattle.form_words.specs.FormTree.{formTree}
 use Rattle.form_words.specs.FormWords.{size, sizeF, sizeC}
@@ -47,7 +47,7 @@ module _ (d : Bytes) (p : Spots) (b s : List ℕ) (same : (i : ℕ) → wordAt s
   end-held i N = subst (HoldsEnd d p s w i) (sym (held-place (markAt s i) (N .place) r (ap markOf (same i) ∙ N .mark)))
       (subst (λ (x : Id). HoldsBy d p s w x (valueOf (at (N .place) r))) (N .is) (H (N .place) (N .low)))
 
-  comp-agrees : (m : Monoid) (q : Clauses) (u : Form) (i : ℕ) → Lies b i (comp m q u) → i + size (comp m q u) ≤ places → collects m ≡ false → NamesEnd F (markAt b i) i → AgreesOn d s r i (comp m q u)
+  comp-agrees : (m : Monoid) (q : Clauses) (u : Form) (i : ℕ) → Lies b i (comp m q u) → i + size (comp m q u) ≤ formWords → collects m ≡ false → NamesEnd F (markAt b i) i → AgreesOn d s r i (comp m q u)
   comp-agrees m q u i L n e N =
       let v : Value = heldAt (markAt s i) r in
       let x : monoidBy (nodeAt s i) ≡ m = ap monoidBy (node-same s b same i ∙ L .0) ∙ monoid-back m in
@@ -58,7 +58,7 @@ module _ (d : Bytes) (p : Spots) (b s : List ℕ) (same : (i : ℕ) → wordAt s
   mutual
     unfolding size
 
-    pub agrees-named : (t : Form) (i : ℕ) → Lies b i t → i + size t ≤ places → Scalar t → Named b F i t → AgreesOn d s r i t
+    pub agrees-named : (t : Form) (i : ℕ) → Lies b i t → i + size t ≤ formWords → Scalar t → Named b F i t → AgreesOn d s r i t
     agrees-named (num z) i L n f h = tt
     agrees-named (truth z) i L n f h = tt
     agrees-named (row g) i L n f h = absurd f
@@ -69,12 +69,12 @@ module _ (d : Bytes) (p : Spots) (b s : List ℕ) (same : (i : ℕ) → wordAt s
     agrees-named (negate t) i L n f h = agrees-named t (i + 1) (L .1) (omega (arith, n)) f h
     agrees-named (comp m q u) i L n f h = comp-agrees m q u i L (omega (arith, n)) (f .0) h
 
-    agrees-operands : (ts : Forms) (i : ℕ) → LiesF b i ts → i + sizeF ts ≤ places → ScalarF ts → NamedF b F i ts → AgreesOnF d s r i ts
+    agrees-operands : (ts : Forms) (i : ℕ) → LiesF b i ts → i + sizeF ts ≤ formWords → ScalarF ts → NamedF b F i ts → AgreesOnF d s r i ts
     agrees-operands fnil i L n f h = tt
     agrees-operands (fcons t ts) i L n f h = (agrees-named t i (L .1 .0) (omega (arith, n)) (f .0) (h .0), agrees-operands ts (i + size t) (L .1 .1) (omega (arith, n)) (f .1) (h .1))
 
   -- ---- conditions
-  pub agrees-conditions : (q : Clauses) (m i : ℕ) → LiesC b i q → i + sizeC q ≤ places → ScalarC q → NamedC b F m i q → AgreesOnC d s r m i q
+  pub agrees-conditions : (q : Clauses) (m i : ℕ) → LiesC b i q → i + sizeC q ≤ formWords → ScalarC q → NamedC b F m i q → AgreesOnC d s r m i q
   unfolding size
   agrees-conditions done m i L n f h = tt
   agrees-conditions (gen g k q) m i L n f h = agrees-conditions q m (i + 1) (L .1 .1) (omega (arith, n)) f h
@@ -84,7 +84,7 @@ module _ (d : Bytes) (p : Spots) (b s : List ℕ) (same : (i : ℕ) → wordAt s
   )
 
   -- ---- the parts of a head before node e
-  comp-upto : (e : ℕ) (m : Monoid) (q : Clauses) (u : Form) (i : ℕ) → Lies b i (comp m q u) → i + size (comp m q u) ≤ places → NamedUpto b F e i (comp m q u) → AgreesUpto d s r e i (comp m q u)
+  comp-upto : (e : ℕ) (m : Monoid) (q : Clauses) (u : Form) (i : ℕ) → Lies b i (comp m q u) → i + size (comp m q u) ≤ formWords → NamedUpto b F e i (comp m q u) → AgreesUpto d s r e i (comp m q u)
   unfolding collects
   comp-upto e (of c) q u i L n h = tt
   comp-upto e sum q u i L n h = λ l. comp-agrees sum q u i L n refl (h l)
@@ -96,7 +96,7 @@ module _ (d : Bytes) (p : Spots) (b s : List ℕ) (same : (i : ℕ) → wordAt s
   mutual
     unfolding size
 
-    pub agrees-named-upto : (t : Form) (e i : ℕ) → Lies b i t → i + size t ≤ places → Fitting t → NamedUpto b F e i t → AgreesUpto d s r e i t
+    pub agrees-named-upto : (t : Form) (e i : ℕ) → Lies b i t → i + size t ≤ formWords → Fitting t → NamedUpto b F e i t → AgreesUpto d s r e i t
     agrees-named-upto (num z) e i L n f h = tt
     agrees-named-upto (truth z) e i L n f h = tt
     agrees-named-upto (row g) e i L n f h = λ l. row-agrees i g (h l)
@@ -107,6 +107,6 @@ module _ (d : Bytes) (p : Spots) (b s : List ℕ) (same : (i : ℕ) → wordAt s
     agrees-named-upto (negate t) e i L n f h = λ l. agrees-named (negate t) i L (omega (arith, n)) f (h l)
     agrees-named-upto (comp m q u) e i L n f h = comp-upto e m q u i L (omega (arith, n)) h
 
-    agrees-each-upto : (ts : Forms) (e i : ℕ) → LiesF b i ts → i + sizeF ts ≤ places → FittingF ts → NamedUptoF b F e i ts → AgreesUptoF d s r e i ts
+    agrees-each-upto : (ts : Forms) (e i : ℕ) → LiesF b i ts → i + sizeF ts ≤ formWords → FittingF ts → NamedUptoF b F e i ts → AgreesUptoF d s r e i ts
     agrees-each-upto fnil e i L n f h = tt
     agrees-each-upto (fcons t ts) e i L n f h = (agrees-named-upto t e i (L .1 .0) (omega (arith, n)) (f .0) (h .0), agrees-each-upto ts e (i + size t) (L .1 .1) (omega (arith, n)) (f .1) (h .1))

@@ -5,7 +5,7 @@ use mathlib.Core.List.{List, [], _∷_}
 use Prim.Native.Nat.{ℕ, _+_, _≤_, _<_}
 use Rattle.spec_calculus.proofs.Lists.{All, all-front, all-behind}
 use Rattle.spec_normal_form.specs.Form.{Form, Forms, Clauses, NormalForm, num, truth, row, cell, rec, bin, negate, app, comp, fnil, fcons, done, gen, cond}
-use Rattle.base_scratch.specs.Map.{places}
+use Rattle.base_scratch.specs.Map.{formWords}
 use Rattle.form_words.specs.FormWords.{size, sizeC}
 use Rattle.plan_machine.specs.Program.{Program, programOf}
 use Rattle.plan_machine.specs.Program as Pr
@@ -29,11 +29,11 @@ wired-of s b (Pr.inner i q) (loop j p) l a h w = absurd a
 wired-of s b (Pr.inner i q) (inner z p) l a h w = (l .0, (h .0, (wired-of s (endCode (compOf z)) i z (l .1 .0) (a .0) (h .1 .0) (w .0), wired-of s b q p (l .1 .1) (a .1) (h .1 .1) (w .1))))
 
 -- ---- within the words
-pub within-of : (y : Spots) → All (λ i. i < places) (loopsIn y) → All (λ c. c < places) (endsIn y) → Within y
+pub within-of : (y : Spots) → All (λ i. i < formWords) (loopsIn y) → All (λ c. c < formWords) (endsIn y) → Within y
 unfolding loopsIn endsIn
 within-of (end c) l e = e .0
 within-of (loop i p) l e = (l .0, within-of p (l .1) e)
-within-of (inner a p) l e = (within-of a (all-front (λ i. i < places) (loopsIn a) (loopsIn p) l) (all-front (λ c. c < places) (endsIn a) (endsIn p) e), within-of p (all-behind (λ i. i < places) (loopsIn a) (loopsIn p) l) (all-behind (λ c. c < places) (endsIn a) (endsIn p) e))
+within-of (inner a p) l e = (within-of a (all-front (λ i. i < formWords) (loopsIn a) (loopsIn p) l) (all-front (λ c. c < formWords) (endsIn a) (endsIn p) e), within-of p (all-behind (λ i. i < formWords) (loopsIn a) (loopsIn p) l) (all-behind (λ c. c < formWords) (endsIn a) (endsIn p) e))
 
 -- ---- the spots of a normal form
 shaped-loops : (l : List ℕ) (p : Spots) → Shaped p → Shaped (loopsAt l p)

@@ -4,7 +4,7 @@ use mathlib.Core.Path.{_≡_, subst, _∙_}
 use mathlib.Core.List.{List, _++_}
 use Prim.Native.Nat.{ℕ, _+_, _≤_}
 use Rattle.spec_normal_form.specs.Form.{Form, Forms, Clauses, num, truth, row, cell, rec, bin, negate, app, comp, fnil, fcons, done, gen, cond}
-use Rattle.base_scratch.specs.Map.{places}
+use Rattle.base_scratch.specs.Map.{formWords}
 use Rattle.form_words.specs.NodeWord.{next}
 use Rattle.form_words.specs.FormWords.{size, sizeF, sizeC, flat, flatF, flatC, Holds}
 use Rattle.form_words.proofs.ReadBack.{length-flat, length-flatC, holds-first, holds-second, next-is}
@@ -35,7 +35,7 @@ module _ (s r : List ℕ) (n : (j : ℕ) → next r j ≡ next s j) where
   mutual
     unfolding size flat
 
-    pub steps : (t : Form) (i : ℕ) → i + size t ≤ places → Holds s i (flat t) → Steps r i t
+    pub steps : (t : Form) (i : ℕ) → i + size t ≤ formWords → Holds s i (flat t) → Steps r i t
     steps (num z) i l h = tt
     steps (truth b) i l h = tt
     steps (row g) i l h = tt
@@ -58,14 +58,14 @@ module _ (s r : List ℕ) (n : (j : ℕ) → next r j ≡ next s j) where
           ),
         )
 
-    steps-each : (ts : Forms) (i : ℕ) → i + sizeF ts ≤ places → Holds s i (flatF ts) → StepsF r i ts
+    steps-each : (ts : Forms) (i : ℕ) → i + sizeF ts ≤ formWords → Holds s i (flatF ts) → StepsF r i ts
     steps-each fnil i l h = tt
     steps-each (fcons t ts) i l h = (
       steps t i (omega (arith, l)) (holds-first s (flat t) (flatF ts) i h),
       steps-each ts (i + size t) (omega (arith, l)) (holds-second s (flat t) (flatF ts) i (i + size t) (omega (arith, length-flat t)) h),
     )
 
-    steps-clauses : (q : Clauses) (i : ℕ) → i + sizeC q ≤ places → Holds s i (flatC q) → StepsC r i q
+    steps-clauses : (q : Clauses) (i : ℕ) → i + sizeC q ≤ formWords → Holds s i (flatC q) → StepsC r i q
     steps-clauses done i l h = tt
     steps-clauses (gen g t q) i l h = steps-clauses q (i + 1) (omega (arith, l)) (subst (λ x. Holds s x (flatC q)) (omega arith) (h .1))
     steps-clauses (cond t q) i l h =

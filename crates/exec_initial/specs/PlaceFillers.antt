@@ -8,7 +8,7 @@ use lib.ListN.{length, getD}
 use Rattle.spec_calculus.specs.Syntax.{Monoid}
 use Rattle.spec_normal_form.specs.Form.{Form, Forms, Clauses, num, truth, row, cell, rec, bin, negate, app, comp, fnil, fcons, done, gen, cond}
 use Rattle.form_words.specs.declared.FormNode.the-variants.{Generator}
-use Rattle.base_scratch.specs.Map.{places}
+use Rattle.base_scratch.specs.Map.{formWords}
 use Rattle.form_words.specs.NodeWord.{next, nodeAt}
 use Rattle.form_words.specs.FormWords.{size, sizeC}
 use Rattle.plan_marks.specs.Marks.{markAt}
@@ -97,7 +97,7 @@ pub record CompAt (s : List ℕ) (c : ℕ) : Type 0 where
   pub clauses : Clauses
   pub head : Form
   pub lies : Lies s c (comp monoid clauses head)
-  pub few : c + size (comp monoid clauses head) ≤ places
+  pub few : c + size (comp monoid clauses head) ≤ formWords
   pub past : next s c ≡ c + size (comp monoid clauses head)
   pub past-head : next s (c + 1 + sizeC clauses) ≡ c + 1 + sizeC clauses + size head
   pub scalars : ScalarC clauses

@@ -4,7 +4,7 @@ use mathlib.Core.Bool.{false}
 use mathlib.Core.List.{List}
 use Prim.Native.Nat.{ℕ, suc, _+_, _≤_, _<_}
 use Rattle.spec_normal_form.specs.Form.{Form}
-use Rattle.base_scratch.specs.Map.{places}
+use Rattle.base_scratch.specs.Map.{formWords}
 use Rattle.form_words.specs.NodeWord.{next, nodeAt}
 use Rattle.form_words.specs.FormTree.{formTree}
 use Rattle.form_words.specs.FormWords.{size}
@@ -55,7 +55,7 @@ pub record HeadLies (s : List ℕ) (c h : ℕ) (u : Form) : Type 0 where
   pub lies : Lies s h u
   pub ends : next s h ≡ h + size u
   pub behind : next s c ≡ h + size u
-  pub low : h + size u ≤ places
+  pub low : h + size u ≤ formWords
 
 -- the comprehension at j has been passed, at the place that its mark says
 pub record PassedAt (s : List ℕ) (A : List Pass) (j : ℕ) : Type 0 where

@@ -16,7 +16,7 @@ use Rattle.form_words.specs.FormWords.{size, sizeF}
 use Rattle.base_syntax.specs.declared.Monoid as Mo
 use Rattle.base_syntax.specs.declared.Monoid.the-variants as Mv
 use Rattle.base_syntax.specs.Numbers.{binOf, opArg, opAt, funOf, funArg, funAt, monoidArg, monoidAt}
-use Rattle.base_scratch.specs.Map.{places}
+use Rattle.base_scratch.specs.Map.{formWords}
 use Rattle.form_arith.specs.declared.Sort.the-variants as So
 use Rattle.form_arith.specs.WordSorts.{resultSort}
 use Rattle.form_words.proofs.ReadBack.{size-some}
@@ -76,7 +76,7 @@ module _ (s : List ℕ) where
   mutual
     unfolding size
 
-    pub term-same : (t : Form) (i f g : ℕ) → Lies s i t → i + size t ≤ places → left i < f → left i < g → termIn f s i ≡ termIn g s i
+    pub term-same : (t : Form) (i f g : ℕ) → Lies s i t → i + size t ≤ formWords → left i < f → left i < g → termIn f s i ≡ termIn g s i
     term-same (num z) i f g h l p q = term-at f i h (omega arith) ∙ sym (term-at g i h (omega arith))
     term-same (truth b) i f g h l p q = term-at f i h (omega arith) ∙ sym (term-at g i h (omega arith))
     term-same (row n) i f g h l p q = term-at f i (h .0) (omega arith) ∙ sym (term-at g i (h .0) (omega arith))
@@ -91,7 +91,7 @@ module _ (s : List ℕ) where
     term-same (negate t) i f g h l p q = term-at f i (h .0) (omega arith) ∙ ap pnegate (term-same t (i + 1) (pred f) (pred g) (h .1) (omega arith) (omega arith) (omega arith)) ∙ sym (term-at g i (h .0) (omega arith))
     term-same (comp m c u) i f g h l p q = term-at f i (h .0) (omega arith) ∙ sym (term-at g i (h .0) (omega arith))
 
-    terms-same : (ts : Forms) (i f g e : ℕ) → LiesF s i ts → e ≡ i + sizeF ts → e ≤ places → left i + 1 < f → left i + 1 < g → termsIn f s i e ≡ termsIn g s i e
+    terms-same : (ts : Forms) (i f g e : ℕ) → LiesF s i ts → e ≡ i + sizeF ts → e ≤ formWords → left i + 1 < f → left i + 1 < g → termsIn f s i e ≡ termsIn g s i e
     terms-same fnil i f g e h k l p q = terms-end f i e (omega arith) (omega arith) ∙ sym (terms-end g i e (omega arith) (omega arith))
     terms-same (fcons t ts) i f g e h k l p q = terms-more f i e (omega arith) (omega (arith, size-some t))
         ∙ ap₂ pcons (term-same t i (pred f) (pred g) (h .1 .0) (omega arith) (omega arith) (omega arith))
@@ -103,7 +103,7 @@ module _ (s : List ℕ) where
   parts-at zero i b e p h = absurd (omega arith)
   parts-at (suc f) i b e p h = rw (lt-leb b i h) (ap (partsBy (λ j. partsIn f s j b) s (termIn f s i) i) e)
 
-  module _ (b : ℕ) (top : b ≤ places) where
+  module _ (b : ℕ) (top : b ≤ formWords) where
     -- what follows a form of so many words
     abbrev After : ℕ → List PTerm → Type 0
     After e K = (h : ℕ) → left e + 1 < h → partsIn h s e b ≡ K
@@ -151,5 +151,5 @@ module _ (s : List ℕ) where
   parts-end (suc f) i = rw (le-leb i i (omega arith))
 
   -- The parts from a head's node up to the node behind it are the head's parts.
-  pub head-parts : (t : Form) (i f g : ℕ) → Lies s i t → next s i ≡ i + size t → i + size t ≤ places → left i + 1 < f → left i < g → partsIn f s i (i + size t) ≡ parts (termIn g s i)
+  pub head-parts : (t : Form) (i f g : ℕ) → Lies s i t → next s i ≡ i + size t → i + size t ≤ formWords → left i + 1 < f → left i < g → partsIn f s i (i + size t) ≡ parts (termIn g s i)
   head-parts t i f g h n l p q = parts-in (i + size t) l t i f g h n (omega arith) p q (λ y z. parts-end y (i + size t)) ∙ append-nil (parts (termIn g s i))

@@ -10,7 +10,7 @@ use Rattle.spec_normal_form.specs.Form.{Form, Forms, num, truth, row, cell, rec
 use Rattle.base_syntax.specs.declared.Monoid.{Monoid}
 use Rattle.spec_plan.specs.Plan.{PTerm}
 use Rattle.form_words.specs.declared.FormNode.the-variants as N
-use Rattle.base_scratch.specs.Map.{places}
+use Rattle.base_scratch.specs.Map.{formWords}
 use Rattle.form_words.specs.NodeWord.{next, nodeAt}
 use Rattle.form_words.specs.FormTree.{left}
 use Rattle.form_words.specs.FormWords.{size, sizeF}
@@ -67,7 +67,7 @@ pub record Splits (s : List ℕ) (b i : ℕ) (whole : List PTerm) (x : PTerm) : 
   pub is : whole ≡ first ++ x ∷ more
   pub before : (f : ℕ) → left i + 1 < f → partsIn f s i b ≡ first
 
-module _ (s : List ℕ) (b : ℕ) (top : b ≤ places) {m : Monoid} (c : nodeAt s b ≡ N.Comprehension m) where
+module _ (s : List ℕ) (b : ℕ) (top : b ≤ formWords) {m : Monoid} (c : nodeAt s b ≡ N.Comprehension m) where
   abbrev here : PTerm
   here = slotBy (markAt s b)
 
@@ -116,7 +116,7 @@ module _ (s : List ℕ) (b : ℕ) (top : b ≤ places) {m : Monoid} (c : nodeAt 
   mutual
     unfolding size
 
-    pub splits : (t : Form) (i g : ℕ) → Lies s i t → i + size t ≤ places → left i < g → PartAt i t b → Splits s b i (parts (termIn g s i)) here
+    pub splits : (t : Form) (i g : ℕ) → Lies s i t → i + size t ≤ formWords → left i < g → PartAt i t b → Splits s b i (parts (termIn g s i)) here
     splits (num z) i g h l q e = alone i g e (omega arith)
     splits (truth z) i g h l q e = alone i g e (omega arith)
     splits (row n) i g h l q e = alone i g e (omega arith)
@@ -127,7 +127,7 @@ module _ (s : List ℕ) (b : ℕ) (top : b ≤ places) {m : Monoid} (c : nodeAt 
     splits (app o ts) i g h l q e = alone i g e (omega arith)
     splits (comp k p u) i g h l q e = alone i g e (omega arith)
 
-    splits-in : (ts : Forms) (i g e : ℕ) → LiesF s i ts → e ≡ i + sizeF ts → e ≤ places → left i + 1 < g → PartAtF i ts b → Splits s b i (partsL (termsIn g s i e)) here
+    splits-in : (ts : Forms) (i g e : ℕ) → LiesF s i ts → e ≡ i + sizeF ts → e ≤ formWords → left i + 1 < g → PartAtF i ts b → Splits s b i (partsL (termsIn g s i e)) here
     splits-in fnil i g e h n l q k = absurd k
     splits-in (fcons t ts) i g e h n l q (inl k) = in-first i g e (omega arith) (omega (arith, size-some t)) (splits t i (pred g) (h .1 .0) (omega arith) (omega arith) k)
     splits-in (fcons t ts) i g e h n l q (inr k) = in-rest t i g e (h .1 .0) (h .0) q (omega (arith, size-some t)) (parts-within ts (i + size t) b k .0)
@@ -138,7 +138,7 @@ unfolding isPlace slotBy
 is-place n = eq-eqb n n refl
 
 -- The parts from a head's node up to the node of its inner comprehension in place n are its parts before that place.
-pub parts-upto : (s : List ℕ) (b n : ℕ) {m : Monoid} (t : Form) (i f g : ℕ) → nodeAt s b ≡ N.Comprehension m → markAt s b ≡ suc n → Lies s i t → i + size t ≤ places → left i + 1 < f → left i < g → PartAt i t b →
+pub parts-upto : (s : List ℕ) (b n : ℕ) {m : Monoid} (t : Form) (i f g : ℕ) → nodeAt s b ≡ N.Comprehension m → markAt s b ≡ suc n → Lies s i t → i + size t ≤ formWords → left i + 1 < f → left i < g → PartAt i t b →
     among n (partsIn f s i b) ≡ false → partsIn f s i b ≡ upto n (parts (termIn g s i))
 parts-upto s b n t i f g c k h l p q w a =
     let S = splits s b (omega (arith, part-within t i b w .1)) c t i g h l q w in

@@ -15,7 +15,7 @@ use Rattle.base_syntax.specs.Numbers.{binOf, opArg, opAt}
 use Rattle.form_words.specs.NodeWord.{next, nodeAt}
 use Rattle.form_words.specs.FormTree.{left}
 use Rattle.form_words.specs.FormWords.{size, sizeF}
-use Rattle.base_scratch.specs.Map.{places}
+use Rattle.base_scratch.specs.Map.{formWords}
 use Rattle.form_words.proofs.ReadBack.{size-some}
 use Rattle.form_arith.specs.declared.Sort.the-variants as So
 use Rattle.form_arith.specs.WordSorts.{resultSort}
@@ -62,7 +62,7 @@ module _ (d : Bytes) (s : List ℕ) (r : Row) (b : ℕ) where
   agreesP-at zero i e a = tt
   agreesP-at (suc f) i e a = λ z. subst (agreesPart (λ j. AgreesP f d s r j b) (Sound f d s r i) s i) (sym e) (a z)
 
-  module _ (t : Form) (i f : ℕ) (h : Lies s i t) (n : next s i ≡ i + size t) (l : i + size t ≤ places) (p : left i + 1 < f) (k : Rest (i + size t)) where
+  module _ (t : Form) (i f : ℕ) (h : Lies s i t) (n : next s i ≡ i + size t) (l : i + size t ≤ formWords) (p : left i + 1 < f) (k : Rest (i + size t)) where
     behind : AgreesP (pred f) d s r (next s i) b
     behind = subst (λ j. AgreesP (pred f) d s r j b) (sym n) (k (pred f) (omega (arith, size-some t)))
 
@@ -81,7 +81,7 @@ module _ (d : Bytes) (s : List ℕ) (r : Row) (b : ℕ) where
     skipped : shapeOf (nodeAt s i) ≡ Sh.Collection → AgreesP f d s r i b
     skipped e = agreesP-at f i e (λ z. behind)
 
-  comp-agree : (m : Monoid) (q : Clauses) (u : Form) (i f : ℕ) → Lies s i (comp m q u) → next s i ≡ i + size (comp m q u) → i + size (comp m q u) ≤ places → within (comp m q u) ≡ true →
+  comp-agree : (m : Monoid) (q : Clauses) (u : Form) (i f : ℕ) → Lies s i (comp m q u) → next s i ≡ i + size (comp m q u) → i + size (comp m q u) ≤ formWords → within (comp m q u) ≡ true →
       AgreesUpto d s r b i (comp m q u) → left i + 1 < f → Rest (i + size (comp m q u)) → AgreesP f d s r i b
   comp-agree (of list) q u i f h n l v a p k = skipped (comp (of list) q u) i f h n l p k (ap shapeOf (h .0))
   comp-agree (of bag) q u i f h n l v a p k = skipped (comp (of bag) q u) i f h n l p k (ap shapeOf (h .0))
@@ -95,7 +95,7 @@ module _ (d : Bytes) (s : List ℕ) (r : Row) (b : ℕ) where
   mutual
     unfolding size
 
-    upto-in : (t : Form) (i f : ℕ) → Lies s i t → next s i ≡ i + size t → i + size t ≤ places → within t ≡ true → AgreesUpto d s r b i t → left i + 1 < f → Rest (i + size t) → AgreesP f d s r i b
+    upto-in : (t : Form) (i f : ℕ) → Lies s i t → next s i ≡ i + size t → i + size t ≤ formWords → within t ≡ true → AgreesUpto d s r b i t → left i + 1 < f → Rest (i + size t) → AgreesP f d s r i b
     upto-in (num z) i f h n l v a p k = written (num z) i f h n l p k (Sh.Word So.Number) tt v (λ y. tt) (ap shapeOf h)
     upto-in (truth z) i f h n l v a p k = written (truth z) i f h n l p k (Sh.Word So.Truth) tt v (λ y. tt) (ap shapeOf h)
     upto-in (row g) i f h n l v a p k = written (row g) i f h n l p k (Sh.Row g) tt v a (ap shapeOf (h .0))
@@ -106,7 +106,7 @@ module _ (d : Bytes) (s : List ℕ) (r : Row) (b : ℕ) where
     upto-in (negate t) i f h n l v a p k = written (negate t) i f h n l p k (Sh.Word So.Truth) tt v a (ap shapeOf (h .0))
     upto-in (comp m q u) i f h n l v a p k = comp-agree m q u i f h n l v a p k
 
-    upto-each : (ts : Forms) (i f e : ℕ) → LiesF s i ts → e ≡ i + sizeF ts → e ≤ places → withinF ts ≡ true → AgreesUptoF d s r b i ts → left i + 1 < f → Rest e → AgreesP f d s r i b
+    upto-each : (ts : Forms) (i f e : ℕ) → LiesF s i ts → e ≡ i + sizeF ts → e ≤ formWords → withinF ts ≡ true → AgreesUptoF d s r b i ts → left i + 1 < f → Rest e → AgreesP f d s r i b
     upto-each fnil i f e h n l v a p k = subst Rest (omega arith) k f p
     upto-each (fcons t ts) i f e h n l v a p k = let w = within-field t ts v in
         upto-in t i f (h .1 .0) (h .0) (omega arith) (w .0) (a .0) p (λ y z. upto-each ts (i + size t) y e (h .1 .1) (omega arith) l (w .1) (a .1) z k)
@@ -117,5 +117,5 @@ module _ (d : Bytes) (s : List ℕ) (r : Row) (b : ℕ) where
   past (suc f) i h = λ z. absurd (omega arith)
 
   -- A row that agrees on a head's parts before node b agrees on the words from the head's node up to b.
-  pub agrees-upto : (t : Form) (i f : ℕ) → Lies s i t → next s i ≡ i + size t → i + size t ≤ places → within t ≡ true → AgreesUpto d s r b i t → left i + 1 < f → b ≤ i + size t → AgreesP f d s r i b
+  pub agrees-upto : (t : Form) (i f : ℕ) → Lies s i t → next s i ≡ i + size t → i + size t ≤ formWords → within t ≡ true → AgreesUpto d s r b i t → left i + 1 < f → b ≤ i + size t → AgreesP f d s r i b
   agrees-upto t i f h n l v a p e = upto-in t i f h n l v a p (λ y z. past y (i + size t) e)

@@ -14,7 +14,7 @@ use Rattle.base_syntax.specs.Numbers.{binOf, opArg, opAt, monoidArg, monoidAt}
 use Rattle.form_words.specs.NodeWord.{next, nodeAt}
 use Rattle.form_words.specs.FormTree.{left}
 use Rattle.form_words.specs.FormWords.{size, sizeF}
-use Rattle.base_scratch.specs.Map.{places}
+use Rattle.base_scratch.specs.Map.{formWords}
 use Rattle.form_words.proofs.ReadBack.{size-some}
 use Rattle.form_arith.specs.declared.Sort.the-variants as So
 use Rattle.form_arith.specs.WordSorts.{resultSort}
@@ -39,13 +39,13 @@ abbrev pub Between : List ℕ → ℕ → ℕ → List PTerm → Type 0
 Between s i j us = (f : ℕ) → left i + 1 < f → partsIn f s i j ≡ us
 
 module _ (s : List ℕ) (F : ℕ) (enough : left 0 + 1 < F) where
-  pub one-part : (t : Form) (i : ℕ) → Lies s i t → next s i ≡ i + size t → i + size t ≤ places → parts (termIn F s i) ≡ termIn F s i ∷ [] → Between s i (i + size t) (termIn F s i ∷ [])
+  pub one-part : (t : Form) (i : ℕ) → Lies s i t → next s i ≡ i + size t → i + size t ≤ formWords → parts (termIn F s i) ≡ termIn F s i ∷ [] → Between s i (i + size t) (termIn F s i ∷ [])
   one-part t i h n l o = λ f p. head-parts s t i f F h n l p (omega arith) ∙ o
 
-  pub add-parts : (t : Form) (i j : ℕ) (us vs : List PTerm) → Lies s i t → next s i ≡ i + size t → i + size t ≤ j → j ≤ places → Between s i (i + size t) us → Between s (i + size t) j vs → Between s i j (us ++ vs)
+  pub add-parts : (t : Form) (i j : ℕ) (us vs : List PTerm) → Lies s i t → next s i ≡ i + size t → i + size t ≤ j → j ≤ formWords → Between s i (i + size t) us → Between s (i + size t) j vs → Between s i j (us ++ vs)
   add-parts t i j us vs h n k l B C = λ f p. parts-in s j l t i f F h n k p (omega arith) C ∙ ap (λ (z : List PTerm). z ++ vs) (sym (head-parts s t i F F h n (omega arith) (omega arith) (omega arith)) ∙ B F (omega arith))
 
-  pub into-parts : (i j e : ℕ) (us : List PTerm) → shapeOf (nodeAt s i) ≡ Sh.Record e → i < j → j ≤ places → Between s (i + 1) j us → Between s i j us
+  pub into-parts : (i j e : ℕ) (us : List PTerm) → shapeOf (nodeAt s i) ≡ Sh.Record e → i < j → j ≤ formWords → Between s (i + 1) j us → Between s i j us
   into-parts i j e us h k l B = λ f p. parts-at s f i j h (omega arith) k ∙ B (pred f) (omega arith)
 
 module _ (lim : ℕ) (s : List ℕ) (r : Row) (b F : ℕ) (P : Point) (enough : left 0 + 1 < F) where
@@ -78,7 +78,7 @@ module _ (lim : ℕ) (s : List ℕ) (r : Row) (b F : ℕ) (P : Point) (enough : 
   abbrev Rest : List PTerm → ℕ → ℕ → Type 0
   Rest ts i e = (us : List PTerm) → Between s i e us → (f : ℕ) → left e + 1 < f → Walkable f lim s r e b (behind (ts ++ us))
 
-  single : (x : WriteForm) → Single x → (t : Form) (i f : ℕ) (ts : List PTerm) → Lies s i t → next s i ≡ i + size t → i + size t ≤ places → left i + 1 < f → shapeOf (nodeAt s i) ≡ x → parts (termIn F s i) ≡ termIn F s i ∷ []
+  single : (x : WriteForm) → Single x → (t : Form) (i f : ℕ) (ts : List PTerm) → Lies s i t → next s i ≡ i + size t → i + size t ≤ formWords → left i + 1 < f → shapeOf (nodeAt s i) ≡ x → parts (termIn F s i) ≡ termIn F s i ∷ []
       → Collections (λ j. j ≡ i) ts i → Rest ts i (i + size t) → Walkable f lim s r i b (behind ts)
   single x w t i f ts h n l p e o a k = settled-at f i (behind ts) e (λ z. go x w e z)
     where
@@ -103,7 +103,7 @@ module _ (lim : ℕ) (s : List ℕ) (r : Row) (b F : ℕ) (P : Point) (enough : 
   mutual
     unfolding size parts
 
-    settles : (t : Form) (i f : ℕ) (ts : List PTerm) → Lies s i t → next s i ≡ i + size t → i + size t ≤ places → left i + 1 < f → Collections (PartAt i t) ts i → Rest ts i (i + size t) → Walkable f lim s r i b (behind ts)
+    settles : (t : Form) (i f : ℕ) (ts : List PTerm) → Lies s i t → next s i ≡ i + size t → i + size t ≤ formWords → left i + 1 < f → Collections (PartAt i t) ts i → Rest ts i (i + size t) → Walkable f lim s r i b (behind ts)
     settles (num z) i f ts h n l p a k = single (Sh.Word So.Number) tt (num z) i f ts h n l p (ap shapeOf h) (own-part (term-at s F i h (omega arith)) refl) a k
     settles (truth z) i f ts h n l p a k = single (Sh.Word So.Truth) tt (truth z) i f ts h n l p (ap shapeOf h) (own-part (term-at s F i h (omega arith)) refl) a k
     settles (row g) i f ts h n l p a k = single (Sh.Row g) tt (row g) i f ts h n l p (ap shapeOf (h .0)) (own-part (term-at s F i (h .0) (omega arith)) (one-slot (markAt s i))) a k
@@ -118,7 +118,7 @@ module _ (lim : ℕ) (s : List ℕ) (r : Row) (b F : ℕ) (P : Point) (enough : 
     settles (negate t) i f ts h n l p a k = single (Sh.Word So.Truth) tt (negate t) i f ts h n l p (ap shapeOf (h .0)) (own-part (term-at s F i (h .0) (omega arith)) refl) a k
     settles (comp m q u) i f ts h n l p a k = single (comprehensionShape (monoidAt (monoidArg m))) (single-comp (monoidAt (monoidArg m))) (comp m q u) i f ts h n l p (ap shapeOf (h .0)) (own-part (term-at s F i (h .0) (omega arith)) (one-slot (markAt s i))) a k
 
-    settles-each : (fs : Forms) (i f e : ℕ) (ts : List PTerm) → LiesF s i fs → e ≡ i + sizeF fs → e ≤ places → left i + 1 < f → Collections (PartAtF i fs) ts i → Rest ts i e → Walkable f lim s r i b (behind ts)
+    settles-each : (fs : Forms) (i f e : ℕ) (ts : List PTerm) → LiesF s i fs → e ≡ i + sizeF fs → e ≤ formWords → left i + 1 < f → Collections (PartAtF i fs) ts i → Rest ts i e → Walkable f lim s r i b (behind ts)
     settles-each fnil i f e ts h n l p a k =
         let q : e ≡ i = omega arith in
         subst (λ (y : List PTerm). Walkable f lim s r i b (behind y)) (append-nil ts) (subst (λ j. (g : ℕ) → left j + 1 < g → Walkable g lim s r j b (behind (ts ++ []))) q (k [] (subst (λ j. Between s i j []) (sym q) (λ g y. parts-end s g i))) f p)
@@ -135,7 +135,7 @@ module _ (lim : ℕ) (s : List ℕ) (r : Row) (b F : ℕ) (P : Point) (enough : 
   past (suc f) i Q h = λ z. absurd (omega arith)
 
   -- The parts from a head's node up to b are settled, where each collection among them stands behind the parts before it.
-  pub settled-head : (t : Form) (i : ℕ) → Lies s i t → next s i ≡ i + size t → i + size t ≤ places → b ≤ i + size t
+  pub settled-head : (t : Form) (i : ℕ) → Lies s i t → next s i ≡ i + size t → i + size t ≤ formWords → b ≤ i + size t
       → ((j : ℕ) → PartAt i t j → j < b → shapeOf (nodeAt s j) ≡ Sh.Collection → Stood (partsIn F s i j) j) → Walkable F lim s r i b P
   unfolding said bindL
   settled-head t i h n l k a = subst (λ (Q : Point). Walkable F lim s r i b Q) (lays-none P)

@@ -5,14 +5,14 @@ use Prim.Native.Nat.{ℕ, zero, suc, _+_, min}
 use lib.Dec.{leb}
 use Rattle.spec_calculus.specs.Lists.{pick}
 use Rattle.spec_normal_form.specs.Form.{fnil, fcons}
-use Rattle.base_scratch.specs.Map.{places}
+use Rattle.base_scratch.specs.Map.{formWords}
 use Rattle.form_words.specs.NodeWord.{wordAt, belowOf, next, nodeOf, nodeAt}
 use Rattle.form_words.specs.FormTree.{clauseOf, formBy, clausesBy, headBy, formTree, formsTree, clausesTree, headTree}
 
 module _ (s t : List ℕ) (w : (i : ℕ) → wordAt s i ≡ wordAt t i) where
   pub next-same : (i : ℕ) → next s i ≡ next t i
   unfolding next
-  next-same i = ap (λ x. min (i + 1 + belowOf x) places) (w i)
+  next-same i = ap (λ x. min (i + 1 + belowOf x) formWords) (w i)
 
   pub node-same : (i : ℕ) → nodeAt s i ≡ nodeAt t i
   unfolding nodeAt nodeOf

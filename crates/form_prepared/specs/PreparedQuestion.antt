@@ -9,7 +9,7 @@ use Rattle.spec_encoding.specs.Data.{readData}
 use Rattle.spec_normal_form.specs.Form.{asForm}
 use Rattle.spec_outcome.specs.Acceptance.{Accepted, judge}
 use Rattle.base_tables.specs.DataReader.{Stored}
-use Rattle.base_scratch.specs.Map.{formAt, places, totalsAt, scratchSize}
+use Rattle.base_scratch.specs.Map.{formAt, formWords, totalsAt, scratchSize}
 use Rattle.form_words.specs.FormWords.{Fits, Holds, flat}
 use Rattle.form_env.specs.Environment.{slotOf}
 use Rattle.form_env.specs.NamedTables.{Rowless, tableOf, Named}
@@ -20,7 +20,7 @@ pub record Prepared (d : Bytes) (a : Accepted) (s : List ℕ) : Type 0 where
   pub judged : judge (a .tables) (a .question) ≡ got a
   pub stored : Stored d (a .tables) s
   pub fits : Fits (asForm (a .form))
-  pub few : length (flat (asForm (a .form))) ≤ places
+  pub few : length (flat (asForm (a .form))) ≤ formWords
   pub held : Holds s 0 (flat (asForm (a .form)))
   pub named : Named (tableOf s) (asForm (a .form))
   pub rowless : (g : ℕ) → Rowless (slotOf s g)

@@ -27,7 +27,7 @@ use Rattle.form_words.specs.declared.MonoidRead.the-variants as Mr
 use Rattle.form_words.specs.declared.Clause.{Clause}
 use Rattle.form_words.specs.declared.Clause.the-variants as Cl
 use Rattle.form_words.specs.NodeWord.{wordAt, kindOf, belowOf, argOf, pack, next, numberOf, kinds, nodeOf, nodeAt}
-use Rattle.base_scratch.specs.Map.{places}
+use Rattle.base_scratch.specs.Map.{formWords}
 use Rattle.form_words.specs.FormTree.{formBy, clauseOf, clausesBy, headBy, formTree, formsTree, clausesTree, headTree}
 use Rattle.form_words.specs.HeadPlace as Hd
 use Rattle.form_words.specs.Look.{Inside, Looks, leafOf, LeafAtPost, monoidIn, MonoidOfPost, LooksC}
@@ -45,24 +45,24 @@ module _ (k b a : ℕ) (hk : k < 16) (hb : b < 1024) where
 
 -- ---- places
 module _ (s : List ℕ) (i : ℕ) where
-  pub next-most : next s i ≤ places
+  pub next-most : next s i ≤ formWords
   unfolding next
   next-most = omega arith
 
-  pub next-past : i < places → i < next s i
+  pub next-past : i < formWords → i < next s i
   unfolding next
   next-past p = omega arith
 
-  pub next-out : places ≤ i → places ≡ next s i
+  pub next-out : formWords ≤ i → formWords ≡ next s i
   unfolding next
   next-out p = omega arith
 
   module _ {w n : ℕ} (e : w ≡ wordAt s i) (b : (n ≡ belowOf w) × (n < 1024)) where
-    pub next-in : i + 1 + n < places → i + 1 + n ≡ next s i
+    pub next-in : i + 1 + n < formWords → i + 1 + n ≡ next s i
     unfolding next
     next-in p = omega (arith, b .0, ap belowOf e)
 
-    pub next-cut : places ≤ i + 1 + n → places ≡ next s i
+    pub next-cut : formWords ≤ i + 1 + n → formWords ≡ next s i
     unfolding next
     next-cut p = omega (arith, b .0, ap belowOf e)
 
@@ -107,21 +107,21 @@ pub node-by : (P : FormNode → Type 0) (s : List ℕ) (i : ℕ) {w : ℕ} → w
     (kindOf w ≡ 8 → P (Comprehension (monoidAt (argOf w % 8)))) → (kindOf w ≡ 9 → P (Generator (argOf w / 1024 % 1024) (argOf w % 1024))) →
     (kindOf w ≡ 10 → P (Condition (next s i))) → (kindOf w ≡ 11 → P (Operator (funAt (argOf w)) (next s i))) → P (nodeAt s i)
 unfolding nodeAt nodeOf pick
-node-by P s i {w} e z h1 h2 h3 h4 h5 h6 h7 h8 h9 h10 h11 = subst (λ x. P (pick (leb places i) Nothing (nodeOf s i (kindOf x) (argOf x)))) e (go (leb places i))
+node-by P s i {w} e z h1 h2 h3 h4 h5 h6 h7 h8 h9 h10 h11 = subst (λ x. P (pick (leb formWords i) Nothing (nodeOf s i (kindOf x) (argOf x)))) e (go (leb formWords i))
   where
     go : (b : Bool) → P (pick b Nothing (nodeOf s i (kindOf w) (argOf w)))
     go true = z
     go false = each-at P (kinds s i (argOf w)) (kindOf w) (kindOf w) 0 (omega arith) z ((λ q. z), (h1, (h2, (h3, (h4, (h5, (h6, (h7, (h8, (h9, (h10, (h11, tt))))))))))))
 
-pub look-out : {s : List ℕ} {i : ℕ} → places ≤ i → Looks s i Nothing
+pub look-out : {s : List ℕ} {i : ℕ} → formWords ≤ i → Looks s i Nothing
 unfolding nodeAt pick
-look-out {s} {i} p = record { is = rw (le-leb places i p); inside = tt }
+look-out {s} {i} p = record { is = rw (le-leb formWords i p); inside = tt }
 
 -- w: the word; a and k: its argument and its kind, as they were read
-module _ {s : List ℕ} {i w a k : ℕ} (p : i < places) (e : w ≡ wordAt s i) (A : (a ≡ argOf w) × (a < 2 ^ 50)) (K : k ≡ kindOf w) where
+module _ {s : List ℕ} {i w a k : ℕ} (p : i < formWords) (e : w ≡ wordAt s i) (A : (a ≡ argOf w) × (a < 2 ^ 50)) (K : k ≡ kindOf w) where
   look-by : {n : FormNode} → Inside i n → n ≡ nodeOf s i k a → Looks s i n
   unfolding nodeAt pick
-  look-by q h = record { is = rw (lt-leb places i p) (h ∙ ap₂ (nodeOf s i) K (A .0) ∙ ap (λ x. nodeOf s i (kindOf x) (argOf x)) e); inside = q }
+  look-by q h = record { is = rw (lt-leb formWords i p) (h ∙ ap₂ (nodeOf s i) K (A .0) ∙ ap (λ x. nodeOf s i (kindOf x) (argOf x)) e); inside = q }
 
   pub look-number : {z : ℤ} → k ≡ 1 → z ≡ numberOf (a) → Looks s i (Number z)
   unfolding nodeOf
@@ -181,10 +181,10 @@ pub monoid-word : (s : List ℕ) (i : ℕ) {w : ℕ} {m : Monoid} → w ≡ word
 monoid-word s i {w} {m} e = node-by (λ n. n ≡ Comprehension m → monoidAt (argOf w % 8) ≡ m) s i e (λ q. cc q) (λ _ q. cc q) (λ _ q. cc q) (λ _ q. cc q) (λ _ q. cc q) (λ _ q. cc q) (λ _ q. cc q) (λ _ q. cc q) (λ _ q. cc q) (λ _ q. cc q) (λ _ q. cc q) (λ _ q. cc q)
 
 -- ---- leaves
-pub leaf-out : {s : List ℕ} {i : ℕ} → places ≤ i → LeafAtPost s i Le.Other
+pub leaf-out : {s : List ℕ} {i : ℕ} → formWords ≤ i → LeafAtPost s i Le.Other
 leaf-out p = record { is = ap leafOf (look-out p .is) }
 
-module _ {s : List ℕ} {i w a k : ℕ} (p : i < places) (e : w ≡ wordAt s i) (A : (a ≡ argOf w) × (a < 2 ^ 50)) (K : k ≡ kindOf w) where
+module _ {s : List ℕ} {i w a k : ℕ} (p : i < formWords) (e : w ≡ wordAt s i) (A : (a ≡ argOf w) × (a < 2 ^ 50)) (K : k ≡ kindOf w) where
   pub leaf-number : {z : ℤ} → k ≡ 1 → z ≡ numberOf a → LeafAtPost s i (Le.Number z)
   leaf-number l q = record { is = ap leafOf (look-number p e A K l q .is) }
 
@@ -224,10 +224,10 @@ pub leaf-recast : {s : List ℕ} {i : ℕ} {r n : Leaf} → LeafAtPost s i r →
 leaf-recast {s} {i} H e = record { is = subst (LeafIs (nodeAt s i)) (sym (H .is) ∙ e) (leaf-node (nodeAt s i)) }
 
 -- ---- the monoid of a comprehension
-pub monoid-out : {s : List ℕ} {i : ℕ} → places ≤ i → MonoidOfPost s i Mr.Other
+pub monoid-out : {s : List ℕ} {i : ℕ} → formWords ≤ i → MonoidOfPost s i Mr.Other
 monoid-out p = record { is = ap monoidIn (look-out p .is) }
 
-pub monoid-is : {s : List ℕ} {i w a k : ℕ} {m : Monoid} → i < places → w ≡ wordAt s i → (a ≡ argOf w) × (a < 2 ^ 50) → k ≡ kindOf w → k ≡ 8 → m ≡ monoidAt (a % 8) → MonoidOfPost s i (Mr.Is m)
+pub monoid-is : {s : List ℕ} {i w a k : ℕ} {m : Monoid} → i < formWords → w ≡ wordAt s i → (a ≡ argOf w) × (a < 2 ^ 50) → k ≡ kindOf w → k ≡ 8 → m ≡ monoidAt (a % 8) → MonoidOfPost s i (Mr.Is m)
 monoid-is p e A K l q = record { is = ap monoidIn (look-comprehension p e A K l q .is) }
 
 pub monoid-rest : {s : List ℕ} {i w k : ℕ} → w ≡ wordAt s i → k ≡ kindOf w → (k ≡ 8 → ⊥) → MonoidOfPost s i Mr.Other
@@ -236,11 +236,11 @@ monoid-rest {s} {i} e K n8 = record {
 }
 
 -- ---- clauses
-pub clause-out : {s : List ℕ} {i : ℕ} → places ≤ i → LooksC s i Cl.Head
+pub clause-out : {s : List ℕ} {i : ℕ} → formWords ≤ i → LooksC s i Cl.Head
 unfolding nodeAt pick
-clause-out {s} {i} p = record { is = rw (le-leb places i p); inside = tt }
+clause-out {s} {i} p = record { is = rw (le-leb formWords i p); inside = tt }
 
-module _ {s : List ℕ} {i w a k : ℕ} (p : i < places) (e : w ≡ wordAt s i) (A : (a ≡ argOf w) × (a < 2 ^ 50)) (K : k ≡ kindOf w) where
+module _ {s : List ℕ} {i w a k : ℕ} (p : i < formWords) (e : w ≡ wordAt s i) (A : (a ≡ argOf w) × (a < 2 ^ 50)) (K : k ≡ kindOf w) where
   pub clause-generator : {g t : ℕ} → k ≡ 9 → (g ≡ a / 1024 % 1024) × (g < 1024) → (t ≡ a % 1024) × (t < 1024) → LooksC s i (Cl.Generator g t)
   clause-generator l q r = let L = look-generator p e A K l q r in record { is = ap clauseOf (L .is); inside = L .inside }
 

@@ -14,7 +14,7 @@ use Rattle.spec_calculus.specs.Meaning.{Env}
 use Rattle.spec_normal_form.specs.Form.{Form, Forms, num, fnil, fcons, value, values}
 use Rattle.spec_normal_form.specs.Bound.{bound, within, withinF}
 use Rattle.base_signed.proofs.SignedWords.{by-test}
-use Rattle.base_scratch.specs.Map.{places}
+use Rattle.base_scratch.specs.Map.{formWords}
 use Rattle.form_words.specs.NodeWord.{next, uptoPlace, branchPlace}
 use Rattle.base_syntax.specs.declared.Fun.{Fun}
 use Rattle.form_words.specs.declared.FormNode.the-variants.{Operator}
@@ -49,7 +49,7 @@ pub upto-in : {i e : ℕ} → i < e → uptoPlace i e ≡ i
 unfolding pick
 upto-in {i} {e} p = rw (lt-ltb i e p)
 
-pub upto-out : {i e : ℕ} → e ≤ i → uptoPlace i e ≡ places
+pub upto-out : {i e : ℕ} → e ≤ i → uptoPlace i e ≡ formWords
 unfolding pick
 upto-out {i} {e} p = rw (le-ltb i e p)
 
@@ -59,14 +59,14 @@ pub record FormAt (s : List ℕ) (j : ℕ) (t : Form) : Type 0 where
   pub enough : left j < fuel
   pub is : t ≡ formTree fuel s j
 
-module _ (s : List ℕ) (e : ℕ) (p : e ≤ places) where
+module _ (s : List ℕ) (e : ℕ) (p : e ≤ formWords) where
   pub skip-out : (k i : ℕ) → e ≤ i → e ≤ skip s k i
   unfolding next
   skip-out zero i l = l
   skip-out (suc k) i l = skip-out k (next s i) (omega (arith, p, l))
 
   none-at : {j : ℕ} → e ≤ j → FormAt s (uptoPlace j e) (num (pos 0))
-  none-at {j} l = subst (λ (x : ℕ). FormAt s x (num (pos 0))) (sym (upto-out l)) (record { fuel = 1; enough = omega arith; is = sym (form-is (look-out {i = places} (omega arith)) 0) })
+  none-at {j} l = subst (λ (x : ℕ). FormAt s x (num (pos 0))) (sym (upto-out l)) (record { fuel = 1; enough = omega arith; is = sym (form-is (look-out {i = formWords} (omega arith)) 0) })
 
   none : (k f i : ℕ) → e ≤ i → FormAt s (uptoPlace (skip s k i) e) (formNth k (formsTree (suc f) s i e))
   unfolding formNth
@@ -94,12 +94,12 @@ module _ (s : List ℕ) (i e : ℕ) {j r : ℕ} (J : j ≡ next s i) where
   branch-first h k = rw h (k ∙ ap (λ (x : ℕ). uptoPlace x e) J)
 
 -- ---- where they stand
-pub skip-past : (s : List ℕ) (k i : ℕ) → i ≤ places → (i ≤ skip s k i) × (skip s k i ≤ places)
+pub skip-past : (s : List ℕ) (k i : ℕ) → i ≤ formWords → (i ≤ skip s k i) × (skip s k i ≤ formWords)
 unfolding next
 skip-past s zero i l = (omega arith, l)
 skip-past s (suc k) i l = let q = skip-past s k (next s i) (omega arith) in (omega (arith, q .0, l), q .1)
 
-pub upto-past : {i j : ℕ} (e : ℕ) → (i ≤ j) × (j ≤ places) → i ≤ uptoPlace j e
+pub upto-past : {i j : ℕ} (e : ℕ) → (i ≤ j) × (j ≤ formWords) → i ≤ uptoPlace j e
 upto-past {i} {j} e l = by-test (ltb j e) (λ t. rw (upto-in (ltb-true j e t)) (l .0)) (λ t. rw (upto-out (ltb-false j e t)) (omega (arith, l .0, l .1)))
 
 module _ {s : List ℕ} {i : ℕ} {o : Fun} {e : ℕ} (L : Looks s i (Operator o e)) where

@@ -23,7 +23,7 @@ use Rattle.form_words.specs.declared.Clause.the-variants as Cl
 use Rattle.form_words.specs.NodeWord.{wordAt, kindOf, belowOf, argOf, pack, next, numberOf, nodeOf, nodeAt}
 use Rattle.form_words.specs.FormTree.{clauseOf, formTree, formsTree, clausesTree, headTree, left}
 use Rattle.form_words.specs.FormWords.{size, sizeF, sizeC, numberArg, flat, flatF, flatC, Fits, FitsF, FitsC, Holds}
-use Rattle.base_scratch.specs.Map.{places}
+use Rattle.base_scratch.specs.Map.{formWords}
 use Rattle.form_words.proofs.NodeWords.{kind-pack, below-pack, arg-pack, formNode, clausesNode, headNode}
 
 -- ---- how many words
@@ -135,16 +135,16 @@ node s i (app f ts) = Operator (funAt (funArg f)) (next s i)
 node s i (comp m q h) = Comprehension (monoidAt (monoidArg m))
 
 module _ (s : List ℕ) where
-  module _ (i k b a : ℕ) (h : wordAt s i ≡ pack k b a) (hk : k < 16) (hi : i + b < places) where
+  module _ (i k b a : ℕ) (h : wordAt s i ≡ pack k b a) (hk : k < 16) (hi : i + b < formWords) where
     node-found : nodeAt s i ≡ nodeOf s i k a
     unfolding nodeAt pick
-    node-found = rw (lt-leb places i (omega arith)) (ap₂ (nodeOf s i) (ap kindOf h ∙ kind-pack k b a hk (omega arith)) (ap argOf h ∙ arg-pack k b a hk (omega arith)))
+    node-found = rw (lt-leb formWords i (omega arith)) (ap₂ (nodeOf s i) (ap kindOf h ∙ kind-pack k b a hk (omega arith)) (ap argOf h ∙ arg-pack k b a hk (omega arith)))
 
     next-found : next s i ≡ i + suc b
     unfolding next
-    next-found = ap (λ x. min (i + 1 + x) places) (ap belowOf h ∙ below-pack k b a hk (omega arith)) ∙ omega arith
+    next-found = ap (λ x. min (i + 1 + x) formWords) (ap belowOf h ∙ below-pack k b a hk (omega arith)) ∙ omega arith
 
-  pub node-is : (t : Form) (i : ℕ) → Fits t → i + size t ≤ places → Holds s i (flat t) → nodeAt s i ≡ node s i t
+  pub node-is : (t : Form) (i : ℕ) → Fits t → i + size t ≤ formWords → Holds s i (flat t) → nodeAt s i ≡ node s i t
   unfolding flat size nodeOf
   node-is (num z) i w l h = node-found i 1 0 (numberArg z) (h .0) (omega arith) (omega arith) ∙ ap Number (number-back z w)
   node-is (truth b) i w l h = node-found i 2 0 (pick b 1 0) (h .0) (omega arith) (omega arith) ∙ ap Truth (truth-back b)
@@ -156,7 +156,7 @@ module _ (s : List ℕ) where
   node-is (app f ts) i w l h = node-found i 11 (sizeF ts) (funArg f) (h .0) (omega arith) (omega arith)
   node-is (comp m q u) i w l h = node-found i 8 (sizeC q + size u) (monoidArg m) (h .0) (omega arith) (omega arith) ∙ ap (λ a. Comprehension (monoidAt a)) (monoid-low m)
 
-  pub next-is : (t : Form) (i : ℕ) → i + size t ≤ places → Holds s i (flat t) → next s i ≡ i + size t
+  pub next-is : (t : Form) (i : ℕ) → i + size t ≤ formWords → Holds s i (flat t) → next s i ≡ i + size t
   unfolding flat size
   next-is (num z) i l h = next-found i 1 0 (numberArg z) (h .0) (omega arith) (omega arith)
   next-is (truth b) i l h = next-found i 2 0 (pick b 1 0) (h .0) (omega arith) (omega arith)
@@ -169,11 +169,11 @@ module _ (s : List ℕ) where
   next-is (comp m q u) i l h = next-found i 8 (sizeC q + size u) (monoidArg m) (h .0) (omega arith) (omega arith)
 
   -- a generator's node; a condition's, and where it ends
-  pub gen-node : (g k : ℕ) (q : Clauses) (i : ℕ) → FitsC (gen g k q) → i < places → Holds s i (flatC (gen g k q)) → nodeAt s i ≡ Generator g k
+  pub gen-node : (g k : ℕ) (q : Clauses) (i : ℕ) → FitsC (gen g k q) → i < formWords → Holds s i (flatC (gen g k q)) → nodeAt s i ≡ Generator g k
   unfolding flat nodeOf
   gen-node g k q i w l h = node-found i 9 0 (1024 * g + k) (h .0) (omega arith) (omega arith) ∙ ap₂ Generator (omega arith) (omega arith)
 
-  module _ (t : Form) (q : Clauses) (i : ℕ) (l : i + size t < places) (h : Holds s i (flatC (cond t q))) where
+  module _ (t : Form) (q : Clauses) (i : ℕ) (l : i + size t < formWords) (h : Holds s i (flatC (cond t q))) where
     pub cond-node : nodeAt s i ≡ Condition (next s i)
     unfolding flat nodeOf
     cond-node = node-found i 10 (size t) 0 (h .0) (omega arith) l
@@ -215,12 +215,12 @@ module _ (s : List ℕ) where
   forms-at zero i e p = absurd (omega arith)
   forms-at (suc f) i e p = refl
 
-  opened : (t : Form) (f i : ℕ) → Fits t → i + size t ≤ places → Holds s i (flat t) → 0 < f → formTree f s i ≡ formNode (pred f) s i (node s i t)
+  opened : (t : Form) (f i : ℕ) → Fits t → i + size t ≤ formWords → Holds s i (flat t) → 0 < f → formTree f s i ≡ formNode (pred f) s i (node s i t)
   opened t f i w l h p = form-at f i p ∙ ap (formNode (pred f) s i) (node-is t i w l h)
 
   -- ---- trees read back
   -- the head at e behind clauses, where it is read back
-  module _ (u : Form) (e : ℕ) (v : Fits u) (l : e + size u ≤ places) (k : Holds s e (flat u)) (r : (f : ℕ) → 2 * size u ≤ f → formTree f s e ≡ u) where
+  module _ (u : Form) (e : ℕ) (v : Fits u) (l : e + size u ≤ formWords) (k : Holds s e (flat u)) (r : (f : ℕ) → 2 * size u ≤ f → formTree f s e ≡ u) where
     readH : (q : Clauses) (f i : ℕ) → FitsC q → Holds s i (flatC q) → e ≡ i + sizeC q → 2 * (sizeC q + size u) < f → headTree f s i ≡ u
     unfolding flat size
     readH done f i w h p m =
@@ -237,7 +237,7 @@ module _ (s : List ℕ) where
   mutual
     unfolding flat size pick nodeOf
 
-    pub read : (t : Form) (f i : ℕ) → Fits t → i + size t ≤ places → Holds s i (flat t) → 2 * size t ≤ f → formTree f s i ≡ t
+    pub read : (t : Form) (f i : ℕ) → Fits t → i + size t ≤ formWords → Holds s i (flat t) → 2 * size t ≤ f → formTree f s i ≡ t
     read (num z) f i w l h m = opened (num z) f i w l h (omega arith)
     read (truth b) f i w l h m = opened (truth b) f i w l h (omega arith)
     read (row g) f i w l h m = opened (row g) f i w l h (omega arith)
@@ -265,7 +265,7 @@ module _ (s : List ℕ) where
         ∙ ap₂ (comp m) (readC q u (pred f) (i + 1) (i + 1 + sizeC q) (w .0) (w .1) (omega arith) h₁ h₂ refl (omega arith))
         (readH u (i + 1 + sizeC q) (w .1) (omega arith) h₂ (λ g x. read u g (i + 1 + sizeC q) (w .1) (omega arith) h₂ x) q (pred f) (i + 1) (w .0) h₁ refl (omega arith))
 
-    pub readF : (ts : Forms) (f i e : ℕ) → FitsF ts → i + sizeF ts ≤ places → Holds s i (flatF ts) → 2 * sizeF ts < f → e ≡ i + sizeF ts → formsTree f s i e ≡ ts
+    pub readF : (ts : Forms) (f i e : ℕ) → FitsF ts → i + sizeF ts ≤ formWords → Holds s i (flatF ts) → 2 * sizeF ts < f → e ≡ i + sizeF ts → formsTree f s i e ≡ ts
     readF fnil f i e w l h m p = forms-at f i e (omega arith) ∙ rw (le-leb e i (omega arith))
     readF (fcons t ts) f i e w l h m p =
         let h₁ = holds-first s (flat t) (flatF ts) i h in
@@ -275,7 +275,7 @@ module _ (s : List ℕ) where
         (readF ts (pred f) (next s i) e (w .1) (omega arith) (holds-second s (flat t) (flatF ts) i (next s i) (omega (arith, length-flat t)) h) (omega (arith, size-some t)) (omega arith)))
 
     -- clauses, with the words of a form at e behind them
-    pub readC : (q : Clauses) (u : Form) (f i e : ℕ) → FitsC q → Fits u → e + size u ≤ places → Holds s i (flatC q) → Holds s e (flat u) → e ≡ i + sizeC q → 2 * sizeC q < f → clausesTree f s i ≡ q
+    pub readC : (q : Clauses) (u : Form) (f i e : ℕ) → FitsC q → Fits u → e + size u ≤ formWords → Holds s i (flatC q) → Holds s e (flat u) → e ≡ i + sizeC q → 2 * sizeC q < f → clausesTree f s i ≡ q
     readC done u f i e w v l h k p m =
         clauses-at f i (omega arith)
         ∙ ap (clausesNode (pred f) s i) (subst (λ x. clauseOf (nodeAt s x) ≡ Cl.Head) (omega arith) (ap clauseOf (node-is u e v l k) ∙ head-node u e))
@@ -290,5 +290,5 @@ module _ (s : List ℕ) where
         (readC q u (pred f) (next s i) e (w .1) v l (holds-second s (flat t) (flatC q) (i + 1) (next s i) (omega (arith, length-flat t)) (h .1)) k (omega arith) (omega arith))
 
 -- Where scratch holds the words of a form from place i on, the form is read there, at every fuel that is enough.
-pub read-back : (t : Form) (s : List ℕ) (i : ℕ) → Fits t → i + length (flat t) ≤ places → Holds s i (flat t) → (f : ℕ) → left i < f → formTree f s i ≡ t
+pub read-back : (t : Form) (s : List ℕ) (i : ℕ) → Fits t → i + length (flat t) ≤ formWords → Holds s i (flat t) → (f : ℕ) → left i < f → formTree f s i ≡ t
 read-back t s i w l h f m = read s t f i w (omega (arith, length-flat t)) h (omega (arith, length-flat t))

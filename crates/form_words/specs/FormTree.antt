@@ -11,7 +11,7 @@ use Rattle.form_words.specs.declared.FormNode.{FormNode}
 use Rattle.form_words.specs.declared.FormNode.the-variants.{Number, Truth, Row, Cell, Record, Binary, Negation, Operator, Comprehension, Generator, Condition, Nothing}
 use Rattle.form_words.specs.declared.Clause.{Clause}
 use Rattle.form_words.specs.declared.Clause.the-variants as Cl
-use Rattle.base_scratch.specs.Map.{places}
+use Rattle.base_scratch.specs.Map.{formWords}
 use Rattle.form_words.specs.NodeWord.{next, nodeAt}
 
 -- a form by its node: X reads the form at a place, L the forms between two places, Q the clauses from a place on, H the head
@@ -75,4 +75,4 @@ unfoldable mutual
 -- A form at i takes more fuel than this, and what begins with a form at i (forms, clauses, a head) more than one more.
 -- It also falls at every child, so it is what recursion over places goes down by.
 abbrev pub left : ℕ → ℕ
-left i = 3 * (places - i)
+left i = 3 * (formWords - i)

@@ -12,7 +12,7 @@ use Rattle.form_words.specs.declared.MonoidRead.{MonoidRead}
 use Rattle.form_words.specs.declared.MonoidRead.the-variants as Mr
 use Rattle.form_words.specs.declared.Clause.{Clause}
 use Rattle.form_words.specs.declared.Clause.the-variants as Cl
-use Rattle.base_scratch.specs.Map.{places}
+use Rattle.base_scratch.specs.Map.{formWords}
 use Rattle.form_words.specs.NodeWord.{nodeAt}
 use Rattle.form_words.specs.FormTree.{clauseOf}
 
@@ -21,13 +21,13 @@ Inside i (Number z) = natAbs z < 2 ^ 50
 Inside i (Truth b) = Unit {0}
 Inside i (Row g) = g < 1024
 Inside i (Cell c g) = (c < 1024) × (g < 1024)
-Inside i (Record e) = (i < e) × (e ≤ places)
-Inside i (Binary o j) = (i < j) × (j ≤ places)
-Inside i Negation = i < places
-Inside i (Operator f e) = (i < e) × (e ≤ places)
-Inside i (Comprehension m) = i < places
-Inside i (Generator g k) = (i < places) × (g < 1024) × (k < 1024)
-Inside i (Condition j) = (i < j) × (j ≤ places)
+Inside i (Record e) = (i < e) × (e ≤ formWords)
+Inside i (Binary o j) = (i < j) × (j ≤ formWords)
+Inside i Negation = i < formWords
+Inside i (Operator f e) = (i < e) × (e ≤ formWords)
+Inside i (Comprehension m) = i < formWords
+Inside i (Generator g k) = (i < formWords) × (g < 1024) × (k < 1024)
+Inside i (Condition j) = (i < j) × (j ≤ formWords)
 Inside i Nothing = Unit {0}
 
 pub record Looks (s : List ℕ) (i : ℕ) (r : FormNode) : Type 0 where
@@ -71,8 +71,8 @@ pub record MonoidOfPost (s : List ℕ) (i : ℕ) (r : MonoidRead) : Type 0 where
   pub is : r ≡ monoidIn (nodeAt s i)
 
 abbrev pub InsideC : ℕ → Clause → Type 0
-InsideC i (Cl.Generator g k) = (i < places) × (g < 1024) × (k < 1024)
-InsideC i (Cl.Condition j) = (i < j) × (j ≤ places)
+InsideC i (Cl.Generator g k) = (i < formWords) × (g < 1024) × (k < 1024)
+InsideC i (Cl.Condition j) = (i < j) × (j ≤ formWords)
 InsideC i Cl.Head = Unit {0}
 
 pub record LooksC (s : List ℕ) (i : ℕ) (r : Clause) : Type 0 where

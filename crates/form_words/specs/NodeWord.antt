@@ -9,7 +9,7 @@ use lib.ListN.{getD}
 use lib.IntN.{ℤ, pos, negsuc}
 use Rattle.spec_calculus.specs.Lists.{pick}
 use Rattle.base_syntax.specs.Numbers.{opAt, funAt, monoidAt}
-use Rattle.base_scratch.specs.Map.{formAt, places}
+use Rattle.base_scratch.specs.Map.{formAt, formWords}
 use Rattle.form_words.specs.declared.FormNode.{FormNode}
 use Rattle.form_words.specs.declared.FormNode.the-variants.{Number, Truth, Row, Cell, Record, Binary, Negation, Operator, Comprehension, Generator, Condition, Nothing}
 
@@ -30,11 +30,11 @@ pack k b a = k + 16 * (b + 1024 * a)
 
 -- the place behind the subtree at i
 unfoldable pub next : List ℕ → ℕ → ℕ
-next s i = min (i + 1 + belowOf (wordAt s i)) places
+next s i = min (i + 1 + belowOf (wordAt s i)) formWords
 
 -- a place that lies before e; behind all words, where nothing stands, if it does not
 abbrev pub uptoPlace : ℕ → ℕ → ℕ
-uptoPlace i e = pick (ltb i e) i places
+uptoPlace i e = pick (ltb i e) i formWords
 
 abbrev pub branchPlace : List ℕ → ℕ → ℕ → Bool → ℕ
 branchPlace s i e other = pick other (uptoPlace (next s (next s i)) e) (uptoPlace (next s i) e)
@@ -56,4 +56,4 @@ unfoldable pub nodeOf : List ℕ → ℕ → ℕ → ℕ → FormNode
 nodeOf s i k a = getD (kinds s i a) k Nothing
 
 unfoldable pub nodeAt : List ℕ → ℕ → FormNode
-nodeAt s i = pick (leb places i) Nothing (nodeOf s i (kindOf (wordAt s i)) (argOf (wordAt s i)))
+nodeAt s i = pick (leb formWords i) Nothing (nodeOf s i (kindOf (wordAt s i)) (argOf (wordAt s i)))

@@ -28,7 +28,7 @@ use Rattle.form_words.specs.declared.Clause.{Clause}
 use Rattle.form_words.specs.declared.Clause.the-variants as Cl
 use Rattle.form_words.specs.NodeWord.{next}
 use Rattle.form_words.specs.FormTree.{formTree, formsTree, clausesTree, headTree, left}
-use Rattle.base_scratch.specs.Map.{places}
+use Rattle.base_scratch.specs.Map.{formWords}
 use Rattle.form_words.specs.Look.{Looks, LooksC}
 use Rattle.form_words.specs.FormWords.{flat, Holds}
 use Rattle.form_words.specs.FormWords as Fl
@@ -291,7 +291,7 @@ fields-end : {s : List ℕ} {i e : ℕ} → e ≤ i → RecordFitsPost s i e tru
 unfolding within
 fields-end {s} {i} {e} p = record { is = elim [ zero ↦ λ l. absurd (omega arith) | suc f ↦ λ l. sym (ap withinF (forms-end f s i e p)) ] }
 
-fields-more : {s : List ℕ} {i e n : ℕ} {a : Size} {b r : Bool} → i < e → e ≤ places → FormSizePost s i a → n ≡ next s i → RecordFitsPost s n e b → r ≡ (a .fits && b) → RecordFitsPost s i e r
+fields-more : {s : List ℕ} {i e n : ℕ} {a : Size} {b r : Bool} → i < e → e ≤ formWords → FormSizePost s i a → n ≡ next s i → RecordFitsPost s n e b → r ≡ (a .fits && b) → RecordFitsPost s i e r
 unfolding within
 fields-more {s} {i} {e} {n} p t A q B w = record {
   is = elim [
@@ -311,7 +311,7 @@ pub fitting-first : {s : List ℕ} {i e : ℕ} → Fitting s i e i true
 fitting-first = record { low = omega arith; back = λ r b B q. record { is = λ f l. q ∙ B .is f l } }
 
 module _ {s : List ℕ} {i e j : ℕ} {t : Bool} (I : Fitting s i e j t) where
-  pub fitting-again : {n : ℕ} {a : Size} {u : Bool} → j < e → e ≤ places → FormSizePost s j a → u ≡ (t && a .fits) → n ≡ next s j → Fitting s i e n u
+  pub fitting-again : {n : ℕ} {a : Size} {u : Bool} → j < e → e ≤ formWords → FormSizePost s j a → u ≡ (t && a .fits) → n ≡ next s j → Fitting s i e n u
   fitting-again {a = a} p h A w q = record {
     low = omega (arith, I .low, q, next-past s j (omega arith));
     back = λ r b B y. I .back r (a .fits && b) (fields-more p h A q B refl) (y ∙ ap (λ z. z && b) w ∙ and-assoc t (a .fits) b);
@@ -345,18 +345,18 @@ unfolding formTree
 no-forms zero s i e h = refl
 no-forms (suc f) s i e h = forms-end f s i e h
 
-no-behind : (s : List ℕ) (i e : ℕ) → e ≤ places → e ≤ i → e ≤ next s i
-no-behind s i e h l = by-test (leb places i)
-    (λ p. omega (arith, leb-true places i p, next-out s i (leb-true places i p)))
-    (λ p. omega (arith, next-past s i (leb-false places i p)))
+no-behind : (s : List ℕ) (i e : ℕ) → e ≤ formWords → e ≤ i → e ≤ next s i
+no-behind s i e h l = by-test (leb formWords i)
+    (λ p. omega (arith, leb-true formWords i p, next-out s i (leb-true formWords i p)))
+    (λ p. omega (arith, next-past s i (leb-false formWords i p)))
 
 left-next : (s : List ℕ) (i : ℕ) → left (next s i) ≤ left i
-left-next s i = by-test (leb places i) (λ p. omega (arith, next-out s i (leb-true places i p))) (λ p. omega (arith, next-past s i (leb-false places i p)))
+left-next s i = by-test (leb formWords i) (λ p. omega (arith, next-out s i (leb-true formWords i p))) (λ p. omega (arith, next-past s i (leb-false formWords i p)))
 
 pub left-after : (s : List ℕ) (i : ℕ) {j : ℕ} → j ≡ next s i → left j ≤ left i
 left-after s i p = rw p (left-next s i)
 
-rest-tree : (f : ℕ) (s : List ℕ) (i e : ℕ) → e ≤ places → rest (formsTree (suc f) s i e) ≡ formsTree f s (next s i) e
+rest-tree : (f : ℕ) (s : List ℕ) (i e : ℕ) → e ≤ formWords → rest (formsTree (suc f) s i e) ≡ formsTree f s (next s i) e
 unfolding rest
 rest-tree f s i e h = by-test (leb e i)
     (λ p. let l = leb-true e i p in ap rest (forms-end f s i e l) ∙ sym (no-forms f s (next s i) e (no-behind s i e h l)))
@@ -370,7 +370,7 @@ term-some {s} {i} {e} {r} h A = record {
   is = elim [ zero ↦ λ l. absurd (omega arith) | suc f ↦ λ l. subst (λ ts. FirstOf ts r) (sym (forms-more f s i e h)) (A .is f (omega arith)) ];
 }
 
-module _ (o : Fun) {s : List ℕ} {i e j k n w : ℕ} {a b c x : Size} {r t u v : Bool} (h : e ≤ places) (A : TermSizePost s i e a) (pj : j ≡ next s i) (B : TermSizePost s j e b) (pk : k ≡ next s j)
+module _ (o : Fun) {s : List ℕ} {i e j k n w : ℕ} {a b c x : Size} {r t u v : Bool} (h : e ≤ formWords) (A : TermSizePost s i e a) (pj : j ≡ next s i) (B : TermSizePost s j e b) (pk : k ≡ next s j)
     (C : TermSizePost s k e c) (pn : n ≡ next s k) (R : RecordFitsPost s n e r) (pw : w ≡ appBound (funOf o) (a .bound ∷ b .bound ∷ c .bound ∷ [])) (pt : t ≡ (c .fits && r)) (pu : u ≡ (b .fits && t))
     (pv : v ≡ (a .fits && u)) (X : CheckedPost w v x) where
   -- the terms from the first, the second, the third on, and those behind it
@@ -429,6 +429,6 @@ pub verdict : {s : List ℕ} {a : Size} → FormSizePost s 0 a → BoundFitsPost
 verdict A = record { is = λ f l. A .is f l .fits-is }
 
 -- Where scratch holds the words of a normal form, the answer is whether its numbers fit.
-pub verdict-is : {s : List ℕ} {r : Bool} → BoundFitsPost s r → (n : NormalForm) → Fl.Fits (asForm n) → length (flat (asForm n)) ≤ places → Holds s 0 (flat (asForm n)) → r ≡ numbersFit n
+pub verdict-is : {s : List ℕ} {r : Bool} → BoundFitsPost s r → (n : NormalForm) → Fl.Fits (asForm n) → length (flat (asForm n)) ≤ formWords → Holds s 0 (flat (asForm n)) → r ≡ numbersFit n
 unfolding numbersFit
 verdict-is {s} A n w l h = A .is (left 0 + 1) (omega arith) ∙ ap within (read-back (asForm n) s 0 w (omega arith) h (left 0 + 1) (omega arith))

@@ -7,7 +7,7 @@ ghost use lib.IntN.{natAbs};
 ghost use Rattle.spec_normal_form.specs.Bound.{binBound, appBound};
 ghost use Rattle.base_syntax.specs.MonoidWord.{monoidOf};
 ghost use Rattle.base_syntax.specs.Numbers.{binOf, funOf};
-ghost use Rattle.base_scratch.specs.Map.{places};
+ghost use Rattle.base_scratch.specs.Map.{formWords};
 ghost use Rattle.front_bounds.specs.CutBounds.{cut, perGenerator, perGenerators, perHead, CheckedPost, UnboundedPost, FormSizePost, ClausesSizePost, RecordFitsPost, TermSizePost, OperatorSizePost, BoundFitsPost};
 use base_signed::NUMBER_LIMIT;
 use base_syntax::Fun;
@@ -210,7 +210,7 @@ fn clauses_size(s: &[u64], i: usize, m: Monoid) -> Size
 
 // The operator f over the terms from i to e: each is looked at once, the bounds of the first three are kept.
 fn operator_size(s: &[u64], i: usize, e: usize, f: Fun) -> Size
-    requires { ⌜ e ≤ places ⌝ }
+    requires { ⌜ e ≤ formWords ⌝ }
     ensures { λ r. ⌜ OperatorSizePost (now (s .entry)) i e f r ⌝ }
 {
     let a = term_size(s, i, e);
@@ -237,7 +237,7 @@ fn term_size(s: &[u64], i: usize, e: usize) -> Size
 
 // The fields of a record, from i to e. A loop, as in `clauses_size`.
 fn record_fits(s: &[u64], i: usize, e: usize) -> bool
-    requires { ⌜ e ≤ places ⌝ }
+    requires { ⌜ e ≤ formWords ⌝ }
     ensures { λ r. ⌜ RecordFitsPost (now (s .entry)) i e r ⌝ }
 {
     let mut j = i;

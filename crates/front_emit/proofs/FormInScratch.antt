@@ -18,7 +18,7 @@ use Rattle.front_theory.proofs.FormCounts.{sizes, flat-length}
 use Rattle.front_theory.proofs.Locality.{sem-local}
 use Rattle.form_words.specs.NodeWord.{pack}
 use Rattle.form_words.specs.FormWords.{size, sizeF, sizeC, flat, flatF, flatC, Holds}
-use Rattle.base_scratch.specs.Map.{formAt, places}
+use Rattle.base_scratch.specs.Map.{formAt, formWords}
 use Rattle.front_nodes.specs.NodeTable.{nodesOf}
 use Rattle.front_nodes.proofs.PostOrder.{post-order}
 use Rattle.front_resolve.specs.Place.{envOf, offsets}
@@ -113,7 +113,7 @@ module _ {s : List ℕ} {i : ℕ} (W : Writable s i) (l : List ℕ) where
         ready = W .ready;
         inside = omega arith;
         depth = W .depth;
-        room = record { numbered = omega arith; room = subst (λ d. 0 + words (quote d 0) ≤ places) (sym (root-sem s i l)) (omega arith) };
+        room = record { numbered = omega arith; room = subst (λ d. 0 + words (quote d 0) ≤ formWords) (sym (root-sem s i l)) (omega arith) };
       }
 
   pub whole-done : {s′ : List ℕ} {r : State} → Emitted (semS s i 0 (envOf l)) s start s′ r → WriteFormPost s i s′ (r .place)
@@ -136,8 +136,8 @@ module _ {s : List ℕ} {i : ℕ} (W : Writable s i) (l : List ℕ) where
 -- ---- the normal form
 -- what the root writes is t
 module _ (s : List ℕ) (i : ℕ) {t : Form} (e : formOf s i ≡ t) where
-  pub form-short : nodes t ≤ places → words (formOf s i) ≤ places
-  form-short h = let c = sizes t .1 in subst (λ u. words u ≤ places) (sym e) (omega arith)
+  pub form-short : nodes t ≤ formWords → words (formOf s i) ≤ formWords
+  form-short h = let c = sizes t .1 in subst (λ u. words u ≤ formWords) (sym e) (omega arith)
 
   pub form-held : {s′ : List ℕ} {r : ℕ} → WriteFormPost s i s′ r → Holds s′ 0 (flat t) × (r ≡ size t)
   form-held {s′} W = (subst (λ u. Holds s′ 0 (flat u)) e (W .held), W .number ∙ ap size e)

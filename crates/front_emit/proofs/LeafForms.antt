@@ -15,7 +15,7 @@ use Rattle.spec_encoding.specs.Reader as Re
 use Rattle.front_theory.specs.NodeTable.{Node, nnum, ntruth, nname, nfield, nrec, nbin, nnegate, napp, ncomp, ntable, ngen, nbind, ncond, nbad}
 use Rattle.front_theory.specs.CappedOffsets.{limit}
 use Rattle.front_theory.specs.FormWords.{words}
-use Rattle.base_scratch.specs.Map.{places, mostNodes}
+use Rattle.base_scratch.specs.Map.{formWords, mostNodes}
 use Rattle.form_words.specs.FormWords.{numberArg}
 use Rattle.front_words.specs.NodeWord.{argOf, nodeWord}
 use Rattle.front_words.specs.NodeTree.{numberOf, kindAt, argAt}
@@ -157,7 +157,7 @@ other-form s (Operator f) w = refl
 other-form s Bad w = refl
 
 module _ {s : List ℕ} {f : Form} {i : ℕ} {st : State} (S : SimplePre s f i st) where
-  pub one-place : st .place < places
+  pub one-place : st .place < formWords
   one-place = let v = S .room .room in omega (arith, some-word (quote (simpleS s f) (st .next)))
 
   form-of : {g : Form} → f ≡ g → FormAt s i (S .depth) g

@@ -14,7 +14,7 @@ use Rattle.front_theory.specs.NodeForms.{Env, At, semsOf, levels}
 use Rattle.front_theory.specs.FormWords.{words, wordsF, wordsC}
 use Rattle.spec_normal_form.proofs.FixedPoint.{quote-binary}
 use Rattle.base_syntax.specs.declared.Monoid.{Monoid}
-use Rattle.base_scratch.specs.Map.{places, mostNodes}
+use Rattle.base_scratch.specs.Map.{formWords, mostNodes}
 use Rattle.front_nodes.specs.NodeTable.{depthAt, childrenOf, nodesOf}
 use Rattle.front_nodes.specs.Look.{nth, ChildPost}
 use Rattle.front_nodes.specs.Levels.{AllAt, Level}
@@ -140,14 +140,14 @@ pub room-less : {q : State} {m k : ℕ} → Room q m → k ≤ m → Room q k
 room-less R l = let v = R .room in record { numbered = R .numbered; room = omega arith }
 
 -- ---- where a word may be closed
-pub ends : {st q r : State} {k g : ℕ} → q ≡ behind st → Room q k → Moved q r k g → (st .place < r .place) × (r .place ≤ places)
+pub ends : {st q r : State} {k g : ℕ} → q ≡ behind st → Room q k → Moved q r k g → (st .place < r .place) × (r .place ≤ formWords)
 ends e R M =
     let p = ap (λ (a : State). a .place) e in
     let u = M .place in
     let v = R .room in
     (omega arith, omega arith)
 
-pub ends-later : {st q x r : State} {j f k g : ℕ} → q ≡ behind st → Moved q x j f → Room x k → Moved x r k g → (st .place < r .place) × (r .place ≤ places)
+pub ends-later : {st q x r : State} {j f k g : ℕ} → q ≡ behind st → Moved q x j f → Room x k → Moved x r k g → (st .place < r .place) × (r .place ≤ formWords)
 ends-later e L R M =
     let p = ap (λ (a : State). a .place) e in
     let u = M .place in
@@ -324,7 +324,7 @@ module _ {s₀ : List ℕ} {h : Place} {st : State} {s : List ℕ} {k : ℕ} {q 
       record { starts = n .0; few = n .1; rest = λ s′ r F. L .rest s′ r (field-done (L .starts) T P E F) }
 
 -- ---- the first place, and nodes below a node
-pub has-place : {s : List ℕ} {h : Place} {st : State} → TermOf s h st → st .place < places
+pub has-place : {s : List ℕ} {h : Place} {st : State} → TermOf s h st → st .place < formWords
 has-place {s} {h} {st} S = let v = S .starts .room .room in omega (arith, some-word (quote (placeS s h) (st .next)))
 
 module _ {s : List ℕ} {h : Place} {st : State} {n : ℕ} (S : StartsAt s h st n) where
@@ -339,7 +339,7 @@ module _ {s : List ℕ} {h : Place} {st : State} {n : ℕ} (S : StartsAt s h st 
 
 -- ---- as one condition
 module _ {s : List ℕ} {h : Place} {st : State} (S : SinglePre s h st) where
-  pub one-has-place : st .place < places
+  pub one-has-place : st .place < formWords
   unfolding words
   one-has-place = let v = S .starts .room .room in omega arith
 

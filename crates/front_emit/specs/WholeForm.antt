@@ -8,7 +8,7 @@ use Rattle.spec_normal_form.specs.Form.{Form}
 use Rattle.spec_normal_form.specs.Normal.{quote}
 use Rattle.front_theory.specs.NodeForms.{outside}
 use Rattle.front_theory.specs.FormWords.{words}
-use Rattle.base_scratch.specs.Map.{formAt, places}
+use Rattle.base_scratch.specs.Map.{formAt, formWords}
 use Rattle.form_words.specs.FormWords.{size, flat, Holds}
 use Rattle.front_nodes.specs.NodeTable.{depthAt}
 use Rattle.front_emit.specs.WriterStart.{semS, Ready}
@@ -21,8 +21,8 @@ formOf s i = quote (semS s i 0 outside) 0
 pub record Writable (s : List ℕ) (i : ℕ) : Type 0 where
   pub ready : Ready s (i + 1)
   pub depth : depthAt s i ≡ 0
-  pub short : words (formOf s i) ≤ places
-  pub long : formAt + places ≤ length s
+  pub short : words (formOf s i) ≤ formWords
+  pub long : formAt + formWords ≤ length s
 
 -- its words stand from the first place on, and no other word changed; r is their number
 pub record WriteFormPost (s : List ℕ) (i : ℕ) (s′ : List ℕ) (r : ℕ) : Type 0 where

@@ -18,7 +18,7 @@ use Rattle.base_syntax.specs.declared.Monoid.{Monoid}
 use Rattle.base_syntax.specs.MonoidWord.{monoidOf}
 use Rattle.base_syntax.specs.declared.Fun.{Fun}
 use Rattle.base_syntax.specs.Numbers.{funOf, funArg}
-use Rattle.base_scratch.specs.Map.{places, mostNodes}
+use Rattle.base_scratch.specs.Map.{formWords, mostNodes}
 use Rattle.front_sizes.specs.SizeWords.{conditionCount}
 use Rattle.front_nodes.specs.NodeTable.{depthAt, childrenOf, chain, qualifiersOf, nodesOf}
 use Rattle.front_nodes.specs.Levels.{AllAt, Levelled}
@@ -92,7 +92,7 @@ pub record Ready (s : List ℕ) (n : ℕ) : Type 0 where
 -- room for so many words; there are no more generators than words
 pub record Room (st : State) (k : ℕ) : Type 0 where
   pub numbered : st .next ≤ st .place
-  pub room : st .place + k ≤ places
+  pub room : st .place + k ≤ formWords
 
 -- node i at depth D, which writes so many words
 pub record Starts (s : List ℕ) (i D : ℕ) (st : State) (k : ℕ) : Type 0 where

@@ -9,7 +9,7 @@ ghost use Rattle.front_theory.specs.NodeForms.{levels};
 ghost use Rattle.front_theory.specs.CappedOffsets.{limit};
 ghost use Rattle.base_syntax.specs.MonoidWord.{monoidOf};
 ghost use Rattle.base_syntax.specs.declared.Monoid.the-variants as Monoid;
-ghost use Rattle.base_scratch.specs.Map.{places};
+ghost use Rattle.base_scratch.specs.Map.{formWords};
 ghost use Rattle.front_nodes.specs.NodeTable.{chain, nodesOf, qualifiersOf};
 ghost use Rattle.base_syntax.specs.declared.Op.the-variants as Op;
 ghost use Rattle.front_resolve.specs.Place.{under, envOf};
@@ -58,7 +58,7 @@ fn truth_number(b: bool) -> u64
 
 // Behind a word.
 fn below(st: State) -> State
-    requires { ⌜ st .place < places ⌝ }
+    requires { ⌜ st .place < formWords ⌝ }
     ensures { λ r. ⌜ r ≡ behind st ⌝ }
 {
     State {
@@ -69,7 +69,7 @@ fn below(st: State) -> State
 
 // A word with nothing below it.
 fn leaf(s: &mut [u64], k: u64, a: u64, st: State) -> State
-    requires { ⌜ (k < 16) × (a < 2 ^ 50) × (st .place < places) ⌝ }
+    requires { ⌜ (k < 16) × (a < 2 ^ 50) × (st .place < formWords) ⌝ }
     ensures { λ r. ⌜ LeafPost k a (now (s .entry)) st (now (s .exit)) r ⌝ }
 {
     let p = st.place;
@@ -79,7 +79,7 @@ fn leaf(s: &mut [u64], k: u64, a: u64, st: State) -> State
 
 // The word at p, below which words were written up to e.
 fn close(s: &mut [u64], p: usize, e: usize, k: u64, a: u64)
-    requires { ⌜ (k < 16) × (a < 2 ^ 50) × (p < e) × (e ≤ places) ⌝ }
+    requires { ⌜ (k < 16) × (a < 2 ^ 50) × (p < e) × (e ≤ formWords) ⌝ }
     ensures { λ _. ⌜ ClosePost k a p e (now (s .entry)) (now (s .exit)) ⌝ }
 {
     let n = e - (p + 1);

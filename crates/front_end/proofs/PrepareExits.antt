@@ -18,7 +18,7 @@ use Rattle.spec_outcome.proofs.CheckOrder.{judged-as, numbers-decide, passes}
 use Rattle.base_scratch.specs.ZeroedWords.{WipePost}
 use Rattle.base_tables.specs.DataReader.{Stored}
 use Rattle.base_tables.proofs.ReadData.{tables-most}
-use Rattle.base_scratch.specs.Map.{formAt, places, envAt}
+use Rattle.base_scratch.specs.Map.{formAt, formWords, envAt}
 use Rattle.form_words.specs.FormWords.{Fits, Holds, flat}
 use Rattle.form_words.proofs.ReadBack.{length-flat, words-nodes, holds-kept}
 use Rattle.front_emit.specs.WholeForm.{Writable, WriteFormPost}
@@ -55,10 +55,10 @@ module _ {d l : Bytes} {s s₁ s₂ s₃ : List ℕ} {n k : ℕ} {a : Bool} (F :
   fits : Fits (asForm f)
   fits = normal-fits (kindOf T) q (F .passed .ready .names) (read-ranges d l (F .passed .ready .loaded .tables) (F .asked) (F .passed .generators)) (small-form f (F .passed .size))
 
-  few : length (flat (asForm f)) ≤ places
+  few : length (flat (asForm f)) ≤ formWords
   few = omega (arith, words-nodes (asForm f), small-form f (F .passed .size))
 
-  written : k ≤ places
+  written : k ≤ formWords
   written = omega (arith, form-held s (n - 1) (F .passed .form) W .1, length-flat (asForm f), few)
 
   wiped : Holds s₂ 0 (flat (asForm f))

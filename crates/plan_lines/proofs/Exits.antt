@@ -22,7 +22,7 @@ use Rattle.form_words.specs.declared.Clause.{Clause}
 use Rattle.form_words.specs.declared.Clause.the-variants as Cl
 use Rattle.form_words.specs.NodeWord.{next}
 use Rattle.form_words.specs.FormTree.{left}
-use Rattle.base_scratch.specs.Map.{places}
+use Rattle.base_scratch.specs.Map.{formWords}
 use Rattle.form_words.specs.Look.{Looks, LooksC}
 use Rattle.form_words.proofs.NodeWords.{next-past}
 use Rattle.spec_plan.specs.Plan.{PTerm, ptruth, Source, table, unit, nest}
@@ -127,7 +127,7 @@ pub terms-end : (s : List ℕ) (i : ℕ) (e : ℕ) {lim p : ℕ} {o : List ℕ} 
 unfolding termIn showTerm pick
 terms-end s i e {lim} {p} {o} l = text-by (λ f h. lays-as (ap (λ (t : Bool). showTerms (pick t Pl.pnil (Pl.pcons (termIn f s i) (termsIn f s (next s i) e)))) (sym (le-leb e i l))) (lays-nil lim p o))
 
-pub terms-more : (s : List ℕ) (i : ℕ) (e : ℕ) {j : ℕ} {lim p q r t : ℕ} {o o₁ o₂ o₃ : List ℕ} → i < e → e ≤ places → Lays lim (ascii " ") o p o₁ q → Text (left i) (λ f. showTerm (termIn f s i)) lim o₁ q o₂ r → j ≡ next s i →
+pub terms-more : (s : List ℕ) (i : ℕ) (e : ℕ) {j : ℕ} {lim p q r t : ℕ} {o o₁ o₂ o₃ : List ℕ} → i < e → e ≤ formWords → Lays lim (ascii " ") o p o₁ q → Text (left i) (λ f. showTerm (termIn f s i)) lim o₁ q o₂ r → j ≡ next s i →
     Text (left j + 1) (λ f. showTerms (termsIn f s j e)) lim o₂ r o₃ t → Text (left i + 1) (λ f. showTerms (termsIn f s i e)) lim o p o₃ t
 unfolding termIn showTerm pick
 terms-more s i e {j} l top A B J C = text-by (λ f h. lays-as (ap (λ (x : Bool). showTerms (pick x Pl.pnil (Pl.pcons (termIn f s i) (termsIn f s (next s i) e)))) (sym (lt-leb e i l)))
@@ -251,7 +251,7 @@ pub growers-head : {s : List ℕ} {c i lim p : ℕ} {b : Bool} {o : List ℕ} �
 unfolding showOps
 growers-head {s} {c} {i} {lim} {p} {b} {o} H = growers-by H (λ f l h m. lays-nil lim p o)
 
-pub own-some : (b : Bool) {s : List ℕ} {i lim p r : ℕ} {g : Bool} {o o′ : List ℕ} → i < places → GrowsPost s (i + 1) g → g ≡ true → GrowersPost s (i + 1) (i + 1) b lim o p o′ r → Text (left i - 1) (λ f. showOps (ownIn f (grower b) s i)) lim o p o′ r
+pub own-some : (b : Bool) {s : List ℕ} {i lim p r : ℕ} {g : Bool} {o o′ : List ℕ} → i < formWords → GrowsPost s (i + 1) g → g ≡ true → GrowersPost s (i + 1) (i + 1) b lim o p o′ r → Text (left i - 1) (λ f. showOps (ownIn f (grower b) s i)) lim o p o′ r
 unfolding pick
 own-some b {s} {i} {lim} {p} {r} {g} a G e X = record {
   is = λ f l. lays-as
@@ -260,7 +260,7 @@ own-some b {s} {i} {lim} {p} {r} {g} a G e X = record {
       (X .is f (omega arith) f (omega arith));
 }
 
-pub own-unit : (b : Bool) {s : List ℕ} {i m lim p r : ℕ} {g : Bool} {o o′ : List ℕ} → i < places → GrowsPost s (i + 1) g → g ≡ false → m ≡ markAt s i → Text (left (i + 1) + 1) (λ f. showOp (opIn f (grower b) s (i + 1) unit m)) lim o p o′ r → Text (left i - 1) (λ f. showOps (ownIn f (grower b) s i)) lim o p o′ r
+pub own-unit : (b : Bool) {s : List ℕ} {i m lim p r : ℕ} {g : Bool} {o o′ : List ℕ} → i < formWords → GrowsPost s (i + 1) g → g ≡ false → m ≡ markAt s i → Text (left (i + 1) + 1) (λ f. showOp (opIn f (grower b) s (i + 1) unit m)) lim o p o′ r → Text (left i - 1) (λ f. showOps (ownIn f (grower b) s i)) lim o p o′ r
 unfolding pick showOps
 own-unit b {s} {i} {m} {lim} {p} {r} {g} a G e q X = record {
   is = λ f l. lays-as
@@ -276,7 +276,7 @@ pub last-is : (s : List ℕ) (c : ℕ) (m : Monoid) {lim p q r t : ℕ} {o o₁ 
 unfolding showLast
 last-is s c m {lim} {p} {q} {r} {t} A B C = record { is = λ f l. lays-as (append-assoc (ascii (monoidName (monoidOf m))) (ascii " ") (showTerm (headIn f s c) ++ restText (conj (condsIn f s 0 c)))) (lays-two A (lays-two (B .is f l) (C .is f l))) }
 
-pub nest-is : (s : List ℕ) (i : ℕ) (m : Monoid) {k a lim p q r t u : ℕ} {o o₁ o₂ o₃ o₄ : List ℕ} → i < places → a ≡ markAt s i → k ≡ pred a → Lays lim (ascii "nest ") o p o₁ q → Text k (λ f. digits f k) lim o₁ q o₂ r → Lays lim (ascii " ") o₂ r o₃ t →
+pub nest-is : (s : List ℕ) (i : ℕ) (m : Monoid) {k a lim p q r t u : ℕ} {o o₁ o₂ o₃ o₄ : List ℕ} → i < formWords → a ≡ markAt s i → k ≡ pred a → Lays lim (ascii "nest ") o p o₁ q → Text k (λ f. digits f k) lim o₁ q o₂ r → Lays lim (ascii " ") o₂ r o₃ t →
     Text (left (i + 1) + 1) (λ f. showLast (monoidOf m) (headIn f s (i + 1)) (conj (condsIn f s 0 (i + 1)))) lim o₃ t o₄ u → Text (left i - 1) (λ f. nestText f s i m) lim o p o₄ u
 unfolding showOp
 nest-is s i m {k} {a} {lim} {p} {q} {r} {t} {u} b e n A B C D = record {
@@ -321,7 +321,7 @@ pub upto-end : (s : List ℕ) (i : ℕ) (e : ℕ) {lim p : ℕ} {o : List ℕ} �
 unfolding opsIn showOps pick
 upto-end s i e {lim} {p} {o} l = text-by (λ f h. lays-as (ap (λ (t : Bool). showOps (pick t [] (opsIn f s i ++ opsInF f s (next s i) e))) (sym (le-leb e i l))) (lays-nil lim p o))
 
-pub upto-more : (s : List ℕ) (i : ℕ) (e : ℕ) {j : ℕ} {lim p q r : ℕ} {o o₁ o₂ : List ℕ} → i < e → e ≤ places → Text (left i) (λ f. showOps (opsIn f s i)) lim o p o₁ q → j ≡ next s i → Text (left j + 1) (λ f. showOps (opsInF f s j e)) lim o₁ q o₂ r → Text (left i + 1) (λ f. showOps (opsInF f s i e)) lim o p o₂ r
+pub upto-more : (s : List ℕ) (i : ℕ) (e : ℕ) {j : ℕ} {lim p q r : ℕ} {o o₁ o₂ : List ℕ} → i < e → e ≤ formWords → Text (left i) (λ f. showOps (opsIn f s i)) lim o p o₁ q → j ≡ next s i → Text (left j + 1) (λ f. showOps (opsInF f s j e)) lim o₁ q o₂ r → Text (left i + 1) (λ f. showOps (opsInF f s i e)) lim o p o₂ r
 unfolding opsIn pick
 upto-more s i e {j} l top A J B = text-by (λ f h. lays-as
     (ap (λ (x : ℕ). showOps (opsIn f s i) ++ showOps (opsInF f s x e)) J ∙ sym (show-append (opsIn f s i) (opsInF f s (next s i) e)) ∙ ap (λ (t : Bool). showOps (pick t [] (opsIn f s i ++ opsInF f s (next s i) e))) (sym (lt-leb e i l)))
