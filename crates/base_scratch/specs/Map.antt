@@ -5,9 +5,9 @@
 --   1 .. 8        their descriptions, in every phase
 --   9 .. 15       free
 --   16 .. 271     nodes          environment, from the normal form on
---   272 .. 527    binders                      seats            totals
---   528 .. 783    shapes                       seats            totals
---   784 .. 1295   sizes                        seats            starts
+--   272 .. 527    binders                      registers        totals
+--   528 .. 783    shapes                       registers        totals
+--   784 .. 1295   sizes                        registers        starts
 --   1296 .. 1807  normal form    the same      and its marks    and links     the same
 --   1808 .. 1811  free, and between the portions of an unfinished question where it stands
 --   1812 .. 8191  free
@@ -75,8 +75,8 @@ abbrev pub startsAt : ℕ
 startsAt = totalsAt + formWords
 
 -- while a plan is made, the mark of each generator's place (plan_marks/specs/Marks)
-abbrev pub seatsAt : ℕ
-seatsAt = totalsAt
+abbrev pub registersAt : ℕ
+registersAt = totalsAt
 
 -- ---- an unfinished question, between its portions (exec_portions/specs/UnfinishedQuestion)
 abbrev pub stageAt : ℕ

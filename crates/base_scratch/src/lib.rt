@@ -48,7 +48,7 @@ pub const TOTALS: usize = ENVIRONMENT + MOST_GENERATORS;
 pub const STARTS: usize = TOTALS + FORM_WORDS;
 
 // While a plan is made: the mark of each generator's place, where its row will stand. No total stands there yet.
-pub const SEATS: usize = TOTALS;
+pub const REGISTERS: usize = TOTALS;
 
 // Between the portions of an unfinished question: where it stands.
 pub const STAGE: usize = FORM + FORM_WORDS;

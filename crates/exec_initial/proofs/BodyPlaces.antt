@@ -35,13 +35,13 @@ use Rattle.exec_initial.proofs.TopComprehensions.{TopAtC, TopOf, free-t
 use Rattle.exec_initial.proofs.TermMarks.{row-more, end-more, end-new, named-in, upto-in}
 use Rattle.exec_initial.proofs.HeadParts.{found}
 
--- seats: the marks of generators, those of the clauses among them; width: how many places there are behind the loops
+-- registers: the marks of generators, those of the clauses among them; width: how many places there are behind the loops
 pub record Body (s : List ℕ) : Type 0 where
   pub monoid : Monoid
   pub clauses : Clauses
   pub head : Form
   pub node : ℕ
-  pub seats : ℕ → ℕ
+  pub registers : ℕ → ℕ
   pub scope : ℕ → Bool
   pub from : ℕ
   pub first : ℕ
@@ -52,11 +52,11 @@ pub record Body (s : List ℕ) : Type 0 where
   pub past-head : next s (node + 1 + sizeC clauses) ≡ node + 1 + sizeC clauses + size head
   pub scalars : ScalarC clauses
   pub fitting : Either (collects monoid) (Fitting head) (Scalar head)
-  pub conditions : MarkedC s (node + 1) clauses seats first width
-  pub marked : Marked s (node + 1 + sizeC clauses) head seats (nextC clauses width)
+  pub conditions : MarkedC s (node + 1) clauses registers first width
+  pub marked : Marked s (node + 1 + sizeC clauses) head registers (nextC clauses width)
   pub ordered : OrderedC clauses scope from
   pub in-head : Ordered head (behind clauses scope) (from + gensC clauses)
-  pub low : (g : ℕ) → seats g ≤ width
+  pub low : (g : ℕ) → registers g ≤ width
 
 module _ {s : List ℕ} where
   -- the generators whose names hold behind its clauses, and the comprehensions in it
@@ -70,7 +70,7 @@ module _ {s : List ℕ} where
   pub record Filled (B : Body s) (F : List Id) (n : ℕ) : Type 0 where
     pub long : length F ≡ n
     pub wide : B .width ≤ n
-    pub rows : (g : ℕ) → holds B g ≡ true → NamesRow s F (B .seats g) g
+    pub rows : (g : ℕ) → holds B g ≡ true → NamesRow s F (B .registers g) g
     pub ends : (b : ℕ) → tops B b → markAt s b ≤ n → NamesEnd F (markAt s b) b
 
   abbrev pub comp-at : (B : Body s) → CompAt s (B .node)
@@ -108,35 +108,35 @@ module _ (s : List ℕ) (F : List Id) (c : ℕ → ℕ) (n : ℕ) where
 -- ---- the end of a comprehension, and those inside it
 module _ {s : List ℕ} (B : Body s) (F : List Id) (n : ℕ) (H : Filled B F n) where
   top-named : P.next (B .head) (nextC (B .clauses) (B .width)) ≤ n → (b : ℕ) → tops B b → NamesEnd F (markAt s b) b
-  top-named l b (inl h) = H .ends b (inl h) (omega (arith, l, clause-range s (B .seats) (B .clauses) (B .node + 1) (B .first) (B .width) b (B .conditions) h .1, next-up (B .head) (nextC (B .clauses) (B .width))))
-  top-named l b (inr h) = H .ends b (inr h) (omega (arith, l, top-range s (B .seats) (B .head) (B .node + 1 + sizeC (B .clauses)) (nextC (B .clauses) (B .width)) b (B .marked) h .1))
+  top-named l b (inl h) = H .ends b (inl h) (omega (arith, l, clause-range s (B .registers) (B .clauses) (B .node + 1) (B .first) (B .width) b (B .conditions) h .1, next-up (B .head) (nextC (B .clauses) (B .width))))
+  top-named l b (inr h) = H .ends b (inr h) (omega (arith, l, top-range s (B .registers) (B .head) (B .node + 1 + sizeC (B .clauses)) (nextC (B .clauses) (B .width)) b (B .marked) h .1))
 
-  seats-low : (g : ℕ) → B .seats g ≤ length F
-  seats-low g = omega (arith, B .low g, H .wide, H .long)
+  registers-low : (g : ℕ) → B .registers g ≤ length F
+  registers-low g = omega (arith, B .low g, H .wide, H .long)
 
   pub end-filled : P.next (B .head) (nextC (B .clauses) (B .width)) ≤ n → EndFilled s F (B .node)
   end-filled l = record {
     comp = comp-at B;
-    conditions = all-named s F (B .seats) (B .first) (B .clauses) 0 (B .node + 1) (B .width) (B .from) (B .scope) (B .conditions) (B .ordered) seats-low (H .rows) (λ b h. top-named l b (inl h));
-    head = named-in s F (B .seats) (holds B) (λ g h z. H .rows g h) (B .head) (B .node + 1 + sizeC (B .clauses)) (nextC (B .clauses) (B .width)) (B .from + gensC (B .clauses)) (B .marked) (B .in-head)
-        (reach-most (B .seats) (length F) seats-low (B .head)) (λ b h. top-named l b (inr h));
+    conditions = all-named s F (B .registers) (B .first) (B .clauses) 0 (B .node + 1) (B .width) (B .from) (B .scope) (B .conditions) (B .ordered) registers-low (H .rows) (λ b h. top-named l b (inl h));
+    head = named-in s F (B .registers) (holds B) (λ g h z. H .rows g h) (B .head) (B .node + 1 + sizeC (B .clauses)) (nextC (B .clauses) (B .width)) (B .from + gensC (B .clauses)) (B .marked) (B .in-head)
+        (reach-most (B .registers) (length F) registers-low (B .head)) (λ b h. top-named l b (inr h));
   }
 
   module _ (b : ℕ) {m : _} (e : nodeAt s b ≡ N.Comprehension m) (t : tops B b) (x : markAt s b ≡ suc n) where
-    inner-part : among (length F) (parts (P.term (B .head) (slotsBy (B .seats)) (nextC (B .clauses) (B .width)))) ≡ true → PartAt (B .node + 1 + sizeC (B .clauses)) (B .head) b
+    inner-part : among (length F) (parts (P.term (B .head) (slotsBy (B .registers)) (nextC (B .clauses) (B .width)))) ≡ true → PartAt (B .node + 1 + sizeC (B .clauses)) (B .head) b
     inner-part a =
-        let f = found s (B .seats) (length F) seats-low (B .head) (B .node + 1 + sizeC (B .clauses)) (nextC (B .clauses) (B .width)) (B .marked) a in
+        let f = found s (B .registers) (length F) registers-low (B .head) (B .node + 1 + sizeC (B .clauses)) (nextC (B .clauses) (B .width)) (B .marked) a in
         let z : markAt s (f .node) ≡ markAt s b = f .mark ∙ ap suc (H .long) ∙ sym x in
-        subst (PartAt (B .node + 1 + sizeC (B .clauses)) (B .head)) (one-mark s (B .seats) (B .clauses) (B .head) (B .node) (B .first) (B .width) (B .conditions) (B .marked) (f .node) b (inr (f .top)) t z) (f .part)
+        subst (PartAt (B .node + 1 + sizeC (B .clauses)) (B .head)) (one-mark s (B .registers) (B .clauses) (B .head) (B .node) (B .first) (B .width) (B .conditions) (B .marked) (f .node) b (inr (f .top)) t z) (f .part)
 
     pub inner-filled : InnerFilled s F (B .node) b
     unfolding size
     inner-filled = record {
       comp = comp-at B;
       mark = x ∙ ap suc (sym (H .long));
-      part = λ a. inner-part (ap (λ y. among (length F) (parts y)) (sym (term-read s (B .head) fuel (B .node + 1 + sizeC (B .clauses)) (B .seats) (nextC (B .clauses) (B .width)) (B .lies .1 .1 .1) (B .marked) (omega (arith, B .few)))) ∙ a);
-      before = λ a. upto-in s F (B .seats) (holds B) (λ g h z. H .rows g h) b e (x ∙ ap suc (sym (H .long))) (B .head) (B .node + 1 + sizeC (B .clauses)) (nextC (B .clauses) (B .width)) (B .from + gensC (B .clauses))
-          (B .lies .1 .1 .1) (B .marked) (B .in-head) (reach-most (B .seats) (length F) seats-low (B .head)) a (λ d y l. H .ends d (inr y) (omega (arith, l, H .long)));
+      part = λ a. inner-part (ap (λ y. among (length F) (parts y)) (sym (term-read s (B .head) fuel (B .node + 1 + sizeC (B .clauses)) (B .registers) (nextC (B .clauses) (B .width)) (B .lies .1 .1 .1) (B .marked) (omega (arith, B .few)))) ∙ a);
+      before = λ a. upto-in s F (B .registers) (holds B) (λ g h z. H .rows g h) b e (x ∙ ap suc (sym (H .long))) (B .head) (B .node + 1 + sizeC (B .clauses)) (nextC (B .clauses) (B .width)) (B .from + gensC (B .clauses))
+          (B .lies .1 .1 .1) (B .marked) (B .in-head) (reach-most (B .registers) (length F) registers-low (B .head)) a (λ d y l. H .ends d (inr y) (omega (arith, l, H .long)));
     }
 
     -- behind its nest
@@ -147,5 +147,5 @@ module _ {s : List ℕ} (B : Body s) (F : List Id) (n : ℕ) (H : Filled B F n) 
       rows = λ g h. row-more (endI b ∷ []) (H .rows g h);
       ends = λ d y l. by-test (leb (markAt s d) n) (λ z. end-more (endI b ∷ []) (H .ends d y (leb-true (markAt s d) n z)))
           (λ z. let v : markAt s b ≡ markAt s d = omega (arith, x, l, leb-false (markAt s d) n z) in
-          subst (λ i. NamesEnd (F ++ endI b ∷ []) (markAt s i) i) (one-mark s (B .seats) (B .clauses) (B .head) (B .node) (B .first) (B .width) (B .conditions) (B .marked) b d t y v) (end-new F b (x ∙ ap suc (sym (H .long)))));
+          subst (λ i. NamesEnd (F ++ endI b ∷ []) (markAt s i) i) (one-mark s (B .registers) (B .clauses) (B .head) (B .node) (B .first) (B .width) (B .conditions) (B .marked) b d t y v) (end-new F b (x ∙ ap suc (sym (H .long)))));
     }

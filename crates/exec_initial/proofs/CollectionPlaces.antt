@@ -21,7 +21,7 @@ use Rattle.answer_writer.specs.Shapes.{shapeOf}
 use Rattle.plan_marks.specs.Marks.{markAt}
 use Rattle.plan_marks.specs.PlanIn.{termIn}
 use Rattle.plan_marks.proofs.FormInWords.{Lies, LiesF, LiesC}
-use Rattle.plan_marks.proofs.FormMarks.{seatsOf, behind, nextC, Marked, MarkedF, MarkedC, next-up, nextC-up, seats-most, behind-is}
+use Rattle.plan_marks.proofs.FormMarks.{registersOf, behind, nextC, Marked, MarkedF, MarkedC, next-up, nextC-up, registers-most, behind-is}
 use Rattle.plan_marks.proofs.MarksArePlaces.{slotsBy}
 use Rattle.plan_marks.proofs.WordsArePlan.{term-read}
 use Rattle.plan_machine.specs.Program.{Program}
@@ -105,10 +105,10 @@ module _ (s : List ℕ) where
       let h : ℕ = i + 1 + sizeC q in
       let e : headAt s i ≡ h = head-node s q (i + 1) fuel h (L .1 .0) refl (L .1 .1 .0) (omega (arith, l, size-some u)) (omega arith) in
       let f : headForm s i ≡ u = ap (formTree fuel s) e ∙ tree-is s u h fuel (L .1 .1 .1) (omega (arith, l)) (omega arith) in
-      let d : (g : ℕ) → seatsOf q k c g ≤ nextC q (behind q k) = λ g. omega (arith, seats-most q k c b g, behind-is q k .0, nextC-up q (behind q k)) in
+      let d : (g : ℕ) → registersOf q k c g ≤ nextC q (behind q k) = λ g. omega (arith, registers-most q k c b g, behind-is q k .0, nextC-up q (behind q k)) in
       subst (λ (y : Form). Later s (headAt s i) y (behind q k)) (sym f) (subst (λ (y : ℕ). Later s y u (behind q k)) (sym e) (record {
-        above = λ j y x. omega (arith, nextC-up q (behind q k), top-range s (seatsOf q k c) u h (nextC q (behind q k)) j (w .1 .1 .1) (part-top s j (collection-at (nodeAt s j) x .node) u h (L .1 .1 .1) y) .0);
-        fresh = λ j n y x z. let W = without s (seatsOf q k c) u h (nextC q (behind q k)) j n (L .1 .1 .1) (w .1 .1 .1) d (omega (arith, l)) y x z in ap (among n) (W .are fuel (omega arith)) ∙ W .none;
+        above = λ j y x. omega (arith, nextC-up q (behind q k), top-range s (registersOf q k c) u h (nextC q (behind q k)) j (w .1 .1 .1) (part-top s j (collection-at (nodeAt s j) x .node) u h (L .1 .1 .1) y) .0);
+        fresh = λ j n y x z. let W = without s (registersOf q k c) u h (nextC q (behind q k)) j n (L .1 .1 .1) (w .1 .1 .1) d (omega (arith, l)) y x z in ap (among n) (W .are fuel (omega arith)) ∙ W .none;
       }))
 
   loops-based : (l : List ℕ) (k : ℕ) (p : Spots) → Based s (k + length l) (k + length l) p → Based s k k (loopsAt l p)
@@ -135,11 +135,11 @@ module _ (s : List ℕ) where
     term-based (negate t) i k b c p L w d l h B = term-based t (i + 1) k b c p (L .1) w d (omega (arith, l)) h B
     term-based (comp m q u) i k b c p L w d l h B =
         let n : ℕ = behind q k in
-        let s₁ : (g : ℕ) → seatsOf q k c g ≤ n = λ g. omega (arith, seats-most q k c d g, behind-is q k .0) in
+        let s₁ : (g : ℕ) → registersOf q k c g ≤ n = λ g. omega (arith, registers-most q k c d g, behind-is q k .0) in
         let own : LaterOf s i n = later-comp m q u i k c L w d l in
         let e : Spots = inners u (i + 1 + sizeC q) (end i) in
-        let x : Based s n n (innersC q (i + 1) e) = clauses-based q (i + 1) k n n (seatsOf q k c) e (L .1 .0) (w .1 .1 .0) s₁ (omega (arith, l)) (later-same i (compOf e) n (comp-inners u (i + 1 + sizeC q) (end i)) own)
-        (term-based u (i + 1 + sizeC q) (nextC q n) n (seatsOf q k c) (end i) (L .1 .1 .1) (w .1 .1 .1) (λ g. omega (arith, s₁ g, nextC-up q n)) (omega (arith, l)) own own) in
+        let x : Based s n n (innersC q (i + 1) e) = clauses-based q (i + 1) k n n (registersOf q k c) e (L .1 .0) (w .1 .1 .0) s₁ (omega (arith, l)) (later-same i (compOf e) n (comp-inners u (i + 1 + sizeC q) (end i)) own)
+        (term-based u (i + 1 + sizeC q) (nextC q n) n (registersOf q k c) (end i) (L .1 .1 .1) (w .1 .1 .1) (λ g. omega (arith, s₁ g, nextC-up q n)) (omega (arith, l)) own own) in
         (h, (loops-based (orUnit i (gensAt q (i + 1))) k (innersC q (i + 1) e) (subst (λ (y : ℕ). Based s y y (innersC q (i + 1) e)) (sym (own-count q i (i + 1) k)) x), B))
 
     terms-based : (ts : Forms) (i k b : ℕ) (c : ℕ → ℕ) (p : Spots) → LiesF s i ts → MarkedF s i ts c k → ((g : ℕ) → c g ≤ k) → i + sizeF ts ≤ formWords → LaterOf s (compOf p) b → Based s b (P.nexts ts k) p → Based s b k (innersF ts i p)

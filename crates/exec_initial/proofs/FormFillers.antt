@@ -17,7 +17,7 @@ use Rattle.form_words.specs.FormWords.{size, sizeF, sizeC}
 use Rattle.spec_plan.specs.Planner as P
 use Rattle.plan_marks.specs.Marks.{markAt}
 use Rattle.plan_marks.proofs.FormInWords.{Lies, LiesF, LiesC}
-use Rattle.plan_marks.proofs.FormMarks.{seatsOf, nextC, Marked, MarkedF, MarkedC, nextC-up, seats-most, behind-is}
+use Rattle.plan_marks.proofs.FormMarks.{registersOf, nextC, Marked, MarkedF, MarkedC, nextC-up, registers-most, behind-is}
 use Rattle.plan_marks.proofs.FormMarks as M
 use Rattle.plan_machine.specs.AnswerText.{collects}
 use Rattle.plan_machine.proofs.CollectionsInHeads.{Scalar, ScalarF, ScalarC, Either, Fitting, FittingF, scalar-fitting}
@@ -47,7 +47,7 @@ module _ (s : List ℕ) (m : Monoid) (q : Clauses) (u : Form) (c k j : ℕ) (d :
     clauses = q;
     head = u;
     node = c;
-    seats = seatsOf q k d;
+    registers = registersOf q k d;
     scope = S;
     from = j;
     first = k;
@@ -62,7 +62,7 @@ module _ (s : List ℕ) (m : Monoid) (q : Clauses) (u : Form) (c k j : ℕ) (d :
     marked = w .1 .1 .1;
     ordered = o;
     in-head = v;
-    low = λ g. omega (arith, seats-most q k d b g, behind-is q k .0);
+    low = λ g. omega (arith, registers-most q k d b g, behind-is q k .0);
   }
 
   module _ (F : List Id) (l : length F ≡ k) (R : (g : ℕ) → S g ≡ true → NamesRow s F (d g) g) where
@@ -71,8 +71,8 @@ module _ (s : List ℕ) (m : Monoid) (q : Clauses) (u : Form) (c k j : ℕ) (d :
 
     -- no comprehension inside it has a place yet
     none-yet : (x : ℕ) → tops body x → markAt s x ≤ M.behind q k → ⊥
-    none-yet x (inl h) y = omega (arith, y, clause-range s (seatsOf q k d) q (c + 1) k (M.behind q k) x (w .1 .1 .0) h .0)
-    none-yet x (inr h) y = omega (arith, y, top-range s (seatsOf q k d) u (c + 1 + sizeC q) (nextC q (M.behind q k)) x (w .1 .1 .1) h .0, nextC-up q (M.behind q k))
+    none-yet x (inl h) y = omega (arith, y, clause-range s (registersOf q k d) q (c + 1) k (M.behind q k) x (w .1 .1 .0) h .0)
+    none-yet x (inr h) y = omega (arith, y, top-range s (registersOf q k d) u (c + 1 + sizeC q) (nextC q (M.behind q k)) x (w .1 .1 .1) h .0, nextC-up q (M.behind q k))
 
     first-filled : Filled body full (M.behind q k)
     first-filled = record { long = own-length q c (c + 1) k F l; wide = omega arith; rows = own-named s q c (c + 1) k F d S l (L .1 .0) R; ends = λ x t y. absurd (none-yet x t y) }
@@ -94,7 +94,7 @@ module _ (s : List ℕ) where
   mutual
     unfolding size inners spotsOf compOf Ordered P.next P.free nextC behind
 
-    term-fills : (t : Form) (i k j : ℕ) (B : Body s) (S : ℕ → Bool) (F : List Id) (p : Spots) → Lies s i t → i + size t ≤ formWords → Steps s i t → Marked s i t (B .seats) k → Ordered t S j → Fitting t → Grows S (holds B)
+    term-fills : (t : Form) (i k j : ℕ) (B : Body s) (S : ℕ → Bool) (F : List Id) (p : Spots) → Lies s i t → i + size t ≤ formWords → Steps s i t → Marked s i t (B .registers) k → Ordered t S j → Fitting t → Grows S (holds B)
         → ((b : ℕ) → TopAt i t b → tops B b) → compOf p ≡ B .node → Filled B F k → ((G : List Id) → Filled B G (P.next t k) → Fills s G p) → Fills s F (inners t i p)
     term-fills (num z) i k j B S F p L n y w o f g b e H K = K F H
     term-fills (truth z) i k j B S F p L n y w o f g b e H K = K F H
@@ -107,26 +107,26 @@ module _ (s : List ℕ) where
         (λ G J. term-fills u (i + 1 + size t) (P.next t k) (j + gens t) B S G p (L .1 .1) (omega (arith, n)) (y .1) (w .1) (o .1) (scalar-fitting u (f .1)) g (λ x h. b x (inr h)) e J K)
     term-fills (negate t) i k j B S F p L n y w o f g b e H K = term-fills t (i + 1) k j B S F p (L .1) (omega (arith, n)) y w o (scalar-fitting t f) g b e H K
     term-fills (comp m q u) i k j B S F p L n y w o f g b e H K =
-        let low : (x : ℕ) → B .seats x ≤ k = λ x. omega (arith, B .low x, H .wide) in
-        let C : Body s = body s m q u i k j (B .seats) S L n y w (o .0) (o .1) f low in
+        let low : (x : ℕ) → B .registers x ≤ k = λ x. omega (arith, B .low x, H .wide) in
+        let C : Body s = body s m q u i k j (B .registers) S L n y w (o .0) (o .1) f low in
         let x : compOf (spotsOf q u i) ≡ i = comp-own q u i in (
           subst (λ y. InnerFilled s F y (compOf (spotsOf q u i))) (sym e) (subst (InnerFilled s F (B .node)) (sym x) (inner-filled B F k H i (L .0) (b i refl) (w .0))),
           (
-            comp-fills s m q u i k j (B .seats) S L n y w (o .0) (o .1) f low F (H .long) (λ a h. H .rows a (g a h))
+            comp-fills s m q u i k j (B .registers) S L n y w (o .0) (o .1) f low F (H .long) (λ a h. H .rows a (g a h))
                 (λ G x v J A. clauses-fills q (i + 1) (M.behind q k) j C S G x (L .1 .0) (omega (arith, n)) (y .1 .1 .0) (w .1 .1 .0) (o .0) (f .0) (λ a h. h) (λ a h. inl h) v J A)
                 (λ G J A. term-fills u (i + 1 + sizeC q) (nextC q (M.behind q k)) (j + gensC q) C (behind q S) G (end i) (L .1 .1 .1) (omega (arith, n)) (y .1 .1 .1) (w .1 .1 .1) (o .1) (head-fits (collects m) u (f .1)) (λ a h. h) (λ a h. inr h) refl J A),
             subst (λ y. Fills s (F ++ endI y ∷ []) p) (sym x) (K (F ++ endI i ∷ []) (past-filled B F k H i (L .0) (b i refl) (w .0))),
           ),
         )
 
-    terms-fills : (ts : Forms) (i k j : ℕ) (B : Body s) (S : ℕ → Bool) (F : List Id) (p : Spots) → LiesF s i ts → i + sizeF ts ≤ formWords → StepsF s i ts → MarkedF s i ts (B .seats) k → OrderedF ts S j → FittingF ts → Grows S (holds B)
+    terms-fills : (ts : Forms) (i k j : ℕ) (B : Body s) (S : ℕ → Bool) (F : List Id) (p : Spots) → LiesF s i ts → i + sizeF ts ≤ formWords → StepsF s i ts → MarkedF s i ts (B .registers) k → OrderedF ts S j → FittingF ts → Grows S (holds B)
         → ((b : ℕ) → TopAtF i ts b → tops B b) → compOf p ≡ B .node → Filled B F k → ((G : List Id) → Filled B G (P.nexts ts k) → Fills s G p) → Fills s F (innersF ts i p)
     terms-fills fnil i k j B S F p L n y w o f g b e H K = K F H
     terms-fills (fcons t ts) i k j B S F p L n y w o f g b e H K =
         term-fills t i k j B S F (innersF ts (i + size t) p) (L .1 .0) (omega (arith, n)) (y .0) (w .0) (o .0) (f .0) g (λ x h. b x (inl h)) (comp-innersF ts (i + size t) p ∙ e) H
         (λ G J. terms-fills ts (i + size t) (P.next t k) (j + gens t) B S G p (L .1 .1) (omega (arith, n)) (y .1) (w .1) (o .1) (f .1) g (λ x h. b x (inr h)) e J K)
 
-    clauses-fills : (r : Clauses) (i k j : ℕ) (B : Body s) (S : ℕ → Bool) (F : List Id) (p : Spots) → LiesC s i r → i + sizeC r ≤ formWords → StepsC s i r → MarkedC s i r (B .seats) (B .first) k → OrderedC r S j → ScalarC r → Grows (behind r S) (holds B)
+    clauses-fills : (r : Clauses) (i k j : ℕ) (B : Body s) (S : ℕ → Bool) (F : List Id) (p : Spots) → LiesC s i r → i + sizeC r ≤ formWords → StepsC s i r → MarkedC s i r (B .registers) (B .first) k → OrderedC r S j → ScalarC r → Grows (behind r S) (holds B)
         → ((b : ℕ) → TopAtC i r b → tops B b) → compOf p ≡ B .node → Filled B F k → ((G : List Id) → Filled B G (nextC r k) → Fills s G p) → Fills s F (innersC r i p)
     clauses-fills done i k j B S F p L n y w o f g b e H K = K F H
     clauses-fills (gen x v r) i k j B S F p L n y w o f g b e H K = clauses-fills r (i + 1) k (suc j) B (upd x true S) F p (L .1 .1) (omega (arith, n)) y w (o .1) f g b e H K

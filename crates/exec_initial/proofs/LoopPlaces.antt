@@ -17,7 +17,7 @@ use Rattle.form_words.specs.FormWords.{size}
 use Rattle.base_signed.proofs.SignedWords.{by-test}
 use Rattle.plan_marks.specs.Marks.{markAt}
 use Rattle.plan_marks.proofs.FormInWords.{LiesC}
-use Rattle.plan_marks.proofs.FormMarks.{seatsOf, endOf, Numbered, behind-by}
+use Rattle.plan_marks.proofs.FormMarks.{registersOf, endOf, Numbered, behind-by}
 use Rattle.plan_marks.proofs.FormMarks as M
 use Rattle.plan_links.specs.Spots.{Spots, compOf, loopsAt, gensAt, orUnit}
 use Rattle.plan_links.proofs.FormLinks.{comp-loops}
@@ -53,24 +53,24 @@ own-length q c i k F e =
 
 -- ---- which generators
 module _ (s : List ℕ) where
-  seat-name : (F : List Id) (g i k y : ℕ) (c : ℕ → ℕ) (S : ℕ → Bool) → nodeAt s i ≡ Generator g k → ((z : ℕ) → S z ≡ true → NamesRow s F (c z) z) → upd g true S y ≡ true
+  register-name : (F : List Id) (g i k y : ℕ) (c : ℕ → ℕ) (S : ℕ → Bool) → nodeAt s i ≡ Generator g k → ((z : ℕ) → S z ≡ true → NamesRow s F (c z) z) → upd g true S y ≡ true
       → NamesRow s (F ++ loopI i ∷ []) (upd g (suc (length F)) c y) y
-  seat-name F g i k y c S n R h =
+  register-name F g i k y c S n R h =
       let G : List Id = F ++ loopI i ∷ [] in
       by-test (eqb g y)
       (λ e. subst (λ z. NamesRow s G (upd g (suc (length F)) c z) z) (eqb-true g y e) (row-new s F i (upd-hit g (suc (length F)) c) n))
       (λ e. subst (λ m. NamesRow s G m y) (sym (upd-other g (suc (length F)) c y e)) (row-more (loopI i ∷ []) (R y (sym (upd-other g true S y e) ∙ h))))
 
   gens-named : (q : Clauses) (i : ℕ) (F : List Id) (c : ℕ → ℕ) (S : ℕ → Bool) → LiesC s i q → ((g : ℕ) → S g ≡ true → NamesRow s F (c g) g) → (g : ℕ) → behind q S g ≡ true
-      → NamesRow s (F ++ loopIds (gensAt q i)) (seatsOf q (length F) c g) g
-  unfolding behind seatsOf gensAt
+      → NamesRow s (F ++ loopIds (gensAt q i)) (registersOf q (length F) c g) g
+  unfolding behind registersOf gensAt
   gens-named done i F c S L R g h = row-more [] (R g h)
   gens-named (gen x k q) i F c S L R g h =
       let G : List Id = F ++ loopI i ∷ [] in
       let n : length G ≡ suc (length F) = omega (arith, length-append F (loopI i ∷ [])) in
-      subst (λ l. NamesRow s l (seatsOf q (suc (length F)) (upd x (suc (length F)) c) g) g) (append-assoc F (loopI i ∷ []) (loopIds (gensAt q (i + 1))))
-      (subst (λ m. NamesRow s (G ++ loopIds (gensAt q (i + 1))) (seatsOf q m (upd x (suc (length F)) c) g) g) n
-      (gens-named q (i + 1) G (upd x (suc (length F)) c) (upd x true S) (L .1 .1) (λ y e. seat-name F x i k y c S (L .0) R e) g h))
+      subst (λ l. NamesRow s l (registersOf q (suc (length F)) (upd x (suc (length F)) c) g) g) (append-assoc F (loopI i ∷ []) (loopIds (gensAt q (i + 1))))
+      (subst (λ m. NamesRow s (G ++ loopIds (gensAt q (i + 1))) (registersOf q m (upd x (suc (length F)) c) g) g) n
+      (gens-named q (i + 1) G (upd x (suc (length F)) c) (upd x true S) (L .1 .1) (λ y e. register-name F x i k y c S (L .0) R e) g h))
   gens-named (cond t q) i F c S L R g h = gens-named q (i + 1 + size t) F c S (L .1 .1) R g h
 
   or-unit : (F : List Id) (c m g : ℕ) (l : List ℕ) → NamesRow s (F ++ loopIds l) m g → NamesRow s (F ++ loopIds (orUnit c l)) m g
@@ -79,8 +79,8 @@ module _ (s : List ℕ) where
   or-unit F c m g (i ∷ l) N = N
 
   pub own-named : (q : Clauses) (c i k : ℕ) (F : List Id) (d : ℕ → ℕ) (S : ℕ → Bool) → length F ≡ k → LiesC s i q → ((g : ℕ) → S g ≡ true → NamesRow s F (d g) g) → (g : ℕ) → behind q S g ≡ true
-      → NamesRow s (F ++ loopIds (orUnit c (gensAt q i))) (seatsOf q k d g) g
-  own-named q c i k F d S e L R g h = or-unit F c (seatsOf q k d g) g (gensAt q i) (subst (λ n. NamesRow s (F ++ loopIds (gensAt q i)) (seatsOf q n d g) g) e (gens-named q i F d S L R g h))
+      → NamesRow s (F ++ loopIds (orUnit c (gensAt q i))) (registersOf q k d g) g
+  own-named q c i k F d S e L R g h = or-unit F c (registersOf q k d g) g (gensAt q i) (subst (λ n. NamesRow s (F ++ loopIds (gensAt q i)) (registersOf q n d g) g) e (gens-named q i F d S L R g h))
 
   -- ---- their marks
   abbrev Rising : List ℕ → ℕ → Type 0
@@ -102,12 +102,12 @@ module _ (s : List ℕ) where
   own-rise q c i k e w = unit-rise c k (gensAt q i) e (gens-rise q i k w)
 
   -- each loop has the conditions of its mark, in front of what stands behind all
-  module _ (B : Body s) (full : List Id) (R : (g : ℕ) → holds B g ≡ true → NamesRow s full (B .seats g) g) (p : Spots) (c : compOf p ≡ B .node) where
+  module _ (B : Body s) (full : List Id) (R : (g : ℕ) → holds B g ≡ true → NamesRow s full (B .registers g) g) (p : Spots) (c : compOf p ≡ B .node) where
     loop-filled : (i : ℕ) (F G : List Id) (m : ℕ) → suc m ≡ length F → markAt s i ≡ suc m → F ++ G ≡ full → LoopFilled s F (B .node) i
     loop-filled i F G m l e h = record {
       comp = comp-at B;
       conditions = subst (λ n. NamedC s F n (B .node + 1) (B .clauses)) (sym e)
-          (early-named s F (B .seats) (B .first) (B .clauses) m (B .node + 1) (B .width) (B .from) (B .scope) (B .conditions) (B .ordered) (λ g x z. row-less F G z (subst (λ k. NamesRow s k (B .seats g) g) (sym h) (R g x))) l);
+          (early-named s F (B .registers) (B .first) (B .clauses) m (B .node + 1) (B .width) (B .from) (B .scope) (B .conditions) (B .ordered) (λ g x z. row-less F G z (subst (λ k. NamesRow s k (B .registers g) g) (sym h) (R g x))) l);
     }
 
     pub loops-filled : (l : List ℕ) (F : List Id) → Rising l (length F) → F ++ loopIds l ≡ full → Fills s full p → Fills s F (loopsAt l p)
