@@ -40,8 +40,9 @@ def loops(f):
 
 # For each group the most that it takes, from its frames. A group of a crate that has several is named by one of its functions.
 GROUPS = {
+    # a level is a term's record or a qualifier's
+    'front_parser': times(LEVELS, ['content', 'compound'], ['content', 'comprehension']),
     # levels of terms, and a qualifier or field before the deep one for each record
-    'front_parser': lambda f: LEVELS * (f('term') + f('compound') + f('comprehension')) + RECORDS * max(f('terms'), f('parts')),
     'front_scope': lambda f: LEVELS * f('term') + RECORDS * max(f('terms'), f('quals')),
     # a record of the question is a term, a qualifier before the deep one, or a condition that is gone through
     'front_emit': times(RECORDS, ['placed'], ['qualifiers'], ['clause']),

@@ -18,7 +18,7 @@ use Rattle.front_words.specs.LaidTree.{nodes, nodesQ, Laid, LaidQ}
 use Rattle.front_words.proofs.NodeWords.{some-nodes, node-same, laid-tree}
 use Rattle.front_parser.specs.ReaderScratch.{Kept, Room, FinishPre, FinishPost}
 use Rattle.front_parser.specs.RecordFront.{Whole, Began, BytePost}
-use Rattle.front_parser.specs.ReaderContracts.{qualifies, nodesP, LaidP, rounds, FrontFound, TermsPost, ItemBy, QualifierPost, PartsFound, PartsBy, PartsPost, ComprehensionFound, ComprehensionBy, ComprehensionPost, ReadQuestionPost}
+use Rattle.front_parser.specs.ReaderContracts.{behindOf, qualifies, nodesP, LaidP, rounds, FrontFound, TermsPost, ItemBy, QualifierPost, PartsFound, PartsBy, PartsPost, ComprehensionFound, ComprehensionBy, ComprehensionPost, ReadQuestionPost}
 use Rattle.front_parser.specs.declared.ParseState.{ParseState}
 use Rattle.front_parser.specs.declared.Filled.{Filled}
 use Rattle.front_parser.specs.declared.Filled.the-variants as Filled
@@ -29,8 +29,8 @@ use Rattle.front_parser.specs.declared.Item.the-variants as Item
 use Rattle.front_parser.specs.declared.Read.{Read}
 use Rattle.front_parser.specs.declared.Read.the-variants as Answer
 use Rattle.front_parser.proofs.LeafRecords.{differ, kept-refl, kept-trans, from-at}
-use Rattle.front_parser.proofs.Records.{after, after-is, inner, inner-is, laid-kept, nodes-kept, quals-kept}
-use Rattle.front_parser.proofs.TermSequences.{TreeFound, arg-at, behindOf, count-nodes, node-at, terms-found, tree-found}
+use Rattle.front_parser.proofs.Records.{after, after-is, after-after, length-after, inner, inner-is, laid-kept, nodes-kept, quals-kept}
+use Rattle.front_parser.proofs.TermSequences.{TreeFound, arg-at, count-nodes, node-at, room-behind, terms-found, tree-found}
 
 -- ---- qualifiers and a head
 zero-part : (levels : ℕ) (q : Bool) (l : Bytes) (n : ℕ) → n ≡ 0 → readPart levels q l n ≡ noMore l
@@ -101,13 +101,13 @@ filled-over a [] n h = absurd (h refl)
 filled-over a (b ∷ l) n h = refl
 
 module _ {l : Bytes} {s s′ : List ℕ} {p : ParseState} {i : Item} (I : QualifierPost l s p s′ i) where
-  pub parts-refused : {x : ℕ} → i ≡ Item.Refused x → PartsPost l s p s′ (Filled.Refused x)
+  parts-refused : {x : ℕ} → i ≡ Item.Refused x → PartsPost l s p s′ (Filled.Refused x)
   parts-refused e = record { is = refused-rounds (p .levels) l (p .left) (subst (ItemBy (readPart (p .levels) true l (p .left)) l s′ p) e (I .is)); kept = I .kept }
 
-  pub qualifier-found : {used left j : ℕ} → i ≡ Item.Qualifier used left j → FrontFound true (readPart (p .levels) true l (p .left)) l s′ p used left j
+  qualifier-found : {used left j : ℕ} → i ≡ Item.Qualifier used left j → FrontFound true (readPart (p .levels) true l (p .left)) l s′ p used left j
   qualifier-found e = subst (ItemBy (readPart (p .levels) true l (p .left)) l s′ p) e (I .is)
 
-  pub head-found : {used left j : ℕ} → i ≡ Item.Head used left j → FrontFound false (readPart (p .levels) true l (p .left)) l s′ p used left j
+  head-found : {used left j : ℕ} → i ≡ Item.Head used left j → FrontFound false (readPart (p .levels) true l (p .left)) l s′ p used left j
   head-found e = subst (ItemBy (readPart (p .levels) true l (p .left)) l s′ p) e (I .is)
 
   module _ {used left j : ℕ} (e : i ≡ Item.Qualifier used left j) where
@@ -135,14 +135,14 @@ module _ {l : Bytes} {s s′ : List ℕ} {p : ParseState} {i : Item} (I : Qualif
           spent = omega (arith, P .spent, F .spent);
         }
 
-    pub parts-next : {s″ : List ℕ} {r : Filled} → PartsPost (after l used) s′ (behindOf p left j) s″ r → PartsPost l s p s″ r
+    parts-next : {s″ : List ℕ} {r : Filled} → PartsPost (after l used) s′ (behindOf p left j) s″ r → PartsPost l s p s″ r
     parts-next {r = r} P = record { is = next-by r (P .kept) (P .is); kept = kept-trans (omega (arith, qualifier-found e .found .end)) (I .kept) (P .kept) }
 
   module _ {used left j : ℕ} (e : i ≡ Item.Head used left j) where
     head-tree : TreeFound (readPart (p .levels) true l (p .left)) (drop used l) s′ (p .depth) (p .node) (p .left) left j
     head-tree = tree-found (head-found e .found)
 
-    pub parts-over : used < length l → PartsPost l s p s′ (Filled.Refused 22)
+    parts-over : used < length l → PartsPost l s p s′ (Filled.Refused 22)
     unfolding onPart
     parts-over h =
         let F = head-tree in
@@ -151,7 +151,7 @@ module _ {l : Bytes} {s s′ : List ℕ} {p : ParseState} {i : Item} (I : Qualif
           kept = I .kept;
         }
 
-    pub parts-head : length l ≤ used → PartsPost l s p s′ (Filled.Read left j)
+    parts-head : length l ≤ used → PartsPost l s p s′ (Filled.Read left j)
     unfolding onPart filled nodesQ
     parts-head h =
         let F = head-tree in
@@ -168,6 +168,42 @@ module _ {l : Bytes} {s s′ : List ℕ} {p : ParseState} {i : Item} (I : Qualif
           };
           kept = I .kept;
         }
+
+-- a bytes on, behind qualifiers, the reader stands as q says: what is read from there on is what is read in all
+pub record PartsUpto (l : Bytes) (s₀ : List ℕ) (p : ParseState) (s : List ℕ) (a : ℕ) (q : ParseState) : Type 0 where
+  pub within : a ≤ length l
+  pub long : length s ≡ length s₀
+  pub room : Room 0 s q
+  pub back : (s′ : List ℕ) (r : Filled) → PartsPost (after l a) s q s′ r → PartsPost l s₀ p s′ r
+
+pub parts-first : {l : Bytes} {s : List ℕ} {p : ParseState} → Room 0 s p → PartsUpto l s p s 0 p
+parts-first {l} {s} {p} M = record { within = omega arith; long = refl; room = M; back = λ s′ r P. subst (λ (b : Bytes). PartsPost b s p s′ r) (after-is l 0) P }
+
+module _ {l : Bytes} {s₀ s s′ : List ℕ} {p q : ParseState} {a : ℕ} {i : Item} (U : PartsUpto l s₀ p s a q) (Q : QualifierPost (after l a) s q s′ i) where
+  pub parts-last-refused : {x : ℕ} → i ≡ Item.Refused x → PartsPost l s₀ p s′ (Filled.Refused x)
+  parts-last-refused e = U .back s′ _ (parts-refused Q e)
+
+  module _ {used left j : ℕ} (e : i ≡ Item.Qualifier used left j) where
+    pub front-qualifier : FrontFound true (readPart (q .levels) true (after l a) (q .left)) (after l a) s′ q used left j
+    front-qualifier = qualifier-found Q e
+
+    pub parts-within : a + used ≤ length l
+    parts-within = omega (arith, length-after l a, front-qualifier .within, U .within)
+
+    pub parts-again : {q′ : ParseState} → q′ ≡ behindOf q left j → PartsUpto l s₀ p s′ (a + used) q′
+    parts-again h = subst (PartsUpto l s₀ p s′ (a + used)) (sym h) (record {
+      within = parts-within;
+      long = Q .kept .long ∙ U .long;
+      room = room-behind (U .room) (Q .kept) front-qualifier;
+      back = λ s″ r P. U .back s″ r (parts-next Q e (subst (λ (b : Bytes). PartsPost b s′ (behindOf q left j) s″ r) (sym (after-after l a used)) P));
+    })
+
+  module _ {used left j : ℕ} (e : i ≡ Item.Head used left j) where
+    pub parts-last-over : used < length l - a → PartsPost l s₀ p s′ (Filled.Refused 22)
+    parts-last-over h = U .back s′ _ (parts-over Q e (omega (arith, length-after l a)))
+
+    pub parts-last : length l - a ≤ used → PartsPost l s₀ p s′ (Filled.Read left j)
+    parts-last h = U .back s′ _ (parts-head Q e (omega (arith, length-after l a)))
 
 -- ---- the content of kind 14
 abbrev MonoidAt : ℕ → Type 0
@@ -318,11 +354,6 @@ room-terms M = record { words = M .words; nodes = M .nodes; deep = omega (arith,
 
 pub room-parts : {s : List ℕ} {p : ParseState} → Room 1 s p → Room 0 s (insideOf p)
 room-parts M = record { words = M .words; nodes = M .nodes; deep = omega (arith, M .deep) }
-
-pub room-behind : {q : Bool} {x : E.Read Part} {l : Bytes} {s s′ : List ℕ} {p : ParseState} {used left i : ℕ} → Room 0 s p → Kept (p .node) s s′ → FrontFound q x l s′ p used left i →
-    Room 0 s′ (behindOf p left i)
-room-behind M K F =
-    record { words = omega (arith, K .long, M .words); nodes = omega (arith, F .found .end, F .found .spent, M .nodes); deep = M .deep }
 
 pub finishing-terms : {most : ℕ} {l : Bytes} {s s′ : List ℕ} {p : ParseState} {t : Several} {count left i k x : ℕ} → Room 1 s p → TermsPost most l s p s′ t → t ≡ Several.Read count left i →
     k < 32 → x < 8589934592 → FinishPre s′ k x p i

@@ -5,7 +5,7 @@ use mathlib.Core.Bool.{Bool, true, false}
 use Prim.Native.Nat.{ℕ, _+_, _-_, _≤_, _<_}
 use native.Mathlib.Omega.{arith}
 use lib.ListN.{length, getD, take, drop, length-take, length-drop}
-use lib.Seq.{take-all}
+use lib.Seq.{take-all, drop-drop}
 use Rattle.spec_calculus.specs.Syntax.{Term, Terms, Quals, comp, Question, asTerm}
 use Rattle.spec_encoding.specs.Record.{Bytes, refused, andThen, require, lengthOf, contentOf}
 use Rattle.spec_encoding.specs.Reader as E
@@ -51,6 +51,9 @@ length-after l k = simp (length-take, length-drop) (omega arith)
 
 pub length-inner : (l : Bytes) (e : ℕ) → e ≤ length l → length (inner l e) ≡ e - 4
 length-inner l e h = simp (length-take, length-drop) (omega arith)
+
+pub after-after : (l : Bytes) (a b : ℕ) → after (after l a) b ≡ after l (a + b)
+after-after l a b = after-is (after l a) b ∙ ap (λ (r : Bytes). drop b r) (after-is l a) ∙ drop-drop b a l ∙ sym (after-is l (a + b))
 
 pub inner-is : {l : Bytes} {k e : ℕ} → Whole l k e → inner l e ≡ contentOf l
 inner-is {l} {e = e} W =

@@ -13,9 +13,9 @@ use Rattle.spec_encoding.specs.Reader.{Kind, record′, Part, term, generates, 
 use Rattle.front_words.specs.NodeTree.{argAt}
 use Rattle.front_words.specs.LaidTree.{nodes, nodesL, countL, Node, Laid, LaidL}
 use Rattle.front_words.proofs.NodeWords.{some-nodes}
-use Rattle.front_parser.specs.ReaderScratch.{Kept, FinishPost}
+use Rattle.front_parser.specs.ReaderScratch.{Kept, Room, FinishPost}
 use Rattle.front_parser.specs.RecordKinds.{HasTerms, of-field, of-record, of-two, of-not, of-choice, of-generator, of-binding, of-condition, fixedOk, fixedOf, FixedIs, FixedBy, Fixed}
-use Rattle.front_parser.specs.ReaderContracts.{qualifies, nodesP, LaidP, Found, CompoundPost, FrontFound, TermBy, TermPost, TermsFound, TermsBy, TermsPost}
+use Rattle.front_parser.specs.ReaderContracts.{behindOf, qualifies, nodesP, LaidP, Found, CompoundPost, FrontFound, TermBy, TermPost, TermsFound, TermsBy, TermsPost}
 use Rattle.front_parser.specs.declared.ParseState.{ParseState}
 use Rattle.front_parser.specs.declared.Arity.{Arity}
 use Rattle.front_parser.specs.declared.Filled.{Filled}
@@ -28,7 +28,7 @@ use Rattle.front_parser.specs.declared.Read.{Read}
 use Rattle.front_parser.specs.declared.value.ArgumentRead.{ArgumentRead}
 use Rattle.front_parser.specs.declared.value.ArgumentRead.the-variants as ArgumentRead
 use Rattle.front_parser.proofs.LeafRecords.{differ, part-none, kept-refl, kept-trans}
-use Rattle.front_parser.proofs.Records.{after, after-is, laid-kept, terms-kept}
+use Rattle.front_parser.proofs.Records.{after, after-is, after-after, length-after, laid-kept, terms-kept}
 
 -- ---- terms to the end of the bytes
 pub record TreeFound (x : E.Read Part) (rest : Bytes) (s : List ℕ) (d a b left e : ℕ) : Type 0 where
@@ -69,7 +69,7 @@ no-terms R zero [] n h = refl
 no-terms R (suc k) [] n h = refl
 no-terms R most (b ∷ l) n h = absurd (omega arith)
 
-pub terms-none : {l : Bytes} {s : List ℕ} {p : ParseState} {most : ℕ} → length l ≡ 0 → TermsPost most l s p s (Several.Read 0 (p .left) (p .node))
+terms-none : {l : Bytes} {s : List ℕ} {p : ParseState} {most : ℕ} → length l ≡ 0 → TermsPost most l s p s (Several.Read 0 (p .left) (p .node))
 unfolding nodesL countL
 terms-none {l} {p = p} {most} h =
     record {
@@ -83,15 +83,24 @@ over-terms R zero [] n h e = absurd (h refl)
 over-terms R zero (b ∷ l) n h e = refl
 over-terms R (suc k) l n h e = absurd (omega arith)
 
-pub terms-over : {l : Bytes} {s : List ℕ} {p : ParseState} {most : ℕ} → (length l ≡ 0 → ⊥) → most ≡ 0 → TermsPost most l s p s (Several.Refused 22)
+terms-over : {l : Bytes} {s : List ℕ} {p : ParseState} {most : ℕ} → (length l ≡ 0 → ⊥) → most ≡ 0 → TermsPost most l s p s (Several.Refused 22)
 terms-over {l} {p = p} {most} h e = record { is = over-terms (readPart (p .levels)) most l (p .left) h e; kept = kept-refl }
 
--- where a reader stands behind what was read
-abbrev pub behindOf : ParseState → ℕ → ℕ → ParseState
-behindOf p left i = record { levels = p .levels; left = left; node = i; depth = p .depth }
+-- with n terms more
+abbrev pub besides : ℕ → Several → Several
+besides n (Several.Read count left e) = Several.Read (count + n) left e
+besides n (Several.Refused x) = Several.Refused x
+
+besides-none : (r : Several) → r ≡ besides 0 r
+besides-none (Several.Read count left e) = ap (λ (k : ℕ). Several.Read k left e) {x = count} {y = count + 0} (omega arith)
+besides-none (Several.Refused x) = refl
+
+besides-more : (n : ℕ) (r : Several) → besides n (besides 1 r) ≡ besides (n + 1) r
+besides-more n (Several.Read count left e) = ap (λ (k : ℕ). Several.Read k left e) {x = count + 1 + n} {y = count + (n + 1)} (omega arith)
+besides-more n (Several.Refused x) = refl
 
 module _ {l : Bytes} {s s′ : List ℕ} {p : ParseState} {f : TermFront} {most : ℕ} (some : length l ≡ 0 → ⊥) (more : most ≡ 0 → ⊥) (T : TermPost l s p s′ f) where
-  pub terms-refused : {x : ℕ} → f ≡ TermFront.Refused x → TermsPost most l s p s′ (Several.Refused x)
+  terms-refused : {x : ℕ} → f ≡ TermFront.Refused x → TermsPost most l s p s′ (Several.Refused x)
   terms-refused e =
       let R = readPart (p .levels) in
       record {
@@ -100,7 +109,7 @@ module _ {l : Bytes} {s s′ : List ℕ} {p : ParseState} {f : TermFront} {most 
       }
 
   module _ {used left i : ℕ} (e : f ≡ TermFront.Read used left i) where
-    pub first-found : FrontFound false (readPart (p .levels) false l (p .left)) l s′ p used left i
+    first-found : FrontFound false (readPart (p .levels) false l (p .left)) l s′ p used left i
     first-found = subst (TermBy (readPart (p .levels) false l (p .left)) l s′ p) e (T .is)
 
     terms-then : (x : E.Read Terms) → E.terms (readPart (p .levels)) (most - 1) (after l used) left ≡ x →
@@ -114,7 +123,7 @@ module _ {l : Bytes} {s s′ : List ℕ} {p : ParseState} {f : TermFront} {most 
     terms-last : {s″ : List ℕ} {r : Several} → TermsPost (most - 1) (after l used) s′ (behindOf p left i) s″ r → Kept (p .node) s s″
     terms-last S = kept-trans (omega (arith, tree-found (first-found .found) .end)) (T .kept) (S .kept)
 
-    pub terms-rest-refused : {s″ : List ℕ} {r : Several} {x : ℕ} → TermsPost (most - 1) (after l used) s′ (behindOf p left i) s″ r → r ≡ Several.Refused x →
+    terms-rest-refused : {s″ : List ℕ} {r : Several} {x : ℕ} → TermsPost (most - 1) (after l used) s′ (behindOf p left i) s″ r → r ≡ Several.Refused x →
         TermsPost most l s p s″ (Several.Refused x)
     unfolding andThen
     terms-rest-refused {s″} {x = x} S h =
@@ -123,7 +132,7 @@ module _ {l : Bytes} {s s′ : List ℕ} {p : ParseState} {f : TermFront} {most 
           kept = terms-last S;
         }
 
-    pub terms-read : {s″ : List ℕ} {r : Several} {count rest end : ℕ} → TermsPost (most - 1) (after l used) s′ (behindOf p left i) s″ r → r ≡ Several.Read count rest end →
+    terms-read : {s″ : List ℕ} {r : Several} {count rest end : ℕ} → TermsPost (most - 1) (after l used) s′ (behindOf p left i) s″ r → r ≡ Several.Read count rest end →
         TermsPost most l s p s″ (Several.Read (count + 1) rest end)
     unfolding andThen nodesL countL
     terms-read {s″} {count = count} {rest} {end} S h =
@@ -144,6 +153,69 @@ module _ {l : Bytes} {s s′ : List ℕ} {p : ParseState} {f : TermFront} {most 
           );
           kept = terms-last S;
         }
+
+    terms-rest : {s″ : List ℕ} (r : Several) → TermsPost (most - 1) (after l used) s′ (behindOf p left i) s″ r → TermsPost most l s p s″ (besides 1 r)
+    terms-rest (Several.Read count rest end) S = terms-read S refl
+    terms-rest (Several.Refused x) S = terms-rest-refused S refl
+
+pub room-behind : {q : Bool} {x : E.Read Part} {l : Bytes} {s s′ : List ℕ} {p : ParseState} {used left i : ℕ} → Room 0 s p → Kept (p .node) s s′ → FrontFound q x l s′ p used left i →
+    Room 0 s′ (behindOf p left i)
+room-behind M K F =
+    record { words = omega (arith, K .long, M .words); nodes = omega (arith, F .found .end, F .found .spent, M .nodes); deep = M .deep }
+
+-- a bytes on, behind n terms, the reader stands as q says: what is read from there on, with n terms more, is what is read in all
+pub record TermsUpto (most : ℕ) (l : Bytes) (s₀ : List ℕ) (p : ParseState) (s : List ℕ) (a : ℕ) (q : ParseState) (n : ℕ) : Type 0 where
+  pub within : a ≤ length l
+  pub long : length s ≡ length s₀
+  pub room : Room 0 s q
+  pub back : (s′ : List ℕ) (r : Several) → TermsPost (most - n) (after l a) s q s′ r → TermsPost most l s₀ p s′ (besides n r)
+
+pub upto-first : {most : ℕ} {l : Bytes} {s : List ℕ} {p : ParseState} → Room 0 s p → TermsUpto most l s p s 0 p 0
+upto-first {most} {l} {s} {p} M = record {
+  within = omega arith;
+  long = refl;
+  room = M;
+  back = λ s′ r T.
+      subst (λ (m : ℕ). TermsPost m l s p s′ (besides 0 r)) {x = most - 0} {y = most} (omega arith)
+      (subst (λ (b : Bytes). TermsPost (most - 0) b s p s′ (besides 0 r)) (after-is l 0) (subst (TermsPost (most - 0) (after l 0) s p s′) (besides-none r) T));
+}
+
+module _ {most : ℕ} {l : Bytes} {s₀ s : List ℕ} {p q : ParseState} {a n : ℕ} (U : TermsUpto most l s₀ p s a q n) where
+  pub upto-last : length l ≤ a → TermsPost most l s₀ p s (Several.Read n (q .left) (q .node))
+  upto-last h = subst (λ (k : ℕ). TermsPost most l s₀ p s (Several.Read k (q .left) (q .node))) {x = 0 + n} {y = n} (omega arith) (U .back s _ (terms-none (omega (arith, length-after l a))))
+
+  module _ (some : a < length l) where
+    some-left : length (after l a) ≡ 0 → ⊥
+    some-left e = omega (arith, length-after l a)
+
+    pub upto-over : most ≤ n → TermsPost most l s₀ p s (Several.Refused 22)
+    upto-over h = U .back s _ (terms-over some-left (omega arith))
+
+    module _ {s′ : List ℕ} {f : TermFront} (more : n < most) (T : TermPost (after l a) s q s′ f) where
+      more-left : most - n ≡ 0 → ⊥
+      more-left e = omega arith
+
+      pub upto-refused : {x : ℕ} → f ≡ TermFront.Refused x → TermsPost most l s₀ p s′ (Several.Refused x)
+      upto-refused e = U .back s′ _ (terms-refused some-left more-left T e)
+
+      module _ {used left i : ℕ} (e : f ≡ TermFront.Read used left i) where
+        pub upto-found : FrontFound false (readPart (q .levels) false (after l a) (q .left)) (after l a) s′ q used left i
+        upto-found = first-found some-left more-left T e
+
+        pub upto-within : a + used ≤ length l
+        upto-within = omega (arith, length-after l a, upto-found .within, U .within)
+
+        pub upto-again : {q′ : ParseState} → q′ ≡ behindOf q left i → TermsUpto most l s₀ p s′ (a + used) q′ (n + 1)
+        upto-again h = subst (λ (z : ParseState). TermsUpto most l s₀ p s′ (a + used) z (n + 1)) (sym h) (record {
+          within = upto-within;
+          long = T .kept .long ∙ U .long;
+          room = room-behind (U .room) (T .kept) upto-found;
+          back = λ s″ r S.
+              subst (TermsPost most l s₀ p s″) (besides-more n r)
+              (U .back s″ (besides 1 r) (terms-rest some-left more-left T e r
+              (subst (λ (m : ℕ). TermsPost m (after (after l a) used) s′ (behindOf q left i) s″ r) {x = most - (n + 1)} {y = most - n - 1} (omega arith)
+              (subst (λ (b : Bytes). TermsPost (most - (n + 1)) b s′ (behindOf q left i) s″ r) (sym (after-after l a used)) S))));
+        })
 
 -- ---- content that is terms. `make` says what a kind makes of its argument and its terms: too few are 22.
 one : (Term → Part) → Terms → Result Part

@@ -26,6 +26,10 @@ use Rattle.front_parser.specs.declared.Item.the-variants as Item
 use Rattle.front_parser.specs.declared.Read.{Read}
 use Rattle.front_parser.specs.declared.Read.the-variants as Answer
 
+-- where a reader stands behind what was read
+abbrev pub behindOf : ParseState → ℕ → ℕ → ParseState
+behindOf p left i = record { levels = p .levels; left = left; node = i; depth = p .depth }
+
 -- ---- the nodes of a part
 abbrev pub qualifies : Part → Bool
 qualifies (term t) = false

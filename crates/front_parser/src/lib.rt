@@ -7,7 +7,7 @@ ghost use mathlib.Core.Path.{_≡_};
 ghost use Prim.Native.Nat.{_+_, _≤_, _<_};
 ghost use lib.ListN.{length};
 ghost use Rattle.front_parser.specs.ReaderScratch.{Room};
-ghost use Rattle.front_parser.specs.ReaderContracts.{TermPost, TermsPost, CompoundPost, ContentRead, headOf, QualifierPost, PartsPost, ComprehensionPost, ReadQuestionPost};
+ghost use Rattle.front_parser.specs.ReaderContracts.{behindOf, TermPost, TermsPost, CompoundPost, ContentRead, headOf, QualifierPost, PartsPost, ComprehensionPost, ReadQuestionPost};
 use base_refusals::BROKEN_RECORD;
 use base_refusals::QUESTION_TOO_LONG;
 use base_syntax::KIND_COMPREHENSION;
@@ -81,6 +81,18 @@ pub enum Read {
     Refused(u64),
 }
 
+// Where a reader stands behind what was read.
+fn behind(p: ParseState, left: usize, node: usize) -> ParseState
+    ensures { λ r. ⌜ r ≡ behindOf p left node ⌝ }
+{
+    ParseState {
+        levels: p.levels,
+        left,
+        node,
+        depth: p.depth,
+    }
+}
+
 // The record at the front, where a term must stand.
 fn term(l: &[u8], s: &mut [u64], p: ParseState) -> TermFront
     requires { ⌜ Room 0 (now s) p ⌝ }
@@ -131,32 +143,30 @@ fn compound(k: u64, h: Arity, c: &[u8], s: &mut [u64], p: ParseState) -> Filled
     }
 }
 
-// Terms one behind the other, at most so many, up to the end of the bytes.
+// Terms one behind the other, at most so many, up to the end of the bytes. A loop: a call for each would need stack for each.
 fn terms(l: &[u8], s: &mut [u64], p: ParseState, most: usize) -> Several
     requires { ⌜ Room 0 (now s) p ⌝ }
     ensures { λ r. ⌜ TermsPost most (now (l .entry)) (now (s .entry)) p (now (s .exit)) r ⌝ }
 {
-    if l.len() == 0 {
-        return Several::Read(0, p.left, p.node);
-    }
-    if most == 0 {
-        return Several::Refused(BROKEN_RECORD);
-    }
-    match term(l, s, p) {
-        TermFront::Refused(x) => Several::Refused(x),
-        TermFront::Read(used, left, node) => {
-            let next = ParseState {
-                levels: p.levels,
-                left,
-                node,
-                depth: p.depth,
-            };
-            match terms(&l[used..], s, next, most - 1) {
-                Several::Refused(x) => Several::Refused(x),
-                Several::Read(count, rest, end) => Several::Read(count + 1, rest, end),
+    let mut at: usize = 0;
+    let mut q = p;
+    let mut count: usize = 0;
+    while at < l.len() {
+        if most <= count {
+            return Several::Refused(BROKEN_RECORD);
+        }
+        match term(&l[at..], s, q) {
+            TermFront::Refused(x) => {
+                return Several::Refused(x);
+            }
+            TermFront::Read(used, left, node) => {
+                at += used;
+                q = behind(q, left, node);
+                count += 1;
             }
         }
     }
+    Several::Read(count, q.left, q.node)
 }
 
 // The content of kind 14: a monoid, qualifiers, a head.
@@ -186,27 +196,27 @@ fn comprehension(c: &[u8], s: &mut [u64], p: ParseState) -> Filled
     }
 }
 
-// "Any count of qualifiers, then one head term", which fills the rest.
+// "Any count of qualifiers, then one head term", which fills the rest. A loop, as in `terms`.
 fn parts(l: &[u8], s: &mut [u64], p: ParseState) -> Filled
     requires { ⌜ Room 0 (now s) p ⌝ }
     ensures { λ r. ⌜ PartsPost (now (l .entry)) (now (s .entry)) p (now (s .exit)) r ⌝ }
 {
-    match qualifier(l, s, p) {
-        Item::Refused(x) => Filled::Refused(x),
-        Item::Qualifier(used, left, node) => {
-            let next = ParseState {
-                levels: p.levels,
-                left,
-                node,
-                depth: p.depth,
-            };
-            parts(&l[used..], s, next)
-        }
-        Item::Head(used, left, node) => {
-            if used < l.len() {
-                Filled::Refused(BROKEN_RECORD)
-            } else {
-                Filled::Read(left, node)
+    let mut at: usize = 0;
+    let mut q = p;
+    loop {
+        match qualifier(&l[at..], s, q) {
+            Item::Refused(x) => {
+                return Filled::Refused(x);
+            }
+            Item::Qualifier(used, left, node) => {
+                at += used;
+                q = behind(q, left, node);
+            }
+            Item::Head(used, left, node) => {
+                if used < l.len() - at {
+                    return Filled::Refused(BROKEN_RECORD);
+                }
+                return Filled::Read(left, node);
             }
         }
     }

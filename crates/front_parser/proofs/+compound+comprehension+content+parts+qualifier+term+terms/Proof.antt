@@ -1,11 +1,11 @@
 -- The readers of comprehension, qualifier and term call each other and meet their contracts; the bytes left fall.
 use native.Mathlib.Omega.{arith}
 use mathlib.Core.Path.{refl, _∙_}
-use Prim.Native.Nat.{_+_, _*_}
+use Prim.Native.Nat.{_+_, _-_, _*_}
 use lib.ListN.{length}
 use Rattle.front_parser.proofs.Records.{length-after, length-inner, began, term-none, term-refused, term-read, shaped-leaf, shaped-terms, content-terms, content-comprehension, content-other, item-none, item-head, looks-qualifier, item-refused, item-read}
-use Rattle.front_parser.proofs.TermSequences.{terms-none, terms-over, terms-refused, first-found, terms-rest-refused, terms-read, fixed-is, terms-found, compound-broken, compound-refused, compound-few, compound-done}
-use Rattle.front_parser.proofs.Questions.{parts-refused, qualifier-found, parts-next, parts-over, parts-head, comprehension-none, comprehension-zero, comprehension-over, comprehension-refused, comprehension-read, room-inside, room-terms, room-parts, room-behind, finishing-terms, few-terms, finishing-parts}
+use Rattle.front_parser.proofs.TermSequences.{TermsUpto, upto-first, upto-last, upto-over, upto-refused, upto-found, upto-within, upto-again, fixed-is, terms-found, compound-broken, compound-refused, compound-few, compound-done}
+use Rattle.front_parser.proofs.Questions.{PartsUpto, parts-first, parts-last-refused, front-qualifier, parts-within, parts-again, parts-last-over, parts-last, comprehension-none, comprehension-zero, comprehension-over, comprehension-refused, comprehension-read, room-inside, room-terms, room-parts, finishing-terms, few-terms, finishing-parts}
 use borrow.Author.Needs.{needs}
 use Prim.Native.Nat.{ℕ, _<_}
 use borrow.Fn.Kinds.{In}
@@ -32,6 +32,7 @@ use Rattle.front_parser.proofs.terms.Reads as terms
 use Rattle.front_parser.proofs.terms.Kinds as terms-kinds
 use Rattle.front_parser.proofs.+compound+comprehension+content+parts+qualifier+term+terms.Lts-terms as terms-lts
 use Rattle.front_parser.proofs.as_head.Reads as as-head-reads
+use Rattle.front_parser.proofs.behind.Reads as behind-reads
 use Rattle.front_parser.proofs.bytes.begin.Reads as begin-reads
 use Rattle.front_parser.proofs.bytes.byte.Reads as byte-reads
 use Rattle.front_parser.proofs.value.finish.Reads as finish-reads
@@ -127,7 +128,7 @@ abbrev content-claims : ℕ → content-lts.Claims
 content-claims t = (shape-of-reads.Asked, shape-of-reads.Learnt, leaf-reads.Asked, leaf-reads.Learnt, compound-below t, compound.Post, comprehension-below t, comprehension.Post)
 
 abbrev parts-claims : ℕ → parts-lts.Claims
-parts-claims t = (qualifier-below t, qualifier.Post, parts-below t, parts.Post)
+parts-claims t = (qualifier-below t, qualifier.Post, behind-reads.Asked, behind-reads.Learnt)
 
 abbrev qualifier-claims : ℕ → qualifier-lts.Claims
 qualifier-claims t = (begin-reads.Asked, begin-reads.Learnt, look-ahead-reads.Asked, look-ahead-reads.Learnt, term-below t, term.Post, as-head-reads.Asked, as-head-reads.Learnt, compound-below t, compound.Post)
@@ -136,7 +137,19 @@ abbrev term-claims : ℕ → term-lts.Claims
 term-claims t = (begin-reads.Asked, begin-reads.Learnt, content-below t, content.Post)
 
 abbrev terms-claims : ℕ → terms-lts.Claims
-terms-claims t = (term-below t, term.Post, terms-below t, terms.Post)
+terms-claims t = (term-below t, term.Post, behind-reads.Asked, behind-reads.Learnt)
+
+abbrev parts-Inv-loop : parts-lts.InvT-loop
+parts-Inv-loop l s₀ at₀ q₀ s at q = PartsUpto l s₀ q₀ s at q
+
+abbrev parts-μ-loop : parts-lts.MeasureT-loop
+parts-μ-loop l s₀ at₀ q₀ s at q = length l - at
+
+abbrev terms-Inv-loop : terms-lts.InvT-loop
+terms-Inv-loop l s₀ most at₀ q₀ count₀ s at q count = TermsUpto most l s₀ q₀ s at q count
+
+abbrev terms-μ-loop : terms-lts.MeasureT-loop
+terms-μ-loop l s₀ most at₀ q₀ count₀ s at q count = length l - at
 
 compound-returns : (t : ℕ) → compound-lts.Need-returns (compound-claims t) (compound-at t) compound.Post
 compound-returns t c = compound-broken (c .before .before .fixed .ensures) (c .enum-told .given .1)
@@ -252,45 +265,6 @@ content-returns-3 t c = content-comprehension (c .before .before .before .before
 content-returns-4 : (t : ℕ) → content-lts.Need-returns-4 (content-claims t) (content-at t) content.Post
 content-returns-4 t c = content-other (c .before .before .shape-of .ensures) (c .enum-told3 .given .1)
 
-parts-qualifier-requires : (t : ℕ) → parts-lts.Need-qualifier-requires (parts-claims t) (parts-at t) parts.Post
-parts-qualifier-requires t c κs = (omega (arith, c .before .before .before .pre .0), c .before .before .before .pre .1)
-
-parts-sub-parts : (t : ℕ) → parts-lts.Need-sub-parts (parts-claims t) (parts-at t) parts.Post
-parts-sub-parts t c = let F = qualifier-found (c .before .before .before .before .before .qualifier .ensures) (c .before .used .given .1) in omega (arith, F .within)
-
-parts-part-parts-start : (t : ℕ) → parts-lts.Need-part-parts-start (parts-claims t) (parts-at t) parts.Post
-parts-part-parts-start t c = let F = qualifier-found (c .before .before .before .before .before .qualifier .ensures) (c .before .used .given .1) in omega (arith, F .within)
-
-parts-part-parts-end : (t : ℕ) → parts-lts.Need-part-parts-end (parts-claims t) (parts-at t) parts.Post
-parts-part-parts-end t c = let F = qualifier-found (c .before .before .before .before .before .qualifier .ensures) (c .before .used .given .1) in omega (arith, F .within)
-
-parts-parts-requires : (t : ℕ) → parts-lts.Need-parts-requires (parts-claims t) (parts-at t) parts.Post
-parts-parts-requires t c κs = let F = qualifier-found (c .before .before .before .before .before .before .before .qualifier .ensures) (c .before .before .before .used .given .1) in (omega (arith, length-after (c .before .before .before .before .before .before .before .before .before .before .before .args .l .now) (c .before .before .before .used .given .0 .0), F .some, F .within, c .before .before .before .before .before .before .before .before .before .before .before .pre .0), room-behind (c .before .before .before .before .before .before .before .before .before .before .before .pre .1) (c .before .before .before .before .before .before .before .qualifier .ensures .kept) F)
-
-parts-same-length : (t : ℕ) → parts-lts.Need-same-length (parts-claims t) (parts-at t) parts.Post
-parts-same-length t c = c .before .before .before .before .before .qualifier .kept .1 .0
-
-parts-returns : (t : ℕ) → parts-lts.Need-returns (parts-claims t) (parts-at t) parts.Post
-parts-returns t c = parts-refused (c .before .before .before .before .before .qualifier .ensures) (c .before .x .given .1)
-
-parts-same-length-2 : (t : ℕ) → parts-lts.Need-same-length-2 (parts-claims t) (parts-at t) parts.Post
-parts-same-length-2 t c = c .before .before .parts .kept .1 .0 ∙ c .before .before .before .before .before .before .before .before .before .before .qualifier .kept .1 .0
-
-parts-returns-2 : (t : ℕ) → parts-lts.Need-returns-2 (parts-claims t) (parts-at t) parts.Post
-parts-returns-2 t c = parts-next (c .before .before .before .before .before .before .before .before .before .before .qualifier .ensures) (c .before .before .before .before .before .before .used .given .1) (c .before .before .parts .ensures)
-
-parts-same-length-3 : (t : ℕ) → parts-lts.Need-same-length-3 (parts-claims t) (parts-at t) parts.Post
-parts-same-length-3 t c = c .before .before .before .before .before .before .qualifier .kept .1 .0
-
-parts-returns-3 : (t : ℕ) → parts-lts.Need-returns-3 (parts-claims t) (parts-at t) parts.Post
-parts-returns-3 t c = parts-over (c .before .before .before .before .before .before .qualifier .ensures) (c .before .before .used2 .given .1) (c .if1 .taken)
-
-parts-same-length-4 : (t : ℕ) → parts-lts.Need-same-length-4 (parts-claims t) (parts-at t) parts.Post
-parts-same-length-4 t c = c .before .before .before .before .before .before .qualifier .kept .1 .0
-
-parts-returns-4 : (t : ℕ) → parts-lts.Need-returns-4 (parts-claims t) (parts-at t) parts.Post
-parts-returns-4 t c = parts-head (c .before .before .before .before .before .before .qualifier .ensures) (c .before .before .used2 .given .1) (c .if1 .left)
-
 qualifier-term-requires : (t : ℕ) → qualifier-lts.Need-term-requires (qualifier-claims t) (qualifier-at t) qualifier.Post
 qualifier-term-requires t c κs = (omega (arith, c .before .before .before .before .before .before .before .before .before .before .pre .0), c .before .before .before .before .before .before .before .before .before .before .pre .1)
 
@@ -353,48 +327,6 @@ term-same-length-2 t c = c .before .before .before .before .before .content .kep
 
 term-returns-3 : (t : ℕ) → term-lts.Need-returns-3 (term-claims t) (term-at t) term.Post
 term-returns-3 t c = term-read (c .before .before .before .before .before .before .before .before .before .before .before .begin .ensures) (c .before .before .before .before .before .before .before .before .before .k .given .1) (c .before .before .before .before .before .content .ensures) (c .before .left .given .1)
-
-terms-returns : (t : ℕ) → terms-lts.Need-returns (terms-claims t) (terms-at t) terms.Post
-terms-returns t c = terms-none (c .if1 .taken)
-
-terms-returns-2 : (t : ℕ) → terms-lts.Need-returns-2 (terms-claims t) (terms-at t) terms.Post
-terms-returns-2 t c = terms-over (c .before .if1 .left) (c .if2 .taken)
-
-terms-term-requires : (t : ℕ) → terms-lts.Need-term-requires (terms-claims t) (terms-at t) terms.Post
-terms-term-requires t c κs = (omega (arith, c .before .before .before .before .before .pre .0), c .before .before .before .before .before .pre .1)
-
-terms-sub-terms : (t : ℕ) → terms-lts.Need-sub-terms (terms-claims t) (terms-at t) terms.Post
-terms-sub-terms t c = let F = first-found (c .before .before .before .before .before .before .before .before .if1 .left) (c .before .before .before .before .before .before .before .if2 .left) (c .before .before .before .before .before .term .ensures) (c .before .used .given .1) in omega (arith, F .within)
-
-terms-part-terms-start : (t : ℕ) → terms-lts.Need-part-terms-start (terms-claims t) (terms-at t) terms.Post
-terms-part-terms-start t c = let F = first-found (c .before .before .before .before .before .before .before .before .if1 .left) (c .before .before .before .before .before .before .before .if2 .left) (c .before .before .before .before .before .term .ensures) (c .before .used .given .1) in omega (arith, F .within)
-
-terms-part-terms-end : (t : ℕ) → terms-lts.Need-part-terms-end (terms-claims t) (terms-at t) terms.Post
-terms-part-terms-end t c = let F = first-found (c .before .before .before .before .before .before .before .before .if1 .left) (c .before .before .before .before .before .before .before .if2 .left) (c .before .before .before .before .before .term .ensures) (c .before .used .given .1) in omega (arith, F .within)
-
-terms-terms-requires : (t : ℕ) → terms-lts.Need-terms-requires (terms-claims t) (terms-at t) terms.Post
-terms-terms-requires t c κs = let F = first-found (c .before .before .before .before .before .before .before .before .before .before .if1 .left) (c .before .before .before .before .before .before .before .before .before .if2 .left) (c .before .before .before .before .before .before .before .term .ensures) (c .before .before .before .used .given .1) in (omega (arith, length-after (c .before .before .before .before .before .before .before .before .before .before .before .before .before .args .l .now) (c .before .before .before .used .given .0 .0), F .some, F .within, c .before .before .before .before .before .before .before .before .before .before .before .before .before .pre .0), room-behind (c .before .before .before .before .before .before .before .before .before .before .before .before .before .pre .1) (c .before .before .before .before .before .before .before .term .ensures .kept) F)
-
-terms-add-t29 : (t : ℕ) → terms-lts.Need-add-t29 (terms-claims t) (terms-at t) terms.Post
-terms-add-t29 t c = let F = terms-found (c .before .before .before .before .before .terms .ensures) (c .before .count .given .1) in omega (arith, F .1, c .before .before .before .before .before .before .before .before .before .before .before .before .before .before .before .if2 .left)
-
-terms-same-length : (t : ℕ) → terms-lts.Need-same-length (terms-claims t) (terms-at t) terms.Post
-terms-same-length t c = c .before .before .before .before .before .term .kept .1 .0
-
-terms-returns-3 : (t : ℕ) → terms-lts.Need-returns-3 (terms-claims t) (terms-at t) terms.Post
-terms-returns-3 t c = terms-refused (c .before .before .before .before .before .before .before .before .if1 .left) (c .before .before .before .before .before .before .before .if2 .left) (c .before .before .before .before .before .term .ensures) (c .before .x .given .1)
-
-terms-same-length-2 : (t : ℕ) → terms-lts.Need-same-length-2 (terms-claims t) (terms-at t) terms.Post
-terms-same-length-2 t c = c .before .before .before .before .before .terms .kept .1 .0 ∙ c .before .before .before .before .before .before .before .before .before .before .before .before .before .term .kept .1 .0
-
-terms-returns-4 : (t : ℕ) → terms-lts.Need-returns-4 (terms-claims t) (terms-at t) terms.Post
-terms-returns-4 t c = terms-rest-refused (c .before .before .before .before .before .before .before .before .before .before .before .before .before .before .before .before .if1 .left) (c .before .before .before .before .before .before .before .before .before .before .before .before .before .before .before .if2 .left) (c .before .before .before .before .before .before .before .before .before .before .before .before .before .term .ensures) (c .before .before .before .before .before .before .before .before .before .used .given .1) (c .before .before .before .before .before .terms .ensures) (c .before .x2 .given .1)
-
-terms-same-length-3 : (t : ℕ) → terms-lts.Need-same-length-3 (terms-claims t) (terms-at t) terms.Post
-terms-same-length-3 t c = c .before .before .before .before .before .terms .kept .1 .0 ∙ c .before .before .before .before .before .before .before .before .before .before .before .before .before .term .kept .1 .0
-
-terms-returns-5 : (t : ℕ) → terms-lts.Need-returns-5 (terms-claims t) (terms-at t) terms.Post
-terms-returns-5 t c = terms-read (c .before .before .before .before .before .before .before .before .before .before .before .before .before .before .before .before .if1 .left) (c .before .before .before .before .before .before .before .before .before .before .before .before .before .before .before .if2 .left) (c .before .before .before .before .before .before .before .before .before .before .before .before .before .term .ensures) (c .before .before .before .before .before .before .before .before .before .used .given .1) (c .before .before .before .before .before .terms .ensures) (c .before .count .given .1)
 
 pub +compound+comprehension+content+parts+qualifier+term+terms-spec : {M : Type 1} → statement M
 +compound+comprehension+content+parts+qualifier+term+terms-spec =
@@ -460,23 +392,26 @@ pub +compound+comprehension+content+parts+qualifier+term+terms-spec : {M : Type 
     (content-same-length-3 t)
     (content-returns-3 t)
     (content-returns-4 t))
-    (λ t. parts-lts.spec (parts-claims t) (parts-at t) parts.Post
-    (parts-qualifier-requires t)
+    (λ t. parts-lts.spec (parts-claims t) (parts-at t) parts.Post parts-Inv-loop parts-μ-loop
+    (λ c. parts-first (c .before .before .pre .1))
+    (λ c. omega (arith, c .loop .inv .within))
+    (λ c. omega (arith, c .loop .inv .within))
+    (λ c. omega (arith, c .loop .inv .within))
+    (λ c κs. (omega (arith, length-after (c .before .before .before .before .before .args .l .now) (c .before .before .loop .at), c .before .before .before .before .before .pre .0), c .before .before .loop .inv .room))
     (λ c. search needs)
+    (λ c. c .before .before .before .before .before .qualifier .kept .1 .0 ∙ c .before .before .before .before .before .before .before .before .loop .inv .long)
+    (λ c. parts-last-refused (c .before .before .before .before .before .before .before .before .loop .inv) (c .before .before .before .before .before .qualifier .ensures) (c .before .x .given .1))
     (λ c. search needs)
-    (parts-sub-parts t)
-    (parts-part-parts-start t)
-    (parts-part-parts-end t)
-    (parts-parts-requires t)
+    (λ c. let w = parts-within (c .before .before .before .before .before .before .before .before .loop .inv) (c .before .before .before .before .before .qualifier .ensures) (c .before .used .given .1) in omega (arith, w, c .before .before .before .before .before .before .before .before .before .before .before .good .0))
+    (λ c κs. search needs)
+    (λ c. let w = parts-within (c .before .before .before .before .before .before .before .before .before .loop .inv) (c .before .before .before .before .before .before .qualifier .ensures) (c .before .before .used .given .1) in let F = front-qualifier (c .before .before .before .before .before .before .before .before .before .loop .inv) (c .before .before .before .before .before .before .qualifier .ensures) (c .before .before .used .given .1) in omega (arith, w, F .some))
+    (λ c. parts-again (c .before .before .before .before .before .before .before .before .before .loop .inv) (c .before .before .before .before .before .before .qualifier .ensures) (c .before .before .used .given .1) (c .behind .ensures))
     (λ c. search needs)
-    (parts-same-length t)
-    (parts-returns t)
-    (parts-same-length-2 t)
-    (parts-returns-2 t)
-    (parts-same-length-3 t)
-    (parts-returns-3 t)
-    (parts-same-length-4 t)
-    (parts-returns-4 t))
+    (λ c. omega (arith, c .before .before .before .before .before .before .before .before .loop .inv .within))
+    (λ c. c .before .before .before .before .before .before .qualifier .kept .1 .0 ∙ c .before .before .before .before .before .before .before .before .before .loop .inv .long)
+    (λ c. parts-last-over (c .before .before .before .before .before .before .before .before .before .loop .inv) (c .before .before .before .before .before .before .qualifier .ensures) (c .before .before .used2 .given .1) (c .if1 .taken))
+    (λ c. c .before .before .before .before .before .before .qualifier .kept .1 .0 ∙ c .before .before .before .before .before .before .before .before .before .loop .inv .long)
+    (λ c. parts-last (c .before .before .before .before .before .before .before .before .before .loop .inv) (c .before .before .before .before .before .before .qualifier .ensures) (c .before .before .used2 .given .1) (c .if1 .left)))
     (λ t. qualifier-lts.spec (qualifier-claims t) (qualifier-at t) qualifier.Post
     (λ c κs. search needs)
     (λ c. search needs)
@@ -514,26 +449,22 @@ pub +compound+comprehension+content+parts+qualifier+term+terms-spec : {M : Type 
     (term-returns-2 t)
     (term-same-length-2 t)
     (term-returns-3 t))
-    λ t. terms-lts.spec
-    (term-below t, term.Post, terms-below t, terms.Post)
-    (terms-at t)
-    terms.Post
-    (terms-returns t)
-    (terms-returns-2 t)
-    (terms-term-requires t)
+    λ t. terms-lts.spec (terms-claims t) (terms-at t) terms.Post terms-Inv-loop terms-μ-loop
+    (λ c. upto-first (c .before .before .pre .1))
+    (λ c. c .before .before .loop .inv .long)
+    (λ c. upto-over (c .before .before .loop .inv) (c .before .loop-test .taken) (c .if1 .taken))
+    (λ c. omega (arith, c .before .before .loop .inv .within))
+    (λ c. omega (arith, c .before .before .loop .inv .within))
+    (λ c. omega (arith, c .before .before .loop .inv .within))
+    (λ c κs. (omega (arith, length-after (c .before .before .before .before .before .before .before .args .l .now) (c .before .before .before .before .loop .at), c .before .before .before .before .before .before .before .pre .0), c .before .before .before .before .loop .inv .room))
     (λ c. search needs)
+    (λ c. c .before .before .before .before .before .term .kept .1 .0 ∙ c .before .before .before .before .before .before .before .before .before .before .loop .inv .long)
+    (λ c. upto-refused (c .before .before .before .before .before .before .before .before .before .before .loop .inv) (c .before .before .before .before .before .before .before .before .before .loop-test .taken) (c .before .before .before .before .before .before .before .before .if1 .left) (c .before .before .before .before .before .term .ensures) (c .before .x .given .1))
     (λ c. search needs)
-    (terms-sub-terms t)
-    (terms-part-terms-start t)
-    (terms-part-terms-end t)
-    (λ c. search needs)
-    (terms-terms-requires t)
-    (λ c. search needs)
-    (λ c. search needs)
-    (terms-add-t29 t)
-    (terms-same-length t)
-    (terms-returns-3 t)
-    (terms-same-length-2 t)
-    (terms-returns-4 t)
-    (terms-same-length-3 t)
-    (terms-returns-5 t)
+    (λ c. let w = upto-within (c .before .before .before .before .before .before .before .before .before .before .loop .inv) (c .before .before .before .before .before .before .before .before .before .loop-test .taken) (c .before .before .before .before .before .before .before .before .if1 .left) (c .before .before .before .before .before .term .ensures) (c .before .used .given .1) in omega (arith, w, c .before .before .before .before .before .before .before .before .before .before .before .before .before .good .0))
+    (λ c κs. search needs)
+    (λ c. omega (arith, c .before .before .before .before .before .before .before .before .before .if1 .left, c .before .before .before .before .before .before .before .before .before .before .before .before .before .before .fits .most))
+    (λ c. let F = upto-found (c .before .before .before .before .before .before .before .before .before .before .before .loop .inv) (c .before .before .before .before .before .before .before .before .before .before .loop-test .taken) (c .before .before .before .before .before .before .before .before .before .if1 .left) (c .before .before .before .before .before .before .term .ensures) (c .before .before .used .given .1) in omega (arith, F .some, c .before .before .before .before .before .before .before .before .before .before .loop-test .taken))
+    (λ c. upto-again (c .before .before .before .before .before .before .before .before .before .before .before .loop .inv) (c .before .before .before .before .before .before .before .before .before .before .loop-test .taken) (c .before .before .before .before .before .before .before .before .before .if1 .left) (c .before .before .before .before .before .before .term .ensures) (c .before .before .used .given .1) (c .behind .ensures))
+    (λ c. c .before .loop .inv .long)
+    (λ c. upto-last (c .before .loop .inv) (c .loop-test .left))
