@@ -5,7 +5,7 @@ use Prim.Native.Nat.{ℕ, _+_, _-_, _*_, _/_, _%_, _^_, _≤_, _<_}
 use native.Mathlib.Nat.{le-trans, mul-le-mul-left, mul-le-mul-right, mul-add, mul-one}
 use native.Mathlib.Omega.{arith}
 use lib.Dec.{eqb, ltb, leb}
-use lib.ListN.{length, take, drop, length-drop}
+use lib.ListN.{length, getD, take, drop, length-drop}
 use lib.Seq.{take-all, drop-drop}
 use lib.IntN.{ℤ, pos, negsuc, natAbs, _-ℤ_}
 use mir.Syntax.{w64}
@@ -18,7 +18,7 @@ use Rattle.base_signed.proofs.SignedWords as Wo
 use Rattle.spec_encoding.specs.Record.{Bytes, refused, got, require, byte, two, four, signed, lengthOf, contentOf}
 use Rattle.spec_encoding.specs.Data.{isTable, fits}
 use Rattle.spec_encoding.proofs.Data.{Fit, fit}
-use Rattle.base_tables.specs.Description.{oneColumn, oneRow, oneKind, onePosition, descriptionOf, columnsIn, rowsIn, plainIn, cellIn, placeIn, placedIn, Placed, CellPost}
+use Rattle.base_tables.specs.Description.{oneColumn, oneRow, oneKind, onePosition, descriptionOf, columnsIn, rowsIn, cellIn, placeIn, placedIn, Placed, PlacedPost, CellPost}
 use Rattle.base_tables.specs.DataReader.{headerGives, headerAt, tableAt}
 use Rattle.base_tables.proofs.DataRecords.{passes, Whole, whole, whole-is, fit-is}
 use Rattle.base_tables.specs.declared.TableHeader.{TableHeader}
@@ -111,22 +111,28 @@ module _ {d : Bytes} {w r c : ℕ} where
 row-within : {m r n c : ℕ} → r < n → c < m → m * r + c + 1 ≤ m * n
 row-within {m} {r} {n} {c} p q = omega (arith, mul-le-mul-left {m = r + 1} {n = n} m (omega arith), mul-add m r 1, mul-one m)
 
-pub placed-plain : (d : Bytes) (w : ℕ) {n k : ℕ} → w / oneKind % 8192 ≡ 0 → n ≡ rowsIn w → k ≡ placeIn w n 0 → leb k (length d) ≡ placedIn d w
-unfolding placedIn pick
-placed-plain d w z en ek = rw (eq-eqb (w / oneKind % 8192) 0 z) (rw (ek, en))
+four-low : (d : Bytes) → ((i : ℕ) → getD d i 0 < 256) → (p : ℕ) → four d p < 2 ^ 32
+four-low d B p = omega (arith, B p, B (p + 1), B (p + 2), B (p + 2 + 1))
 
-pub placed-other : (d : Bytes) (w : ℕ) → (w / oneKind % 8192 ≡ 0 → ⊥) → false ≡ placedIn d w
-unfolding placedIn pick
-placed-other d w z = rw (ne-eqb (w / oneKind % 8192) 0 z)
-
-pub placed-is : {d : Bytes} {w : ℕ} → placedIn d w ≡ true → Placed d w
-unfolding cellIn placedIn pick
-placed-is {d} {w} h =
-    let l : placeIn w (rowsIn w) 0 ≤ length d = leb-true _ _ (by-test (plainIn w) (λ p. sym (rw p) ∙ h) (λ p. no (sym h ∙ rw p))) in
+placed-is : {d : Bytes} {w n k : ℕ} → ((i : ℕ) → getD d i 0 < 256) → n ≡ rowsIn w → k ≡ placeIn w n 0 → k ≤ length d → Placed d w
+unfolding cellIn pick
+placed-is {d} {w} {n} {k} B en ek l =
     record {
-      inside = λ {r} {c} p q. omega (arith, row-within {m = columnsIn w} {r = r} {n = rowsIn w} {c = c} p q);
+      inside = λ {r} {c} p q. omega (arith, row-within {m = columnsIn w} {r = r} {n = rowsIn w} {c = c} p q, ap (λ (x : ℕ). placeIn w x 0) en);
+      low = λ {r} {c} p q. four-low d B (placeIn w r c);
       cell = λ {r} {c} p q. rw (lt-ltb r (rowsIn w) p, lt-ltb c (columnsIn w) q) refl;
     }
+
+pub placed-plain : {d : Bytes} {w n k : ℕ} → ((i : ℕ) → getD d i 0 < 256) → w / oneKind % 8192 ≡ 0 → n ≡ rowsIn w → k ≡ placeIn w n 0 → PlacedPost d w (leb k (length d))
+unfolding placedIn pick
+placed-plain {w = w} B z en ek = record {
+  is = rw (eq-eqb (w / oneKind % 8192) 0 z) (rw (ek, en));
+  cells = λ e. placed-is B en ek (leb-true _ _ e);
+}
+
+pub placed-other : {d : Bytes} {w : ℕ} → (w / oneKind % 8192 ≡ 0 → ⊥) → PlacedPost d w false
+unfolding placedIn pick
+placed-other {w = w} z = record { is = rw (ne-eqb (w / oneKind % 8192) 0 z); cells = λ e. no (sym e) }
 
 -- what a header's answer says of the bytes
 pub found : (l : Bytes) {h : TableHeader} {n : ℕ} → headerGives h ≡ headerAt l → h ≡ Record n → (isTable l ≡ true) × (lengthOf l ≡ n)

@@ -1,7 +1,7 @@
 -- A table's description: the one word that the engine keeps of a table. Collection (2 bits), columns (4), rows (11), kind (1),
 -- subset of rows (12), and above them the position of the table's first cell in the data. Kind and subset have no meaning yet: 0.
 use mathlib.Core.Path.{_≡_}
-use mathlib.Core.Bool.{Bool, false}
+use mathlib.Core.Bool.{Bool, true, false}
 use mathlib.Core.List.{List}
 use Prim.Native.Nat.{ℕ, zero, suc, _+_, _*_, _/_, _%_, _≤_, _<_, _^_}
 use lib.Dec.{eqb, ltb, leb}
@@ -87,7 +87,12 @@ placedIn d w = pick (plainIn w) (leb (placeIn w (rowsIn w) 0) (length d)) false
 -- Every cell stands at its place in the data: all that a loop over cells asks of a table.
 pub record Placed (d : Bytes) (w : ℕ) : Type 0 where
   pub inside : {r c : ℕ} → r < rowsIn w → c < columnsIn w → placeIn w r c + 4 ≤ length d
+  pub low : {r c : ℕ} → r < rowsIn w → c < columnsIn w → four d (placeIn w r c) < 2 ^ 32
   pub cell : {r c : ℕ} → r < rowsIn w → c < columnsIn w → cellIn d w r c ≡ signed (four d (placeIn w r c))
+
+pub record PlacedPost (d : Bytes) (w : ℕ) (r : Bool) : Type 0 where
+  pub is : r ≡ placedIn d w
+  pub cells : r ≡ true → Placed d w
 
 -- "Bound of a number: a cell 2^31"
 pub record CellPost (d : Bytes) (w r c : ℕ) (z : ℤ) : Type 0 where

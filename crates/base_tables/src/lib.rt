@@ -5,7 +5,7 @@ ghost use lib.ListN.{length, getD};
 ghost use lib.IntN.{natAbs};
 ghost use Rattle.spec_encoding.specs.Record.{four, signed};
 ghost use Rattle.spec_encoding.specs.Data.{fits};
-ghost use Rattle.base_tables.specs.Description.{descriptionOf, collectionIn, columnsIn, rowsIn, presentIn, tableIn, descriptionIn, placeIn, placedIn, CellPost};
+ghost use Rattle.base_tables.specs.Description.{descriptionOf, collectionIn, columnsIn, rowsIn, presentIn, tableIn, descriptionIn, placeIn, PlacedPost, CellPost};
 ghost use Rattle.base_tables.specs.DataReader.{headerGives, headerAt, tableAt, ReadDataPost};
 use base_scratch::DESCRIPTIONS;
 use base_scratch::TABLES;
@@ -235,7 +235,7 @@ pub fn place(w: u64, r: usize, c: usize) -> usize
 // Whether the table that w describes is plain, and every cell of it stands at its place in the data. What a loop over cells asks
 // once, so that a table that is not plain costs those that are nothing.
 pub fn placed(data: &[u8], w: u64) -> bool
-    ensures { λ r. ⌜ r ≡ placedIn (now («data» .entry)) w ⌝ }
+    ensures { λ r. ⌜ PlacedPost (now («data» .entry)) w r ⌝ }
 {
     if w / ONE_KIND % 8192 == 0 {
         return place(w, rows(w), 0) <= data.len();

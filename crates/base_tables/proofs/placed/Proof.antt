@@ -1,4 +1,5 @@
 -- `base_tables::placed`: a plain table, and the place behind its last cell is not behind the data. Assumes nothing.
+use native.Mathlib.Omega.{arith}
 use borrow.Author.Needs.{needs}
 use Rattle.base_tables.proofs.ByteReaders.{placed-plain, placed-other}
 use Rattle.base_tables.proofs.placed.Statement.{statement}
@@ -10,5 +11,5 @@ placed-spec =
     (tie.spec
     (λ c κs. search needs)
     (λ c κs. search needs)
-    (λ c. placed-plain _ _ (c .before .before .if1 .taken) (c .before .rows .ensures) (c .place .ensures .0))
-    (λ c. placed-other _ _ (c .if1 .left)))
+    (λ c. placed-plain (λ i. omega (arith, c .before .before .before .shared-slice-known .given i)) (c .before .before .if1 .taken) (c .before .rows .ensures) (c .place .ensures .0))
+    (λ c. placed-other (c .if1 .left)))

@@ -1,0 +1,4 @@
+-- Laws of one column's cells.
+pub mod CellRange
+pub mod CellLine
+pub mod ColumnRows

@@ -1,0 +1,3 @@
+-- One column's cells on many rows.
+pub mod CellRange
+pub mod ColumnRows
