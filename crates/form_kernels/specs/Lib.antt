@@ -1,4 +1,3 @@
 -- Forms that on each row need nothing but its cells.
-pub mod PlainWords
 pub mod PlainForms
 pub mod Contract
