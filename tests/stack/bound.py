@@ -50,7 +50,7 @@ GROUPS = {
     'front_bounds': times(NESTED, ['form_size']),
     'loop_collect': loops,
     'loop_scalar': loops,
-    'plan_marks': lambda f: along(f, [['term', 'seats', 'clauses'], ['term', 'terms']], [['seats']]),
+    'plan_marks': lambda f: along(f, [['term', 'registers', 'clauses'], ['term', 'terms']], [['registers']]),
     'plan_links::term': lambda f: along(f, [['term', 'clauses']], [['clauses']]) + f('terms'),
     'plan_links::loops': times(NODES // 2, ['loops']),
     'plan_lines::ops': lambda f: along(f, [['inside', 'ops']], [['growers']]) + f('ops_upto'),
