@@ -15,6 +15,11 @@ use base_scratch::store;
 // "data is 0 to 8 such records"
 pub const MOST_TABLES: usize = 8;
 
+// "columns (1 to 8)", "rows (0 to 1,024)"
+const MOST_COLUMNS: usize = 8;
+
+pub const MOST_ROWS: usize = 1024;
+
 // What one of each field of a description counts for (specs/Description.antt).
 const ONE_COLUMN: u64 = 4;
 
@@ -121,10 +126,10 @@ fn well_formed(c: &[u8]) -> bool
     if columns < 1 {
         return false;
     }
-    if 8 < columns {
+    if MOST_COLUMNS < columns {
         return false;
     }
-    if 1024 < rows {
+    if MOST_ROWS < rows {
         return false;
     }
     c.len() == 4 + 4 * cells(columns, rows)

@@ -25,6 +25,7 @@ use front_nodes::Found;
 use front_nodes::QueryNode;
 use front_resolve::Form;
 use front_resolve::Head;
+use front_resolve::LEVELS;
 
 // The next place among the words of the normal form, and the next generator number.
 pub struct State {
@@ -172,7 +173,7 @@ fn split_of(f: Form, v: bool) -> Split
 }
 
 // The environment goes on into the copy of a comprehension that begins with number n.
-fn copy(h: Head, m: Monoid, v: bool, n: u64, env: &mut [u16; 32])
+fn copy(h: Head, m: Monoid, v: bool, n: u64, env: &mut [u16; LEVELS])
     requires { ⌜ (h .depth < levels) × (n ≤ limit) × (length (now env) ≡ levels) ⌝ }
     ensures { λ _. ⌜ Copies (under (now (env .entry)) h) m v n (now (env .exit)) ⌝ }
 {
@@ -180,7 +181,7 @@ fn copy(h: Head, m: Monoid, v: bool, n: u64, env: &mut [u16; 32])
 }
 
 // Node i as a term.
-fn emit(s: &mut [u64], i: usize, depth: usize, env: &[u16; 32], st: State) -> State
+fn emit(s: &mut [u64], i: usize, depth: usize, env: &[u16; LEVELS], st: State) -> State
     requires { ⌜ EmitPre (now s) i depth (now env) st × (length (now env) ≡ levels) ⌝ }
     ensures { λ r. ⌜ Emitted (semS (now (s .entry)) i depth (envOf (now (env .entry)))) (now (s .entry)) st (now (s .exit)) r ⌝ }
 {
@@ -205,7 +206,7 @@ fn heading_of(f: Form) -> Heading
     }
 }
 
-fn placed(s: &mut [u64], h: Head, env: &mut [u16; 32], st: State) -> State
+fn placed(s: &mut [u64], h: Head, env: &mut [u16; LEVELS], st: State) -> State
     requires { ⌜ TermOf (now s) (under (now env) h) st ⌝ }
     ensures { λ r. ⌜ Emitted (placeS (now (s .entry)) (under (now (env .entry)) h)) (now (s .entry)) st (now (s .exit)) r ⌝ }
 {
@@ -222,7 +223,7 @@ fn placed(s: &mut [u64], h: Head, env: &mut [u16; 32], st: State) -> State
 }
 
 // A record or an operator, whose word is of kind k with argument a.
-fn recorded(s: &mut [u64], h: Head, k: u64, a: u64, env: &[u16; 32], st: State) -> State
+fn recorded(s: &mut [u64], h: Head, k: u64, a: u64, env: &[u16; LEVELS], st: State) -> State
     requires { ⌜ TermOf (now s) (under (now env) h) st × Headed (h .form) k a ⌝ }
     ensures { λ r. ⌜ Emitted (placeS (now (s .entry)) (under (now (env .entry)) h)) (now (s .entry)) st (now (s .exit)) r ⌝ }
 {
@@ -233,7 +234,7 @@ fn recorded(s: &mut [u64], h: Head, k: u64, a: u64, env: &[u16; 32], st: State) 
 }
 
 // The terms of a record or an operator.
-fn fields(s: &mut [u64], h: Head, env: &[u16; 32], st: State) -> State
+fn fields(s: &mut [u64], h: Head, env: &[u16; LEVELS], st: State) -> State
     requires { ⌜ FieldsPre (now s) (under (now env) h) 0 st × Termed (h .form) ⌝ }
     ensures { λ r. ⌜ FieldsPost (fieldsS (now (s .entry)) (under (now (env .entry)) h) 0) (now (s .entry)) st (now (s .exit)) r ⌝ }
 {
@@ -252,7 +253,15 @@ fn fields(s: &mut [u64], h: Head, env: &[u16; 32], st: State) -> State
     }
 }
 
-fn binary(s: &mut [u64], h: Head, o: Op, a: usize, b: usize, env: &[u16; 32], st: State) -> State
+fn binary(
+    s: &mut [u64],
+    h: Head,
+    o: Op,
+    a: usize,
+    b: usize,
+    env: &[u16; LEVELS],
+    st: State,
+) -> State
     requires { ⌜ TermOf (now s) (under (now env) h) st × (h .form ≡ Two o a b) ⌝ }
     ensures { λ r. ⌜ Emitted (placeS (now (s .entry)) (under (now (env .entry)) h)) (now (s .entry)) st (now (s .exit)) r ⌝ }
 {
@@ -263,7 +272,7 @@ fn binary(s: &mut [u64], h: Head, o: Op, a: usize, b: usize, env: &[u16; 32], st
     r
 }
 
-fn negated(s: &mut [u64], h: Head, c: usize, env: &[u16; 32], st: State) -> State
+fn negated(s: &mut [u64], h: Head, c: usize, env: &[u16; LEVELS], st: State) -> State
     requires { ⌜ TermOf (now s) (under (now env) h) st × (h .form ≡ Not c) ⌝ }
     ensures { λ r. ⌜ Emitted (placeS (now (s .entry)) (under (now (env .entry)) h)) (now (s .entry)) st (now (s .exit)) r ⌝ }
 {
@@ -278,7 +287,7 @@ fn comprehension(
     h: Head,
     m: Monoid,
     k: usize,
-    env: &mut [u16; 32],
+    env: &mut [u16; LEVELS],
     st: State,
 ) -> State
     requires { ⌜ TermOf (now s) (under (now env) h) st × (h .form ≡ Comp m k) ⌝ }
@@ -292,7 +301,7 @@ fn comprehension(
 }
 
 // The qualifiers of a comprehension, in the copy that begins with the next number. The environment becomes that of the copy.
-fn copied(s: &mut [u64], h: Head, m: Monoid, v: bool, env: &mut [u16; 32], st: State) -> State
+fn copied(s: &mut [u64], h: Head, m: Monoid, v: bool, env: &mut [u16; LEVELS], st: State) -> State
     requires { ⌜ CopyOf (now s) (under (now env) h) m v st × IsComp m (h .form) ⌝ }
     ensures { λ r. ⌜ EmittedQ (nodesOf (now (s .entry))) (semS (now (s .entry))) (qualifiersOf (now (s .entry)) (h .node)) (suc (h .depth)) (copyEnv (under (now (env .entry)) h) m v (st .next)) (flagIn v m) (now (s .entry)) st (now (s .exit)) r × Copies (under (now (env .entry)) h) m v (st .next) (now (env .exit)) ⌝ }
 {
@@ -309,7 +318,7 @@ fn qualifiers(
     lo: usize,
     e: usize,
     depth: usize,
-    env: &[u16; 32],
+    env: &[u16; LEVELS],
     v: bool,
     st: State,
 ) -> State
@@ -326,7 +335,14 @@ fn qualifiers(
 }
 
 // One that writes nothing is not walked: there may be far more of them than words.
-fn qualifier(s: &mut [u64], x: usize, depth: usize, env: &[u16; 32], v: bool, st: State) -> State
+fn qualifier(
+    s: &mut [u64],
+    x: usize,
+    depth: usize,
+    env: &[u16; LEVELS],
+    v: bool,
+    st: State,
+) -> State
     requires { ⌜ QualifierPre (now s) x depth (now env) v st × (length (now env) ≡ levels) ⌝ }
     ensures { λ r. ⌜ QualifierPost (semS (now (s .entry))) (nodesOf (now (s .entry)) x) depth (envOf (now (env .entry))) v (now (s .entry)) st (now (s .exit)) r ⌝ }
 {
@@ -347,7 +363,7 @@ fn clause(
     s: &mut [u64],
     i: usize,
     depth: usize,
-    env: &[u16; 32],
+    env: &[u16; LEVELS],
     v: bool,
     ranging: bool,
     st: State,
@@ -384,7 +400,7 @@ fn clause(
 }
 
 // A place as a generator's term.
-fn source(s: &mut [u64], h: Head, v: bool, env: &mut [u16; 32], st: State) -> State
+fn source(s: &mut [u64], h: Head, v: bool, env: &mut [u16; LEVELS], st: State) -> State
     requires { ⌜ SourcePre (now s) (under (now env) h) v st ⌝ }
     ensures { λ r. ⌜ SourcePost (placeS (now (s .entry)) (under (now (env .entry)) h)) v (now (s .entry)) st (now (s .exit)) r ⌝ }
 {
@@ -396,7 +412,7 @@ fn source(s: &mut [u64], h: Head, v: bool, env: &mut [u16; 32], st: State) -> St
     }
 }
 
-fn single(s: &mut [u64], h: Head, env: &mut [u16; 32], st: State) -> State
+fn single(s: &mut [u64], h: Head, env: &mut [u16; LEVELS], st: State) -> State
     requires { ⌜ SinglePre (now s) (under (now env) h) st ⌝ }
     ensures { λ r. ⌜ SinglePost (placeS (now (s .entry)) (under (now (env .entry)) h)) (now (s .entry)) st (now (s .exit)) r ⌝ }
 {
@@ -411,7 +427,7 @@ pub fn write_form(s: &mut [u64], i: usize) -> usize
     requires { ⌜ Writable (now s) i ⌝ }
     ensures { λ r. ⌜ WriteFormPost (now (s .entry)) i (now (s .exit)) r ⌝ }
 {
-    let env: [u16; 32] = [0; 32];
+    let env: [u16; LEVELS] = [0; LEVELS];
     let r = emit(s, i, 0, &env, State { place: 0, next: 0 });
     r.place
 }

@@ -19,7 +19,9 @@ use base_syntax::Op;
 use front_nodes::Found;
 use front_nodes::QueryNode;
 use front_resolve::Form;
+use front_resolve::LEVELS;
 use front_sizes::FormSize;
+use front_sizes::TOO_MANY;
 
 // What is written where "some" stays, and where it gives way.
 pub struct Ways {
@@ -36,18 +38,18 @@ pub struct Weight {
     pub before: Ways,
 }
 
-// Counted to 513.
+// Counted to TOO_MANY.
 fn sum(a: u64, b: u64) -> u64
     ensures { λ r. ⌜ r ≡ min (a + b) limit ⌝ }
 {
-    if 513 <= a {
-        return 513;
+    if TOO_MANY <= a {
+        return TOO_MANY;
     }
-    if 513 <= b {
-        return 513;
+    if TOO_MANY <= b {
+        return TOO_MANY;
     }
     let c = a + b;
-    if c < 513 { c } else { 513 }
+    if c < TOO_MANY { c } else { TOO_MANY }
 }
 
 fn side(a: FormSize, b: FormSize) -> FormSize
@@ -249,7 +251,7 @@ fn test(s: &[u64], m: Monoid, a: FormSize, h: usize, c: FormSize) -> FormSize
 fn comp(s: &[u64], i: usize, m: Monoid, h: usize) -> Weight
     ensures { λ r. ⌜ r ≡ compAt (now (s .entry)) i (monoidOf m) h ⌝ }
 {
-    if 32 <= front_nodes::depth_at(s, i) {
+    if LEVELS <= front_nodes::depth_at(s, i) {
         return scalar(FormSize { size: 1, gens: 0 });
     }
     let a = row(s, front_nodes::depth_at(s, h), front_words::start_at(s, h));
@@ -338,7 +340,7 @@ fn form(s: &[u64], j: usize, f: Form) -> Weight
 fn followed(s: &[u64], i: usize) -> Weight
     ensures { λ r. ⌜ FollowedPost (now (s .entry)) i r ⌝ }
 {
-    let mut env: [u16; 32] = [0; 32];
+    let mut env: [u16; LEVELS] = [0; LEVELS];
     let r = front_resolve::resolve(s, i, front_nodes::depth_at(s, i), &mut env);
     let f = r.form;
     form(s, r.node, f)
@@ -402,7 +404,7 @@ pub fn measure(s: &mut [u64], n: usize)
 }
 
 // The size that is stored for the last of n nodes: once `measure` has run, how many nodes the question has in its normal
-// form, counted to 513.
+// form, counted to TOO_MANY.
 pub fn size(s: &[u64], n: usize) -> u64
     ensures { λ r. ⌜ r ≡ termCount (now (s .entry)) (n - 1) .size ⌝ }
 {

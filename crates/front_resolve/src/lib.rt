@@ -14,6 +14,10 @@ use base_syntax::Op;
 use front_nodes::Binder;
 use front_nodes::Found;
 use front_nodes::QueryNode;
+use front_sizes::TOO_MANY;
+
+// A question has at most so many levels.
+pub const LEVELS: usize = 32;
 
 // What is left of a node: no name, no field. A row is its generator's number, a cell a field of a row.
 pub enum Form {
@@ -51,15 +55,15 @@ fn wide(x: u16) -> u64
     x as u64
 }
 
-pub fn entry(env: &[u16; 32], d: usize) -> u64
+pub fn entry(env: &[u16; LEVELS], d: usize) -> u64
     requires { ⌜ length (now env) ≡ levels ⌝ }
     ensures { λ r. ⌜ r ≡ getD (now (env .entry)) d 0 ⌝ }
 {
-    if d < 32 { wide(env[d]) } else { 0 }
+    if d < LEVELS { wide(env[d]) } else { 0 }
 }
 
 // The copy whose first number is n.
-pub fn enter(env: &mut [u16; 32], d: usize, n: u64, v: bool)
+pub fn enter(env: &mut [u16; LEVELS], d: usize, n: u64, v: bool)
     requires { ⌜ (d < levels) × (n ≤ limit) ⌝ }
     ensures { λ _. ⌜ now (env .exit) ≡ set (now (env .entry)) d (2 * n + bit v) ⌝ }
 {
@@ -94,7 +98,7 @@ pub fn first_number(s: &[u64], x: usize, w: u64) -> u64
     ensures { λ r. ⌜ (r ≡ offsets (now (s .entry)) x (odd w) (w / 2)) × (r ≤ limit) ⌝ }
 {
     let n = w / 2 + front_sizes::offset(s, x, w % 2 == 1);
-    if n < 513 { n } else { 513 }
+    if n < TOO_MANY { n } else { TOO_MANY }
 }
 
 fn form_of(n: QueryNode, depth: usize) -> Form
@@ -109,7 +113,7 @@ fn form_of(n: QueryNode, depth: usize) -> Form
         QueryNode::Two(o, a, b) => Form::Two(o, a, b),
         QueryNode::Not(c) => Form::Not(c),
         QueryNode::Comp(m, h) => {
-            if 32 <= depth {
+            if LEVELS <= depth {
                 return Form::Bad;
             }
             Form::Comp(m, h)
@@ -124,7 +128,7 @@ fn form_of(n: QueryNode, depth: usize) -> Form
 }
 
 // What node i comes to. The environment becomes that of its head.
-pub fn resolve(s: &[u64], i: usize, depth: usize, env: &mut [u16; 32]) -> Head
+pub fn resolve(s: &[u64], i: usize, depth: usize, env: &mut [u16; LEVELS]) -> Head
     requires { ⌜ length (now env) ≡ levels ⌝ }
     ensures { λ r. ⌜ Heads (now (s .entry)) i depth (now (env .entry)) (under (now (env .exit)) r) ⌝ }
 {
@@ -144,7 +148,7 @@ pub fn resolve(s: &[u64], i: usize, depth: usize, env: &mut [u16; 32]) -> Head
 }
 
 // One step from node i: the walk calls itself only for what a field or a generator is of.
-fn step(s: &[u64], i: usize, depth: usize, env: &mut [u16; 32]) -> Next
+fn step(s: &[u64], i: usize, depth: usize, env: &mut [u16; LEVELS]) -> Next
     requires { ⌜ length (now env) ≡ levels ⌝ }
     ensures { λ r. ⌜ Stepped (now (s .entry)) i (now (env .exit)) (Heads (now (s .entry)) i depth (now (env .entry))) r ⌝ }
 {
@@ -173,7 +177,7 @@ fn step(s: &[u64], i: usize, depth: usize, env: &mut [u16; 32]) -> Next
 }
 
 // The name that node x binds, in a comprehension at depth d.
-fn follow(s: &[u64], x: usize, d: usize, env: &mut [u16; 32]) -> Next
+fn follow(s: &[u64], x: usize, d: usize, env: &mut [u16; LEVELS]) -> Next
     requires { ⌜ (d < 2 ^ 63) × (length (now env) ≡ levels) ⌝ }
     ensures { λ r. ⌜ Stepped (now (s .entry)) x (now (env .exit)) (FollowPost (now (s .entry)) x d (now (env .entry))) r ⌝ }
 {
@@ -193,7 +197,7 @@ fn follow(s: &[u64], x: usize, d: usize, env: &mut [u16; 32]) -> Next
 }
 
 // What a generator over h ranges through, from number n on.
-fn splice(s: &[u64], h: Head, v: bool, n: u64, env: &mut [u16; 32]) -> Next
+fn splice(s: &[u64], h: Head, v: bool, n: u64, env: &mut [u16; LEVELS]) -> Next
     requires { ⌜ Fine (now s) (under (now env) h) × (n ≤ limit) ⌝ }
     ensures { λ r. ⌜ Stepped (now (s .entry)) (h .node) (now (env .exit)) (SplicePost (now (s .entry)) (under (now (env .entry)) h) v n) r ⌝ }
 {

@@ -7,6 +7,16 @@ use base_scratch::SIZES;
 use base_scratch::load;
 use base_scratch::store;
 
+// A count of nodes, 512 being the most that are accepted; any more are these.
+pub const TOO_MANY: u64 = 513;
+
+// A pair is two counts; where the second and the third of a word's pairs begin.
+const COUNTS: u64 = 1024;
+
+const SECOND: u64 = 1048576;
+
+const THIRD: u64 = 1099511627776;
+
 // What something writes: its size and its generators. Of a qualifier's offsets: where "some" does not give way, where it does.
 pub struct FormSize {
     pub size: u64,
@@ -30,8 +40,8 @@ fn pair(w: u64) -> FormSize
     ensures { λ r. ⌜ r ≡ pairOf w ⌝ }
 {
     FormSize {
-        size: w % 1024,
-        gens: w / 1024 % 1024,
+        size: w % COUNTS,
+        gens: w / COUNTS % COUNTS,
     }
 }
 
@@ -47,9 +57,9 @@ pub fn condition_count(s: &[u64], i: usize, v: bool) -> FormSize
 {
     let w = word(s, i, 0);
     if v {
-        return pair(w / 1099511627776);
+        return pair(w / THIRD);
     }
-    pair(w / 1048576)
+    pair(w / SECOND)
 }
 
 pub fn spliced_count(s: &[u64], i: usize, v: bool) -> FormSize
@@ -57,7 +67,7 @@ pub fn spliced_count(s: &[u64], i: usize, v: bool) -> FormSize
 {
     let w = word(s, i, 1);
     if v {
-        return pair(w / 1048576);
+        return pair(w / SECOND);
     }
     pair(w)
 }
@@ -68,9 +78,9 @@ pub fn offset(s: &[u64], i: usize, v: bool) -> u64
 {
     let w = word(s, i, 1) / 1099511627776;
     if v {
-        return w / 1024 % 1024;
+        return w / COUNTS % COUNTS;
     }
-    w % 1024
+    w % COUNTS
 }
 
 // Three pairs as a word.
@@ -78,10 +88,10 @@ fn packed(a: FormSize, b: FormSize, c: FormSize) -> u64
     requires { ⌜ Small a × Small b × Small c ⌝ }
     ensures { λ r. ⌜ r ≡ pack a b c ⌝ }
 {
-    let low = a.size + 1024 * a.gens;
-    let mid = b.size + 1024 * b.gens;
-    let high = c.size + 1024 * c.gens;
-    low + 1048576 * (mid + 1048576 * high)
+    let low = a.size + COUNTS * a.gens;
+    let mid = b.size + COUNTS * b.gens;
+    let high = c.size + COUNTS * c.gens;
+    low + SECOND * (mid + SECOND * high)
 }
 
 // Node i gets word k. A store outside the scratch does nothing.
