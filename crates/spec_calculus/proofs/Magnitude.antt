@@ -20,7 +20,7 @@ abs-plus (pos a) (negsuc b) = abs-cond (ltb a (suc b)) (suc b - suc a) (a - suc 
 abs-plus (negsuc a) (pos b) = abs-cond (ltb b (suc a)) (suc a - suc b) (b - suc a) (suc a + b) (omega arith) (omega arith)
 abs-plus (negsuc a) (negsuc b) = omega arith
 
-abs-neg : (a : ℤ) → natAbs (negℤ a) ≤ natAbs a
+pub abs-neg : (a : ℤ) → natAbs (negℤ a) ≤ natAbs a
 abs-neg (pos zero) = omega arith
 abs-neg (pos (suc n)) = omega arith
 abs-neg (negsuc n) = omega arith
