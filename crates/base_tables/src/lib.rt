@@ -29,6 +29,13 @@ const ONE_KIND: u64 = 131072;
 
 const ONE_POSITION: u64 = 1073741824;
 
+// So many numbers of columns and rows has such a word; so many kinds with subsets, of which 0 alone is plain.
+const COLUMNS: u64 = 16;
+
+const ROWS: u64 = 2048;
+
+const NOT_PLAIN: u64 = 8192;
+
 // A whole record of kind 20 with the length of its content, or none.
 pub enum TableHeader {
     Record(usize),
@@ -174,13 +181,13 @@ pub fn collection(w: u64) -> u64
 pub fn columns(w: u64) -> usize
     ensures { λ r. ⌜ r ≡ columnsIn w ⌝ }
 {
-    (w / ONE_COLUMN % 16) as usize
+    (w / ONE_COLUMN % COLUMNS) as usize
 }
 
 pub fn rows(w: u64) -> usize
     ensures { λ r. ⌜ r ≡ rowsIn w ⌝ }
 {
-    (w / ONE_ROW % 2048) as usize
+    (w / ONE_ROW % ROWS) as usize
 }
 
 // Whether there is a table k.
@@ -242,7 +249,7 @@ pub fn place(w: u64, r: usize, c: usize) -> usize
 pub fn placed(data: &[u8], w: u64) -> bool
     ensures { λ r. ⌜ PlacedPost (now («data» .entry)) w r ⌝ }
 {
-    if w / ONE_KIND % 8192 == 0 {
+    if w / ONE_KIND % NOT_PLAIN == 0 {
         return place(w, rows(w), 0) <= data.len();
     }
     false

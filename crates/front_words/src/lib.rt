@@ -14,6 +14,19 @@ use base_scratch::load_at;
 use base_scratch::store;
 use base_scratch::store_at;
 
+// A node's word: kind, argument, the first node of its subtree, depth; so many of each, and where the last two begin.
+const KINDS: u64 = 32;
+
+const ARGUMENTS: u64 = 8589934592;
+
+const STARTS: u64 = 512;
+
+const DEPTHS: u64 = 64;
+
+const START_AT: u64 = 274877906944;
+
+const DEPTH_AT: u64 = 140737488355328;
+
 // The word of node i; 0 where the scratch has none.
 pub fn node_word(s: &[u64], i: usize) -> u64
     ensures { λ r. ⌜ r ≡ nodeWord (now (s .entry)) i ⌝ }
@@ -24,25 +37,25 @@ pub fn node_word(s: &[u64], i: usize) -> u64
 pub fn kind(w: u64) -> u64
     ensures { λ r. ⌜ r ≡ kindOf w ⌝ }
 {
-    w % 32
+    w % KINDS
 }
 
 pub fn arg(w: u64) -> u64
     ensures { λ r. ⌜ r ≡ argOf w ⌝ }
 {
-    w / 32 % 8589934592
+    w / KINDS % ARGUMENTS
 }
 
 pub fn start(w: u64) -> u64
     ensures { λ r. ⌜ r ≡ startOf w ⌝ }
 {
-    w / 274877906944 % 512
+    w / START_AT % STARTS
 }
 
 pub fn depth(w: u64) -> u64
     ensures { λ r. ⌜ r ≡ depthOf w ⌝ }
 {
-    w / 140737488355328 % 64
+    w / DEPTH_AT % DEPTHS
 }
 
 // Where the subtree of node i begins, which is where the node before it ends; i where the word says a later node.
@@ -58,7 +71,7 @@ pub fn packed(k: u64, a: u64, start: u64, depth: u64) -> u64
     requires { ⌜ (k < 32) × (a < 8589934592) × (start < 512) × (depth < 64) ⌝ }
     ensures { λ r. ⌜ r ≡ pack k a start depth ⌝ }
 {
-    k + 32 * (a + 8589934592 * (start + 512 * depth))
+    k + KINDS * (a + ARGUMENTS * (start + STARTS * depth))
 }
 
 // Node i gets its word. A store outside the scratch does nothing.
