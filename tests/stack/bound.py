@@ -4,7 +4,8 @@
 A frame is what a function takes below its caller: return address, pushes, `sub rsp`. Functions that call each other
 or themselves are a group; how often each can stand on the stack at once follows from document 01's sizes, and GROUPS
 says it. The bound of a call is the dearest way down the call graph, each group counted whole. Fails where a bound
-passes the figure that HEADER publishes, and where a group, or a function of one, is not in GROUPS. x86-64 only."""
+passes the figure that HEADER publishes, and where a group, or a function of one, is not in GROUPS. Prints each group's frames, and
+what they take in all, too. x86-64 only."""
 import re
 import subprocess
 import sys
@@ -30,9 +31,9 @@ def times(count, *lists):
 # the compiler puts in line takes nothing.
 def loops(f):
     collect, scalar = 'loop_collect::', 'loop_scalar::'
-    generators = [[collect + 'collect', collect + 'each'], [scalar + 'fold', scalar + 'rounds']]
+    generators = [[collect + 'collect', collect + 'each'], [scalar + 'fold', scalar + 'rounds', scalar + 'total']]
     record = [collect + name for name in ('write', 'flat', 'parts', 'part')]
-    total = [scalar + name for name in ('term', 'reduced', 'total')]
+    total = [scalar + name for name in ('term', 'reduced')]
     operand = [scalar + name for name in ('scalar', 'operand', 'term')]
     terms = [[collect + 'write'] + generators[0], record, total + generators[1], operand]
     return along(f, terms, generators) + sum(map(f, record + operand))
@@ -175,6 +176,10 @@ def main():
         needed, way = bound(call, call in ('dislogha_portion', 'dislogha_round'))
         print(f'{call:28} {needed:7} of {published}: {", ".join(way)}')
         over += needed > published
+    for members in sorted(set(group.values()), key=sorted):
+        if members and (key := rule(members)):
+            frames = ', '.join(f'{f.split("::")[1]} {functions[f]["frame"]}' for f in sorted(members))
+            print(f'  {key}: {frames}; {cost(key, False)} in all' + (f', {cost(key, True)} over any scratch' if key in ANY_WORDS else ''))
     for function in sorted(unknown):
         print('no rule for', function)
     return over > 0 or len(unknown) > 0 or len(functions) < 50
