@@ -22,15 +22,13 @@ use Rattle.plan_lines.specs.declared.Printed.{Printed}
 use Rattle.front_end.specs.LoadedQuestion.{Apart}
 use Rattle.front_end.specs.PrepareContract.{Accepts, PreparePost}
 use Rattle.front_end.specs.declared.Checked.the-variants as Checked
+use Rattle.exec_portions.proofs.PortionStep.{spares-then}
 use Rattle.engine.specs.Replies.{AdmittedBy, AdmitPost, Replies}
 use Rattle.engine.specs.declared.Admitted.{Admitted}
 use Rattle.engine.specs.declared.Admitted.the-variants as Admitted
 use Rattle.engine.specs.declared.Reply.{Reply}
 
 -- ---- scratch
-pub spares-then : {s t u : List ℕ} → Spares s t → Spares t u → Spares s u
-spares-then A B = record { long = B .long ∙ A .long; above = λ j h. B .above j h ∙ A .above j h }
-
 pub spares-all : (s : List ℕ) → Spares s s
 spares-all s = record { long = refl; above = λ j h. refl }
 

@@ -27,13 +27,14 @@ use Rattle.exec_portions.specs.UnfinishedQuestion.{idle, Unfinished, Continues,
 use Rattle.exec_portions.specs.UnfinishedQuestion as Un
 use Rattle.exec_portions.specs.declared.Progress.{Progress}
 use Rattle.exec_portions.specs.declared.Progress.the-variants as Progress
+use Rattle.exec_portions.proofs.PortionStep.{spares-then}
 use Rattle.engine.specs.Replies.{AdmitPost, Replies}
 use Rattle.engine.specs.Portions.{BeginPost, outside, refusal, Says, PortionPost, EndedPost}
 use Rattle.engine.specs.declared.Admitted.{Admitted}
 use Rattle.engine.specs.declared.Admitted.the-variants as Admitted
 use Rattle.engine.specs.declared.Reply.{Reply}
 use Rattle.engine.specs.declared.Portioned.{Portioned}
-use Rattle.engine.proofs.Calls.{spares-then, apart-spares, replied, accepts, refuses, check-scant, check-refused, check-accepted}
+use Rattle.engine.proofs.Calls.{apart-spares, replied, accepts, refuses, check-scant, check-refused, check-accepted}
 use Rattle.engine.proofs.Outcomes.{checks-only}
 
 -- ---- beginning
