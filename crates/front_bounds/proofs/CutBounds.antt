@@ -141,10 +141,6 @@ module _ {m : Sy.Monoid} {n a k b : ℕ} (I : Repeating m n a k b) where
   unfolding perGenerators
   repeating-last h = ap (λ (x : ℕ). perGenerators m x b) {x = 0} {y = k} (omega arith) ∙ I .is
 
--- ---- a number in the words is small
-pub small-number : {s : List ℕ} {i : ℕ} {z z′ : ℤ} → Looks s i (Number z) → z′ ≡ z → natAbs z′ < 2 ^ 50
-small-number H e = rw e (H .inside)
-
 -- ---- the size of a form, by its node
 -- a number's own bound is looked at besides what is in it
 checked-size : {b : ℕ} {u : Bool} {r : Size} (t : Form) → CheckedPost b u r → b ≡ cut (bound t) → within t ≡ (small t && u) → SizeOf t r

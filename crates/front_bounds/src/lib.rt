@@ -2,14 +2,14 @@
 ghost use mathlib.Core.Path.{_≡_};
 ghost use mathlib.Core.Bool.{_&&_};
 ghost use mathlib.Core.List.{[], _∷_};
-ghost use Prim.Native.Nat.{_+_, _*_, _^_, _<_, _≤_};
-ghost use lib.IntN.{natAbs};
+ghost use Prim.Native.Nat.{_+_, _*_, _≤_};
 ghost use Rattle.spec_normal_form.specs.Bound.{binBound, appBound};
 ghost use Rattle.base_syntax.specs.MonoidWord.{monoidOf};
 ghost use Rattle.base_syntax.specs.Numbers.{binOf, funOf};
 ghost use Rattle.base_scratch.specs.Map.{formWords};
 ghost use Rattle.front_bounds.specs.CutBounds.{cut, perGenerator, perGenerators, perHead, CheckedPost, UnboundedPost, FormSizePost, ClausesSizePost, RecordFitsPost, TermSizePost, OperatorSizePost, BoundFitsPost};
 use base_signed::NUMBER_LIMIT;
+use base_signed::magnitude;
 use base_syntax::Fun;
 use base_syntax::Monoid;
 use base_syntax::Op;
@@ -26,13 +26,6 @@ const OVER: u64 = NUMBER_LIMIT + 1;
 pub struct Size {
     pub bound: u64,
     pub fits: bool,
-}
-
-fn magnitude(z: i64) -> u64
-    requires { ⌜ natAbs z < 2 ^ 50 ⌝ }
-    ensures { λ r. ⌜ r ≡ natAbs z ⌝ }
-{
-    if z < 0 { (-z) as u64 } else { z as u64 }
 }
 
 // Sums and products stop at 2^62 + 1, so they never wrap and still tell what is over 2^62.

@@ -7,7 +7,7 @@ use mir.Facts.{toZ-ofZ}
 use Rattle.base_signed.proofs.SignedWords.{fits}
 use Rattle.form_words.specs.FormTree.{left}
 use Rattle.form_words.proofs.NodeWords.{recast, recastC, next-past}
-use Rattle.front_bounds.proofs.CutBounds.{small-number, size-number, size-truth, size-row, size-cell, size-record, size-binary, size-negation, size-comprehension, size-operator, operator-terms, left-after, term-none, term-some, size-generator, size-condition, size-nothing, Sizing, sizing-first, sizing-generator, sizing-condition, sizing-head, Fitting, fitting-first, fitting-again, fitting-last}
+use Rattle.front_bounds.proofs.CutBounds.{size-number, size-truth, size-row, size-cell, size-record, size-binary, size-negation, size-comprehension, size-operator, operator-terms, left-after, term-none, term-some, size-generator, size-condition, size-nothing, Sizing, sizing-first, sizing-generator, sizing-condition, sizing-head, Fitting, fitting-first, fitting-again, fitting-last}
 use borrow.Fn.Kinds.{In}
 use borrow.Fn.PlainCycle.{Measures, is, falls, and}
 use Rattle.front_bounds.proofs.clauses_size.Reads as clauses-size
@@ -28,7 +28,7 @@ use Rattle.front_bounds.proofs.+clauses_size+form_size+operator_size+re
 use Rattle.front_bounds.proofs.binary_bound.Reads as binary-bound-reads
 use Rattle.front_bounds.proofs.both.Reads as both-reads
 use Rattle.front_bounds.proofs.checked.Reads as checked-reads
-use Rattle.front_bounds.proofs.magnitude.Reads as magnitude-reads
+use Rattle.base_signed.proofs.magnitude.Reads as magnitude-reads
 use Rattle.front_bounds.proofs.operator_bound.Reads as operator-bound-reads
 use Rattle.front_bounds.proofs.generators_bound.Reads as generators-bound-reads
 use Rattle.front_bounds.proofs.per_head.Reads as per-head-reads
@@ -122,7 +122,7 @@ pub +clauses-size+form-size+operator-size+record-fits+term-size-spec : {M : Type
     (λ t. form-size-lts.spec (look-reads.Asked, look-reads.Learnt, magnitude-reads.Asked, magnitude-reads.Learnt, checked-reads.Asked, checked-reads.Learnt, unbounded-reads.Asked, unbounded-reads.Learnt, record-fits-below t, record-fits.Post, form-size-below t, form-size.Post, binary-bound-reads.Asked, binary-bound-reads.Learnt, both-reads.Asked, both-reads.Learnt, clauses-size-below t, clauses-size.Post, operator-size-below t, operator-size.Post) (form-size-at t) form-size.Post
     (λ c κs. search needs)
     (λ c. search needs)
-    (λ c κs. small-number (recast (c .before .before .before .look .ensures) (c .before .z .given .1)) (toZ-ofZ (fits (c .known-told .given .0 .1))))
+    (λ c κs. search needs)
     (λ c κs. search needs)
     (λ c. search needs)
     (λ c κs. search needs)
