@@ -19,7 +19,7 @@ const KINDS: u64 = 32;
 
 const ARGUMENTS: u64 = 8589934592;
 
-const STARTS: u64 = 512;
+const FIRSTS: u64 = 512;
 
 const DEPTHS: u64 = 64;
 
@@ -49,7 +49,7 @@ pub fn arg(w: u64) -> u64
 pub fn start(w: u64) -> u64
     ensures { λ r. ⌜ r ≡ startOf w ⌝ }
 {
-    w / START_AT % STARTS
+    w / START_AT % FIRSTS
 }
 
 pub fn depth(w: u64) -> u64
@@ -71,7 +71,7 @@ pub fn packed(k: u64, a: u64, start: u64, depth: u64) -> u64
     requires { ⌜ (k < 32) × (a < 8589934592) × (start < 512) × (depth < 64) ⌝ }
     ensures { λ r. ⌜ r ≡ pack k a start depth ⌝ }
 {
-    k + KINDS * (a + ARGUMENTS * (start + STARTS * depth))
+    k + KINDS * (a + ARGUMENTS * (start + FIRSTS * depth))
 }
 
 // Node i gets its word. A store outside the scratch does nothing.
