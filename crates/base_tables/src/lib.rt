@@ -18,7 +18,7 @@ pub const MOST_TABLES: usize = 8;
 // "columns (1 to 8)", "rows (0 to 1,024)"
 const MOST_COLUMNS: usize = 8;
 
-pub const MOST_ROWS: usize = 1024;
+pub const TABLE_ROWS: usize = 1024;
 
 // What one of each field of a description counts for (specs/Description.antt).
 const ONE_COLUMN: u64 = 4;
@@ -34,7 +34,7 @@ const COLUMNS: u64 = 16;
 
 const ROWS: u64 = 2048;
 
-const NOT_PLAIN: u64 = 8192;
+const KINDS_AND_SUBSETS: u64 = 8192;
 
 // A whole record of kind 20 with the length of its content, or none.
 pub enum TableHeader {
@@ -136,7 +136,7 @@ fn well_formed(c: &[u8]) -> bool
     if MOST_COLUMNS < columns {
         return false;
     }
-    if MOST_ROWS < rows {
+    if TABLE_ROWS < rows {
         return false;
     }
     c.len() == 4 + 4 * cells(columns, rows)
@@ -249,7 +249,7 @@ pub fn place(w: u64, r: usize, c: usize) -> usize
 pub fn placed(data: &[u8], w: u64) -> bool
     ensures { λ r. ⌜ PlacedPost (now («data» .entry)) w r ⌝ }
 {
-    if w / ONE_KIND % NOT_PLAIN == 0 {
+    if w / ONE_KIND % KINDS_AND_SUBSETS == 0 {
         return place(w, rows(w), 0) <= data.len();
     }
     false
