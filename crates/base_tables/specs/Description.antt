@@ -71,14 +71,13 @@ unfoldable pub descriptionIn : List ℕ → ℕ → ℕ
 descriptionIn s zero = 0
 descriptionIn s (suc k) = tableIn s k
 
--- the cell in row r and column c; 0 outside
-unfoldable pub cellIn : Bytes → ℕ → ℕ → ℕ → ℤ
-cellIn d w r c =
-    pick (ltb r (rowsIn w)) (pick (ltb c (columnsIn w)) (signed (four d (positionIn w + 4 * (columnsIn w * r + c)))) (pos 0)) (pos 0)
-
 -- where the cell in row r and column c stands
 abbrev pub placeIn : ℕ → ℕ → ℕ → ℕ
 placeIn w r c = positionIn w + 4 * (columnsIn w * r + c)
+
+-- that cell; 0 outside
+unfoldable pub cellIn : Bytes → ℕ → ℕ → ℕ → ℤ
+cellIn d w r c = pick (ltb r (rowsIn w)) (pick (ltb c (columnsIn w)) (signed (four d (placeIn w r c))) (pos 0)) (pos 0)
 
 -- a plain table whose last cell is not behind the data
 unfoldable pub placedIn : Bytes → ℕ → Bool
