@@ -244,6 +244,13 @@ pub fn place(w: u64, r: usize, c: usize) -> usize
     (w / ONE_POSITION) as usize + 4 * (cells(columns(w), r) + c)
 }
 
+// How far behind a cell the one below it stands: a row's bytes.
+pub fn stride(w: u64) -> usize
+    ensures { λ n. ⌜ n ≡ 4 * columnsIn w ⌝ }
+{
+    4 * columns(w)
+}
+
 // Whether the table that w describes is plain, and every cell of it stands at its place in the data. What a loop over cells asks
 // once, so that a table that is not plain costs those that are nothing.
 pub fn placed(data: &[u8], w: u64) -> bool
