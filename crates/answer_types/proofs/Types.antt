@@ -25,7 +25,7 @@ use Rattle.form_words.specs.Look.{Looks, LooksC}
 use Rattle.form_words.specs.HeadPlace.{headNode}
 use Rattle.form_words.proofs.NodeWords.{look-out, next-past, formNode, form-is, head-is, head-node-is, forms-end, forms-more}
 use Rattle.base_tables.specs.Description.{columnsIn, descriptionIn}
-use Rattle.form_env.specs.Environment.{slotOf}
+use Rattle.form_env.specs.Environment.{slotOf, rowSpan}
 use Rattle.answer_types.specs.declared.CollectionKind.{CollectionKind}
 use Rattle.answer_types.specs.declared.Layout.{Layout}
 use Rattle.answer_types.specs.declared.ValueType.{ValueType}
@@ -35,9 +35,9 @@ use Rattle.answer_types.specs.Shape.{typeOf, typesOf, typeAt, typesAt, i
 use Rattle.answer_types.specs.FlatTypes.{Flat, FlatEach, widthOf, widthEach}
 
 -- ---- columns
-pub columns-is : (s : List ℕ) (g : ℕ) {e w r : ℕ} → e ≡ slotOf s g → w ≡ descriptionIn s (e / 2048) → r ≡ columnsIn w → r ≡ columns s g
+pub columns-is : (s : List ℕ) (g : ℕ) {e n w r : ℕ} → e ≡ slotOf s g → n ≡ e / rowSpan → w ≡ descriptionIn s n → r ≡ columnsIn w → r ≡ columns s g
 unfolding columns
-columns-is s g p q h = h ∙ ap columnsIn (q ∙ ap (λ (x : ℕ). descriptionIn s (x / 2048)) p)
+columns-is s g p t q h = h ∙ ap columnsIn (q ∙ ap (descriptionIn s) (t ∙ ap (λ (x : ℕ). x / rowSpan) p))
 
 -- ---- clauses and heads
 module _ {s : List ℕ} {j : ℕ} where

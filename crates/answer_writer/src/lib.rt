@@ -13,8 +13,9 @@ use base_tables::description;
 use base_tables::rows;
 use form_arith::Sort;
 use form_arith::result;
-use form_env::ROWS;
 use form_env::slot;
+use form_env::slot_row;
+use form_env::slot_table;
 use form_words::arg;
 use form_words::kind;
 use form_words::low;
@@ -94,9 +95,9 @@ pub fn shape_at(s: &[u64], i: usize) -> WriteForm
 pub fn row(s: &[u64], data: &[u8], out: &mut [i64], limit: usize, g: usize, p: usize) -> usize
     ensures { λ r. ⌜ RowPost (now («data» .entry)) (now (s .entry)) limit (now (out .entry)) g p (now (out .exit)) r ⌝ }
 {
-    let e = slot(s, g) as usize;
-    let w = description(s, e / ROWS);
-    let r = e % ROWS;
+    let e = slot(s, g);
+    let w = description(s, slot_table(e));
+    let r = slot_row(e);
     if rows(w) <= r {
         return put(out, limit, p, 0);
     }
