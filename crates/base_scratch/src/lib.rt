@@ -36,7 +36,7 @@ pub const FORM: usize = SIZES + 2 * MOST_NODES;
 
 pub const FORM_WORDS: usize = 512;
 
-// A generator is two words of the form.
+// A generator is two nodes of the form, itself and its table, and one word.
 pub const MOST_GENERATORS: usize = FORM_WORDS / 2;
 
 // From the normal form on: each generator's table and row. The question's words are dead by then.
