@@ -167,3 +167,7 @@ upd-miss x a ρ y h = go (eqb x y) refl
     go : (b : Bool) → eqb x y ≡ b → upd x a ρ y ≡ ρ y
     go true p = let e : x ≡ y = eqb→eq x y (rw p tt) in absurd (omega arith)
     go false p = upd-other x a ρ y p
+
+pub append-one : {A : Type 0} (l : List A) (a : A) (m : List A) → l ++ a ∷ m ≡ (l ++ a ∷ []) ++ m
+append-one [] a m = refl
+append-one (b ∷ l) a m = ap (λ k. b ∷ k) (append-one l a m)

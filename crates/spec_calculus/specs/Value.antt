@@ -2,7 +2,7 @@
 use mathlib.Core.List.{List, [], _∷_}
 use mathlib.Core.Bool.{Bool, false, _&&_, _||_}
 use Prim.Native.Nat.{ℕ, zero, suc}
-use lib.Dec.{eqb}
+use lib.Dec.{eqb, leb}
 use lib.IntN.{ℤ, pos, negsuc, _+ℤ_, _-ℤ_, _*ℤ_}
 use lib.Signed.{ltZ}
 use lib.ListN.{getD}
@@ -100,24 +100,35 @@ choiceV c v w = scalar (pick (asBool c) v w)
 unfoldable pub appV : Fun → Values → Value
 appV choice vs = choiceV (nth 0 vs) (nth 1 vs) (nth 2 vs)
 
--- "A table is .. one byte of collection .., one byte of columns .., rows .., then the cells row by row": each row a record
+-- "A table is .. one byte of collection .., one byte of columns .., rows .., then the cells row by row": each row a record. "Between its row count
+-- and its cells a table record now holds one .. bound per column" (document 02, E5)
 pub record Table : Type 0 where
   pub kind : Collection
   pub columns : ℕ
+  pub bounds : List ℕ
   pub rows : List Value
 
--- "a table's number is its position from 0"; a number past the last (25) reads as a table without rows
+-- "The number is written as one byte, 0 to 7"; "numbers may be skipped" (document 02, E9): each table at its number, and where no record has that number
+-- a table without columns and rows
 abbrev pub Tables : Type 0
 Tables = List Table
 
 abbrev pub noTable : Table
-noTable = record { kind = list; columns = 0; rows = [] }
+noTable = record { kind = list; columns = 0; bounds = []; rows = [] }
 
 unfoldable pub kindOf : Tables → ℕ → Collection
 kindOf T k = getD T k noTable .kind
 
 unfoldable pub columnsOf : Tables → ℕ → ℕ
 columnsOf T k = getD T k noTable .columns
+
+-- whether there is a table k, which has "columns (1 to 8)": "naming an absent number is 25" (document 02, E9)
+unfoldable pub isThere : Tables → ℕ → Bool
+isThere T k = leb 1 (columnsOf T k)
+
+-- the bound that column i of table k declares
+unfoldable pub boundOf : Tables → ℕ → ℕ → ℕ
+boundOf T k i = getD (getD T k noTable .bounds) i 0
 
 unfoldable pub rowsOf : Tables → ℕ → List Value
 rowsOf T k = getD T k noTable .rows

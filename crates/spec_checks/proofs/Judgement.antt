@@ -3,12 +3,10 @@ use mathlib.Core.Path.{_≡_, refl, sym, ap}
 use mathlib.Core.Bool.{Bool, true, false, true≢false}
 use Prim.Native.Nat.{ℕ}
 use native.Mathlib.Omega.{arith}
-use lib.Dec.{ltb}
-use lib.ListN.{length}
 use Rattle.spec_calculus.specs.Lists.{pick, upd}
 use Rattle.spec_calculus.specs.Syntax.{Collection, Monoid, of, sum, max, min, some, all, Bin, plus, minus, times, equal, less, and, or, Fun, choice, Term, Terms, Quals, num, name, field, rec, bin, negate, app, comp, table, tnil, tcons, qnil, gen, bind, cond, Question, asTerm}
 use Rattle.spec_calculus.specs.Syntax as Sy
-use Rattle.spec_calculus.specs.Value.{Tables, kindOf, columnsOf}
+use Rattle.spec_calculus.specs.Value.{Tables, kindOf, columnsOf, isThere}
 use Rattle.spec_checks.specs.Types.{Ty, Tys, number, truth, record′, coll, ynil, ycons, Typed, wrong, has, Typeds, wrongs, hass, cells, typeAt, fieldType, ofNumber, ofTruth, binType, gathers, compType, ranges, typedAs, allTyped, ofThree, choiceType, appType, record″, consType, Context, typeOf, typesOf, typeOfQ, mayStand, isTyped, generatorsFit}
 
 -- "Arithmetic, equal and less take numbers; and, or, not and conditions take truths"
@@ -60,7 +58,7 @@ abbrev mutual
   Has T Γ (bin o s t) τ = Has T Γ s (operand o) × Has T Γ t (operand o) × (τ ≡ result o)
   Has T Γ (negate t) τ = Has T Γ t truth × (τ ≡ truth)
   Has T Γ (comp m qs h) τ = (Δ : Context) × (σ : Ty) × HasQ T m Γ qs Δ × Has T Δ h σ × Gathers m σ τ
-  Has T Γ (table k) τ = (ltb k (length T) ≡ true) × (τ ≡ coll (kindOf T k) (record′ (cells (columnsOf T k))))
+  Has T Γ (table k) τ = (isThere T k ≡ true) × (τ ≡ coll (kindOf T k) (record′ (cells (columnsOf T k))))
 
   pub HasL : Tables → Context → Terms → Tys → Type 0
   HasL T Γ tnil us = us ≡ ynil
@@ -217,7 +215,7 @@ mutual
       (b .0, a .0, b .1, typed T h (b .0) (a .0) (b .2), a .2)
   typed T (table k) Γ τ e =
       let σ = coll (kindOf T k) (record′ (cells (columnsOf T k))) in
-      let a = picked (ltb k (length T)) (has σ) τ e in
+      let a = picked (isThere T k) (has σ) τ e in
       (a .0, same-type σ τ (a .1))
 
   typeds : (T : Tables) (ts : Terms) (Γ : Context) (us : Tys) → typesOf mayStand T ts Γ ≡ hass us → HasL T Γ ts us

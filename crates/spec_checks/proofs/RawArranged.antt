@@ -16,7 +16,7 @@ use Rattle.spec_calculus.proofs.Folds.{canon, Eqv, eqv-bind, eqv-guard, fold-eq
 use Rattle.spec_checks.specs.Types.{Ty, Tys, truth, record′, coll, wrong, has, cells, Context, typeOf, mayStand, generatorsFit}
 use Rattle.spec_checks.proofs.GeneratorFits.{fit-eqv}
 use Rattle.spec_checks.proofs.Judgement.{operand, Gathers, Has, HasL, HasQ, untyped, typed, question-typed}
-use Rattle.spec_checks.proofs.Refold.{onParts, refold, refolds, arrangeAs, gathered, bin-refold, gives, takes-gives, app-refold, fold-refold, field-refold, elems-refold, rows-kept}
+use Rattle.spec_checks.proofs.Refold.{onParts, refold, refolds, arrangeAs, gathered, bin-refold, takes-gives, app-refold, fold-refold, field-refold, elems-refold, rows-kept}
 
 gathers-type : (m : Monoid) (s t : Ty) → Gathers m s t → t ≡ gathered m s
 unfolding gathered

@@ -2,18 +2,17 @@
 use mathlib.Core.Path.{_≡_, refl, ap, ap₂, fun-ext}
 use mathlib.Core.Bool.{Bool}
 use Prim.Native.Nat.{ℕ}
-use lib.Dec.{ltb}
-use lib.ListN.{length}
+use lib.Dec.{leb}
 use Rattle.spec_calculus.specs.Lists.{pick, upd}
 use Rattle.spec_calculus.specs.Syntax.{Collection, Monoid, Term, Terms, Quals, num, truth, name, field, rec, bin, negate, app, comp, table, tnil, tcons, qnil, gen, bind, cond}
-use Rattle.spec_calculus.specs.Value.{Tables, kindOf, columnsOf}
+use Rattle.spec_calculus.specs.Value.{Tables, kindOf, columnsOf, isThere}
 use Rattle.spec_checks.specs.Types.{Typed, has, wrong, record′, coll, cells, fieldType, ofTruth, binType, compType, ranges, typedAs, allTyped, appType, record″, consType, Context, typeOf, typesOf, typeOfQ}
 use Rattle.spec_checks.specs.Types as Types
 
--- 25 and 26 look at how many tables there are, at their collections and at their columns.
-module _ (J : Collection → Monoid → Bool) (T U : Tables) (n : length T ≡ length U) (kinds : (k : ℕ) → kindOf T k ≡ kindOf U k) (columns : (k : ℕ) → columnsOf T k ≡ columnsOf U k) where
+-- 25 and 26 look at the tables' collections and columns, and by these at which tables there are.
+module _ (J : Collection → Monoid → Bool) (T U : Tables) (kinds : (k : ℕ) → kindOf T k ≡ kindOf U k) (columns : (k : ℕ) → columnsOf T k ≡ columnsOf U k) where
   mutual
-    unfolding typeOf
+    unfolding typeOf isThere
 
     pub type-same : (t : Term) (Γ : Context) → typeOf J T t Γ ≡ typeOf J U t Γ
     type-same (num z) Γ = refl
@@ -25,7 +24,7 @@ module _ (J : Collection → Monoid → Bool) (T U : Tables) (n : length T ≡ l
     type-same (bin o s t) Γ = ap₂ (binType o) (type-same s Γ) (type-same t Γ)
     type-same (negate t) Γ = ap (λ x. ofTruth x (has Types.truth)) (type-same t Γ)
     type-same (comp m qs h) Γ = ap (compType m) (typeQ-same m qs (λ Δ. typeOf J T h Δ) (λ Δ. typeOf J U h Δ) (λ Δ. type-same h Δ) Γ)
-    type-same (table k) Γ = ap₂ (λ a s. pick (ltb k a) (has s) wrong) n (ap₂ (λ c w. coll c (record′ (cells w))) (kinds k) (columns k))
+    type-same (table k) Γ = ap₂ (λ c w. pick (leb 1 w) (has (coll c (record′ (cells w)))) wrong) (kinds k) (columns k)
 
     types-same : (ts : Terms) (Γ : Context) → typesOf J T ts Γ ≡ typesOf J U ts Γ
     types-same tnil Γ = refl

@@ -1,12 +1,10 @@
 -- Types. "25: a type, field or table that does not fit. 26: a generator its monoid may not have."
 use mathlib.Core.Bool.{Bool, true, false}
 use Prim.Native.Nat.{ℕ, zero, suc}
-use lib.Dec.{ltb}
-use lib.ListN.{length}
 use Rattle.spec_calculus.specs.Lists.{pick, upd}
 use Rattle.spec_calculus.specs.Syntax.{Collection, list, bag, set, Monoid, of, sum, max, min, some, all, Bin, plus, minus, times, equal, less, and, or, Fun, choice, Term, Terms, Quals, num, name, field, rec, bin, negate, app, comp, table, tnil, tcons, qnil, gen, bind, cond, Question, asTerm}
 use Rattle.spec_calculus.specs.Syntax as Sy
-use Rattle.spec_calculus.specs.Value.{Tables, kindOf, columnsOf}
+use Rattle.spec_calculus.specs.Value.{Tables, kindOf, columnsOf, isThere}
 
 mutual
   pub data Ty : Type 0 where
@@ -142,7 +140,7 @@ unfoldable mutual
   typeOf J T (bin o s t) Γ = binType o (typeOf J T s Γ) (typeOf J T t Γ)
   typeOf J T (negate t) Γ = ofTruth (typeOf J T t Γ) (has truth)
   typeOf J T (comp m qs h) Γ = compType m (typeOfQ J T m qs (λ Δ. typeOf J T h Δ) Γ)
-  typeOf J T (table k) Γ = pick (ltb k (length T)) (has (coll (kindOf T k) (record′ (cells (columnsOf T k))))) wrong
+  typeOf J T (table k) Γ = pick (isThere T k) (has (coll (kindOf T k) (record′ (cells (columnsOf T k))))) wrong
 
   pub typesOf : (Collection → Monoid → Bool) → Tables → Terms → Context → Typeds
   typesOf J T tnil Γ = hass ynil

@@ -1,11 +1,12 @@
--- Reading refuses by no number but its own: data by 11, 12 and 13, a question by 21, 22 and 23.
+-- Reading refuses by no number but its own: data by 11, 12, 13, 43, 50 and 51, a question by 21, 22 and 23.
 use mathlib.Core.List.{[], _∷_}
 use mathlib.Core.Bool.{Bool, true, false}
 use Prim.Native.Nat.{ℕ, zero, suc}
 use lib.ListN.{getD, drop}
 use Rattle.spec_calculus.specs.Syntax.{Monoid, Term, Question, tnil}
+use Rattle.spec_calculus.specs.Value.{Tables}
 use Rattle.spec_encoding.specs.Record.{Bytes, Result, refused, got, andThen, require, kindOf, contentOf, behind}
-use Rattle.spec_encoding.specs.Data.{tablesFrom, readData}
+use Rattle.spec_encoding.specs.Data.{tablesFrom, noTables, readData}
 use Rattle.spec_encoding.specs.Reader.{Kind, number, truthK, nameK, fieldK, record′, not, choiceK, tableK, comprehension, generator, binding, condition, unknown, two-terms, monoids, Part, term, generates, binds, holds, Step, Read, Reader, noMore, asTerm, oneTerm, filled, terms, inFront, onPart, parts, comprehends, named, content, atRecord, readPart, readQuestion}
 
 -- a result that, where it is a refusal, is one by a number of P
@@ -23,17 +24,22 @@ unfolding require
 only-require P n true r p h = h
 only-require P n false r p h = p
 
-module _ (P : ℕ → Type 0) (p11 : P 11) (p12 : P 12) (p13 : P 13) where
-  tables-only : (n : ℕ) (l : Bytes) → Only P (tablesFrom n l)
+module _ (P : ℕ → Type 0) (p11 : P 11) (p12 : P 12) (p13 : P 13) (p43 : P 43) (p50 : P 50) (p51 : P 51) where
+  tables-only : (n : ℕ) (T : Tables) (l : Bytes) → Only P (tablesFrom n T l)
   unfolding tablesFrom
-  tables-only zero [] = tt
-  tables-only zero (b ∷ l) = p13
-  tables-only (suc n) [] = tt
-  tables-only (suc n) (b ∷ l) = only-require P 11 _ _ p11 (only-require P 12 _ _ p12 (only-then P (tablesFrom n (behind (b ∷ l))) _ (tables-only n (behind (b ∷ l))) (λ T. tt)))
+  tables-only zero T [] = tt
+  tables-only zero T (b ∷ l) = p13
+  tables-only (suc n) T [] = tt
+  tables-only (suc n) T (b ∷ l) =
+      only-require P 11 _ _ p11
+      (only-require P 12 _ _ p12
+      (only-require P 50 _ _ p50
+      (only-require P 51 _ _ p51
+      (only-require P 43 _ _ p43 (tables-only n _ (behind (b ∷ l)))))))
 
   pub data-only : (d : Bytes) → Only P (readData d)
   unfolding readData
-  data-only d = tables-only 8 d
+  data-only d = tables-only 8 noTables d
 
 module _ (P : ℕ → Type 0) (p21 : P 21) (p22 : P 22) (p23 : P 23) where
   no-more : (A : Type 0) (l : Bytes) → Only P (noMore {A = A} l)

@@ -8,21 +8,23 @@ use native.Mathlib.Nat.{le-refl, le-trans, mul-le-mul, mul-le-mul-right, mul-com
 use native.Mathlib.Numerals.{one-add}
 use native.Mathlib.Omega.{arith}
 use borrow.Author.Tests.{leb-true, leb-false}
-use lib.Dec.{eqb, leb}
+use lib.Dec.{eqb, leb, eqb→eq}
 use lib.IntN.{pos, natAbs}
 use lib.ListN.{getD, length, length-append}
 use Rattle.spec_calculus.specs.Lists.{bindL, guard, pick, upd}
 use Rattle.spec_calculus.specs.Syntax.{Monoid, of, sum, max, min, some, all, Bin, plus, minus, times, equal, less, and, or, Fun, choice}
-use Rattle.spec_calculus.specs.Value.{Value, Values, nth, scalar, choiceV, appV, junk, asInt, asBool, fieldOf, binV, notV, Tables, columnsOf, rowsOf}
+use Rattle.spec_calculus.specs.Value.{Value, Values, nth, scalar, choiceV, appV, junk, asInt, asBool, fieldOf, binV, notV, Tables, columnsOf, boundOf, rowsOf}
 use Rattle.spec_calculus.specs.Value as Va
 use Rattle.spec_calculus.specs.Monoid.{start, greater, lesser, Entry, step, total, finish, Fold, foldBy}
 use Rattle.spec_calculus.specs.Meaning.{Env}
-use Rattle.spec_calculus.proofs.Lists.{All, all-bind, all-front, all-behind, all-guard}
+use Rattle.spec_calculus.proofs.Lists.{All, all-zip, all-imp, all-bind, all-front, all-behind, all-guard}
 use Rattle.spec_calculus.proofs.Magnitude.{abs-plus, abs-minus, abs-times, abs-greater, abs-lesser, abs-against}
-use Rattle.spec_calculus.proofs.WellFormed.{Row, cell-small, row-no-number, WellFormed, rows-at-most, rows-well-formed}
+use Rattle.spec_calculus.proofs.WellFormed.{Row, CellsWithin, row-no-number, WellFormed, rows-at-most, rows-well-formed, rows-in-bounds}
 use Rattle.spec_calculus.proofs.Truths.{both}
 use Rattle.spec_normal_form.specs.Form.{Form, Forms, Clauses, NormalForm, asForm, num, truth, row, cell, rec, bin, negate, app, comp, fnil, fcons, done, gen, cond, value, values, loops}
-use Rattle.spec_normal_form.specs.Bound.{ownGens, binBound, larger, appBound, compBound, bound, bounds, within, withinF, withinC, numbersFit}
+use Rattle.spec_normal_form.specs.Bound.{ownGens, binBound, larger, appBound, compBound, Declared, bound, bounds, within, withinF, withinC, declared, numbersFit}
+use Rattle.spec_normal_form.proofs.GeneratorNumbers.{Numbered}
+use Rattle.spec_normal_form.proofs.GeneratorTables.{Named, NamedF, NamedC, declared-named}
 
 -- ---- lists
 -- Each element gives at most n, so a list of them gives at most its length times n.
@@ -37,30 +39,34 @@ guard-length true l = le-refl (length l)
 guard-length false l = omega arith
 
 -- ---- what generators stand for
--- no number itself, its fields within four signed bytes: a row of a well formed table, or nothing yet
-pub record Cells (v : Value) : Type 0 where
+-- no number itself, its fields within their columns' bounds: a row of a well formed table, or nothing yet
+pub record Cells (b : ℕ → ℕ) (v : Value) : Type 0 where
   pub no-number : asInt v ≡ pos 0
-  pub fields : (i : ℕ) → natAbs (asInt (fieldOf i v)) ≤ 2 ^ 31
+  pub fields : CellsWithin b v
 
-abbrev pub RowsIn : Env → Type 0
-RowsIn ρ = (g : ℕ) → Cells (ρ g)
+-- each generator's row, under what the columns of its table declare
+abbrev pub RowsIn : Declared → Env → Type 0
+RowsIn C ρ = (g : ℕ) → Cells (C g) (ρ g)
 
-row-cells : {n : ℕ} {v : Value} → Row n v → Cells v
-row-cells r = record { no-number = row-no-number r; fields = cell-small r }
+pub row-cells : {n : ℕ} {b : ℕ → ℕ} {v : Value} → Row n v → CellsWithin b v → Cells b v
+row-cells r w = record { no-number = row-no-number r; fields = w }
 
 -- Where no generator has run yet.
-pub rows-none : RowsIn (λ g. junk)
+pub cells-none : (b : ℕ → ℕ) → Cells b junk
 unfolding asInt fieldOf
-rows-none g = record { no-number = refl; fields = λ i. omega arith }
+cells-none b = record { no-number = refl; fields = λ i. omega arith }
 
--- Where one more generator stands for a row.
-pub rows-next : {n : ℕ} {v : Value} (g : ℕ) (ρ : Env) → Row n v → RowsIn ρ → RowsIn (upd g v ρ)
+pub rows-none : (C : Declared) → RowsIn C (λ g. junk)
+rows-none C g = cells-none (C g)
+
+-- Where one more generator stands for a row of its table.
+pub rows-next : {C : Declared} {b : ℕ → ℕ} {v : Value} (g : ℕ) (ρ : Env) → C g ≡ b → Cells b v → RowsIn C ρ → RowsIn C (upd g v ρ)
 unfolding upd
-rows-next {n} {v} g ρ r R x = go (eqb g x)
+rows-next {C} {b} {v} g ρ e r R x = go (eqb g x) refl
   where
-    go : (b : Bool) → Cells (elim b [ true ↦ v | false ↦ ρ x ])
-    go true = row-cells r
-    go false = R x
+    go : (t : Bool) → eqb g x ≡ t → Cells (C x) (elim t [ true ↦ v | false ↦ ρ x ])
+    go true p = subst (λ y. Cells (C y) v) (eqb→eq g x (rw p tt)) (subst (λ c. Cells c v) (sym e) r)
+    go false p = R x
 
 -- ---- folds over heads of a given magnitude
 -- read as a number, of magnitude at most b
@@ -141,15 +147,20 @@ heads F T q h ρ = loops F T q (λ σ. value F T h σ ∷ []) ρ
 power : (g : ℕ) → 1024 ^ (1 + g) ≡ 1024 * 1024 ^ g
 power g = ap (λ (n : ℕ). 1024 ^ n) (one-add g) ∙ pow-succ' 1024 g
 
+-- Every row of a table is within what the table's columns declare.
+pub table-cells : {T : Tables} → WellFormed T → (k : ℕ) → All (Cells (boundOf T k)) (rowsOf T k)
+table-cells {T} W k = all-imp (λ v. Row (columnsOf T k) v × CellsWithin (boundOf T k) v) (Cells (boundOf T k)) (rowsOf T k)
+    (all-zip (Row (columnsOf T k)) (CellsWithin (boundOf T k)) (rowsOf T k) (rows-well-formed W k) (rows-in-bounds W k)) (λ v r. row-cells (r .0) (r .1))
+
 module _ (F : Fold) {T : Tables} (W : WellFormed T) where
   -- What holds of the heads wherever generators stand for rows holds of all heads.
-  pub loops-all : (P : Value → Type 0) (k : Env → List Value) → ((σ : Env) → RowsIn σ → All P (k σ))
-      → (q : Clauses) (ρ : Env) → RowsIn ρ → All P (loops F T q k ρ)
+  pub loops-all : {C : Declared} (P : Value → Type 0) (k : Env → List Value) → ((σ : Env) → RowsIn C σ → All P (k σ))
+      → (q : Clauses) → NamedC C (boundOf T) q → (ρ : Env) → RowsIn C ρ → All P (loops F T q k ρ)
   unfolding loops
-  loops-all P k h done ρ R = h ρ R
-  loops-all P k h (gen g t q) ρ R = all-bind (Row (columnsOf T t)) P (λ v. loops F T q k (upd g v ρ)) (rowsOf T t) (rows-well-formed W t)
-      (λ v r. loops-all P k h q (upd g v ρ) (rows-next g ρ r R))
-  loops-all P k h (cond t q) ρ R = all-guard P (asBool (value F T t ρ)) (loops F T q k ρ) (loops-all P k h q ρ R)
+  loops-all P k h done N ρ R = h ρ R
+  loops-all P k h (gen g t q) N ρ R = all-bind (Cells (boundOf T t)) P (λ v. loops F T q k (upd g v ρ)) (rowsOf T t) (table-cells W t)
+      (λ v r. loops-all P k h q (N .1) (upd g v ρ) (rows-next g ρ (N .0) r R))
+  loops-all P k h (cond t q) N ρ R = all-guard P (asBool (value F T t ρ)) (loops F T q k ρ) (loops-all P k h q (N .1) ρ R)
 
   -- The loops meet at most 1,024 heads for each generator, multiplied.
   pub loops-length : (k : Env → List Value) (n : ℕ) → ((σ : Env) → length (k σ) ≤ n)
@@ -228,96 +239,100 @@ module _ (E : Entry) {T : Tables} (W : WellFormed T) where
     part-left : (n : ℕ) (w : Value) → Small (foldBound m n b) w → Small (foldBound m (n + 1024 ^ ownGens q) b) (foldl (taken E m) w p)
     part-left n w k = le-trans (fold-left E m b n w p k (all-front (Small b) p s (subst (All (Small b)) (sym e) small))) (fold-more m b (omega (arith, parts-length)))
 
+-- under what each generator's table declares
+module _ (E : Entry) {T : Tables} (W : WellFormed T) {C : Declared} where
   -- where the head is within b, all heads are
-  all-heads : (h : Form) (b : ℕ) → ((σ : Env) → RowsIn σ → Small b (value (foldBy E) T h σ)) → (q : Clauses) (ρ : Env) → RowsIn ρ → All (Small b) (heads (foldBy E) T q h ρ)
-  all-heads h b k q ρ R = loops-all (foldBy E) W (Small b) (λ σ. value (foldBy E) T h σ ∷ []) (λ σ S. (k σ S, tt)) q ρ R
+  all-heads : (h : Form) (b : ℕ) → ((σ : Env) → RowsIn C σ → Small b (value (foldBy E) T h σ)) → (q : Clauses) → NamedC C (boundOf T) q → (ρ : Env) → RowsIn C ρ → All (Small b) (heads (foldBy E) T q h ρ)
+  all-heads h b k q N ρ R = loops-all (foldBy E) W (Small b) (λ σ. value (foldBy E) T h σ ∷ []) (λ σ S. (k σ S, tt)) q N ρ R
 
   -- Every number of a normal form is within its bound.
   mutual
     unfolding value bound asInt notV nth
 
-    pub value-bound : (f : Form) (ρ : Env) → RowsIn ρ → Small (bound f) (value (foldBy E) T f ρ)
-    value-bound (num z) ρ R = le-refl (natAbs z)
-    value-bound (truth b) ρ R = omega arith
-    value-bound (row g) ρ R = omega (arith, ap natAbs (R g .no-number))
-    value-bound (cell i g) ρ R = R g .fields i
-    value-bound (rec ts) ρ R = omega arith
-    value-bound (app f ts) ρ R = app-bound f (bounds ts) (values (foldBy E) T ts ρ) (λ i. values-bound ts ρ R i)
-    value-bound (bin o s t) ρ R = bin-bound o (value (foldBy E) T s ρ) (value (foldBy E) T t ρ) (bound s) (bound t) (value-bound s ρ R) (value-bound t ρ R)
-    value-bound (negate t) ρ R = omega arith
-    value-bound (comp m q h) ρ R = part-right m q h ρ (bound h) (all-heads h (bound h) (λ σ S. value-bound h σ S) q ρ R) [] (heads (foldBy E) T q h ρ) refl
+    pub value-bound : (f : Form) → Named C (boundOf T) f → (ρ : Env) → RowsIn C ρ → Small (bound C f) (value (foldBy E) T f ρ)
+    value-bound (num z) N ρ R = le-refl (natAbs z)
+    value-bound (truth b) N ρ R = omega arith
+    value-bound (row g) N ρ R = omega (arith, ap natAbs (R g .no-number))
+    value-bound (cell i g) N ρ R = R g .fields i
+    value-bound (rec ts) N ρ R = omega arith
+    value-bound (app f ts) N ρ R = app-bound f (bounds C ts) (values (foldBy E) T ts ρ) (λ i. values-bound ts N ρ R i)
+    value-bound (bin o s t) N ρ R = bin-bound o (value (foldBy E) T s ρ) (value (foldBy E) T t ρ) (bound C s) (bound C t) (value-bound s (N .0) ρ R) (value-bound t (N .1) ρ R)
+    value-bound (negate t) N ρ R = omega arith
+    value-bound (comp m q h) N ρ R = part-right E W m q h ρ (bound C h) (all-heads h (bound C h) (λ σ S. value-bound h (N .1) σ S) q (N .0) ρ R) [] (heads (foldBy E) T q h ρ) refl
 
-    values-bound : (ts : Forms) (ρ : Env) → RowsIn ρ → AllSmall (bounds ts) (values (foldBy E) T ts ρ)
-    values-bound fnil ρ R i = omega arith
-    values-bound (fcons t ts) ρ R zero = value-bound t ρ R
-    values-bound (fcons t ts) ρ R (suc i) = values-bound ts ρ R i
+    values-bound : (ts : Forms) → NamedF C (boundOf T) ts → (ρ : Env) → RowsIn C ρ → AllSmall (bounds C ts) (values (foldBy E) T ts ρ)
+    values-bound fnil N ρ R i = omega arith
+    values-bound (fcons t ts) N ρ R zero = value-bound t (N .0) ρ R
+    values-bound (fcons t ts) N ρ R (suc i) = values-bound ts (N .1) ρ R i
 
-  -- Every head that the loops meet is within the head's bound.
-  pub heads-small : (q : Clauses) (h : Form) (ρ : Env) → RowsIn ρ → All (Small (bound h)) (heads (foldBy E) T q h ρ)
-  heads-small q h ρ R = all-heads h (bound h) (value-bound h) q ρ R
+  module _ (m : Monoid) (q : Clauses) (h : Form) (N : Named C (boundOf T) (comp m q h)) (ρ : Env) (R : RowsIn C ρ) where
+    -- Every head that the loops meet is within the head's bound.
+    pub heads-small : All (Small (bound C h)) (heads (foldBy E) T q h ρ)
+    heads-small = all-heads h (bound C h) (value-bound h (N .1)) q (N .0) ρ R
 
-  module _ (m : Monoid) (q : Clauses) (h : Form) (ρ : Env) (R : RowsIn ρ) (p s : List Value) (e : p ++ s ≡ heads (foldBy E) T q h ρ) where
-    -- A sum, maximum or minimum of the last heads is within the comprehension's bound.
-    pub partial-right : Small (bound (comp m q h)) (foldBy E m s)
-    unfolding bound
-    partial-right = part-right m q h ρ (bound h) (heads-small q h ρ R) p s e
+    module _ (p s : List Value) (e : p ++ s ≡ heads (foldBy E) T q h ρ) where
+      -- A sum, maximum or minimum of the last heads is within the comprehension's bound.
+      pub partial-right : Small (bound C (comp m q h)) (foldBy E m s)
+      unfolding bound
+      partial-right = part-right E W m q h ρ (bound C h) heads-small p s e
 
-    -- A loop that had w, within the bound of n heads, and has gone over the first heads, has a number within that of n and all heads.
-    pub accumulated : (n : ℕ) (w : Value) → Small (foldBound m n (bound h)) w → Small (foldBound m (n + 1024 ^ ownGens q) (bound h)) (foldl (taken E m) w p)
-    accumulated n w k = part-left m q h ρ (bound h) (heads-small q h ρ R) p s e n w k
+      -- A loop that had w, within the bound of n heads, and has gone over the first heads, has a number within that of n and all heads.
+      pub accumulated : (n : ℕ) (w : Value) → Small (foldBound m n (bound C h)) w → Small (foldBound m (n + 1024 ^ ownGens q) (bound C h)) (foldl (taken E m) w p)
+      accumulated n w k = part-left E W m q h ρ (bound C h) heads-small p s e n w k
 
-    -- A sum, maximum or minimum of the first heads, as a loop accumulates it from the start, is within the comprehension's bound.
-    pub partial-left : Small (bound (comp m q h)) (foldl (taken E m) (start m) p)
-    unfolding bound
-    partial-left = subst (λ (b : ℕ). Small b (foldl (taken E m) (start m) p))
-        (ap (λ (n : ℕ). foldBound m n (bound h)) (zero-add (1024 ^ ownGens q)) ∙ comp-bound m (ownGens q) (bound h))
-        (accumulated 0 (start m) (start-small m (foldBound m 0 (bound h))))
+      -- A sum, maximum or minimum of the first heads, as a loop accumulates it from the start, is within the comprehension's bound.
+      pub partial-left : Small (bound C (comp m q h)) (foldl (taken E m) (start m) p)
+      unfolding bound
+      partial-left = subst (λ (b : ℕ). Small b (foldl (taken E m) (start m) p))
+          (ap (λ (n : ℕ). foldBound m n (bound C h)) (zero-add (1024 ^ ownGens q)) ∙ comp-bound m (ownGens q) (bound C h))
+          (accumulated 0 (start m) (start-small m (foldBound m 0 (bound C h))))
 
 -- ---- 28: what `within` says of a form it says of each part of it
--- A form that 28 lets pass has a bound of at most 2^62.
-pub within-bound : (f : Form) → within f ≡ true → bound f ≤ 2 ^ 62
-unfolding within bound
-within-bound (num z) h = leb-true (natAbs z) (2 ^ 62) h
-within-bound (truth b) h = omega arith
-within-bound (row g) h = omega arith
-within-bound (cell i g) h = omega arith
-within-bound (rec ts) h = omega arith
-within-bound (app f ts) h = leb-true (bound (app f ts)) (2 ^ 62) (both (leb (bound (app f ts)) (2 ^ 62)) (withinF ts) h .0)
-within-bound (bin o s t) h = leb-true (bound (bin o s t)) (2 ^ 62) (both (leb (bound (bin o s t)) (2 ^ 62)) (within s && within t) h .0)
-within-bound (negate t) h = omega arith
-within-bound (comp m q h) k = leb-true (bound (comp m q h)) (2 ^ 62) (both (leb (bound (comp m q h)) (2 ^ 62)) (withinC q && within h) k .0)
+module _ (C : Declared) where
+  -- A form that 28 lets pass has a bound of at most 2^62.
+  pub within-bound : (f : Form) → within C f ≡ true → bound C f ≤ 2 ^ 62
+  unfolding within bound
+  within-bound (num z) h = leb-true (natAbs z) (2 ^ 62) h
+  within-bound (truth b) h = omega arith
+  within-bound (row g) h = omega arith
+  within-bound (cell i g) h = leb-true (bound C (cell i g)) (2 ^ 62) h
+  within-bound (rec ts) h = omega arith
+  within-bound (app f ts) h = leb-true (bound C (app f ts)) (2 ^ 62) (both (leb (bound C (app f ts)) (2 ^ 62)) (withinF C ts) h .0)
+  within-bound (bin o s t) h = leb-true (bound C (bin o s t)) (2 ^ 62) (both (leb (bound C (bin o s t)) (2 ^ 62)) (within C s && within C t) h .0)
+  within-bound (negate t) h = omega arith
+  within-bound (comp m q h) k = leb-true (bound C (comp m q h)) (2 ^ 62) (both (leb (bound C (comp m q h)) (2 ^ 62)) (withinC C q && within C h) k .0)
 
-pub within-operands : (o : Bin) (s t : Form) → within (bin o s t) ≡ true → (within s ≡ true) × (within t ≡ true)
-unfolding within
-within-operands o s t h = both (within s) (within t) (both (leb (bound (bin o s t)) (2 ^ 62)) (within s && within t) h .1)
+  pub within-operands : (o : Bin) (s t : Form) → within C (bin o s t) ≡ true → (within C s ≡ true) × (within C t ≡ true)
+  unfolding within
+  within-operands o s t h = both (within C s) (within C t) (both (leb (bound C (bin o s t)) (2 ^ 62)) (within C s && within C t) h .1)
 
-pub within-negated : (t : Form) → within (negate t) ≡ true → within t ≡ true
-unfolding within
-within-negated t h = h
+  pub within-negated : (t : Form) → within C (negate t) ≡ true → within C t ≡ true
+  unfolding within
+  within-negated t h = h
 
-pub within-app : (f : Fun) (ts : Forms) → within (app f ts) ≡ true → withinF ts ≡ true
-unfolding within
-within-app f ts h = both (leb (bound (app f ts)) (2 ^ 62)) (withinF ts) h .1
+  pub within-app : (f : Fun) (ts : Forms) → within C (app f ts) ≡ true → withinF C ts ≡ true
+  unfolding within
+  within-app f ts h = both (leb (bound C (app f ts)) (2 ^ 62)) (withinF C ts) h .1
 
-pub within-fields : (ts : Forms) → within (rec ts) ≡ true → withinF ts ≡ true
-unfolding within
-within-fields ts h = h
+  pub within-fields : (ts : Forms) → within C (rec ts) ≡ true → withinF C ts ≡ true
+  unfolding within
+  within-fields ts h = h
 
-pub within-field : (t : Form) (ts : Forms) → withinF (fcons t ts) ≡ true → (within t ≡ true) × (withinF ts ≡ true)
-unfolding within
-within-field t ts h = both (within t) (withinF ts) h
+  pub within-field : (t : Form) (ts : Forms) → withinF C (fcons t ts) ≡ true → (within C t ≡ true) × (withinF C ts ≡ true)
+  unfolding within
+  within-field t ts h = both (within C t) (withinF C ts) h
 
-pub within-comp : (m : Monoid) (q : Clauses) (h : Form) → within (comp m q h) ≡ true → (withinC q ≡ true) × (within h ≡ true)
-unfolding within
-within-comp m q h k = both (withinC q) (within h) (both (leb (bound (comp m q h)) (2 ^ 62)) (withinC q && within h) k .1)
+  pub within-comp : (m : Monoid) (q : Clauses) (h : Form) → within C (comp m q h) ≡ true → (withinC C q ≡ true) × (within C h ≡ true)
+  unfolding within
+  within-comp m q h k = both (withinC C q) (within C h) (both (leb (bound C (comp m q h)) (2 ^ 62)) (withinC C q && within C h) k .1)
 
-pub within-gen : (g k : ℕ) (q : Clauses) → withinC (gen g k q) ≡ true → withinC q ≡ true
-unfolding withinC
-within-gen g k q h = h
+  pub within-gen : (g k : ℕ) (q : Clauses) → withinC C (gen g k q) ≡ true → withinC C q ≡ true
+  unfolding withinC
+  within-gen g k q h = h
 
-pub within-cond : (t : Form) (q : Clauses) → withinC (cond t q) ≡ true → (within t ≡ true) × (withinC q ≡ true)
-unfolding withinC
-within-cond t q h = both (within t) (withinC q) h
+  pub within-cond : (t : Form) (q : Clauses) → withinC C (cond t q) ≡ true → (within C t ≡ true) × (withinC C q ≡ true)
+  unfolding withinC
+  within-cond t q h = both (within C t) (withinC C q) h
 
 -- P of a form and of each form written in it
 abbrev mutual
@@ -341,27 +356,27 @@ abbrev mutual
   EachC P (gen g k q) = EachC P q
   EachC P (cond t q) = Each P t × EachC P q
 
-module _ (P : Form → Type 0) (k : (f : Form) → within f ≡ true → P f) where
+module _ (C D : Declared) (P : Form → Type 0) (k : (f : Form) → Named C D f → within C f ≡ true → P f) where
   mutual
-    pub each : (f : Form) → within f ≡ true → Each P f
-    each (num z) h = k (num z) h
-    each (truth b) h = k (truth b) h
-    each (row g) h = k (row g) h
-    each (cell i g) h = k (cell i g) h
-    each (rec ts) h = (k (rec ts) h, eachF ts (within-fields ts h))
-    each (app f ts) h = (k (app f ts) h, eachF ts (within-app f ts h))
-    each (bin o s t) h = (k (bin o s t) h, each s (within-operands o s t h .0), each t (within-operands o s t h .1))
-    each (negate t) h = (k (negate t) h, each t (within-negated t h))
-    each (comp m q f) h = (k (comp m q f) h, eachC q (within-comp m q f h .0), each f (within-comp m q f h .1))
+    pub each : (f : Form) → Named C D f → within C f ≡ true → Each P f
+    each (num z) N h = k (num z) N h
+    each (truth b) N h = k (truth b) N h
+    each (row g) N h = k (row g) N h
+    each (cell i g) N h = k (cell i g) N h
+    each (rec ts) N h = (k (rec ts) N h, eachF ts N (within-fields C ts h))
+    each (app f ts) N h = (k (app f ts) N h, eachF ts N (within-app C f ts h))
+    each (bin o s t) N h = (k (bin o s t) N h, each s (N .0) (within-operands C o s t h .0), each t (N .1) (within-operands C o s t h .1))
+    each (negate t) N h = (k (negate t) N h, each t N (within-negated C t h))
+    each (comp m q f) N h = (k (comp m q f) N h, eachC q (N .0) (within-comp C m q f h .0), each f (N .1) (within-comp C m q f h .1))
 
-    eachF : (ts : Forms) → withinF ts ≡ true → EachF P ts
-    eachF fnil h = tt
-    eachF (fcons t ts) h = (each t (within-field t ts h .0), eachF ts (within-field t ts h .1))
+    eachF : (ts : Forms) → NamedF C D ts → withinF C ts ≡ true → EachF P ts
+    eachF fnil N h = tt
+    eachF (fcons t ts) N h = (each t (N .0) (within-field C t ts h .0), eachF ts (N .1) (within-field C t ts h .1))
 
-    eachC : (q : Clauses) → withinC q ≡ true → EachC P q
-    eachC done h = tt
-    eachC (gen g t q) h = eachC q (within-gen g t q h)
-    eachC (cond t q) h = (each t (within-cond t q h .0), eachC q (within-cond t q h .1))
+    eachC : (q : Clauses) → NamedC C D q → withinC C q ≡ true → EachC P q
+    eachC done N h = tt
+    eachC (gen g t q) N h = eachC q (N .1) (within-gen C g t q h)
+    eachC (cond t q) N h = (each t (N .0) (within-cond C t q h .0), eachC q (N .1) (within-cond C t q h .1))
 
 -- ---- theorem 8
 -- The number of a form, and every number on the way to it from either end, within b.
@@ -372,14 +387,16 @@ pub record Bounded (E : Entry) (T : Tables) (b : ℕ) (f : Form) (ρ : Env) : Ty
 
 module _ (E : Entry) {T : Tables} (W : WellFormed T) where
   -- Every number of a normal form, and every sum, maximum and minimum on the way to it, is within its bound, so within any greater b.
-  pub bounded : (f : Form) (b : ℕ) → bound f ≤ b → (ρ : Env) → RowsIn ρ → Bounded E T b f ρ
-  bounded f b l ρ R = record {
-    number = le-trans (value-bound E W f ρ R) l;
-    first-heads = λ m q h e p s c. le-trans (partial-left E W m q h ρ R p s c) (subst (λ x. bound x ≤ b) e l);
-    last-heads = λ m q h e p s c. le-trans (partial-right E W m q h ρ R p s c) (subst (λ x. bound x ≤ b) e l);
+  pub bounded : {C : Declared} (f : Form) → Named C (boundOf T) f → (b : ℕ) → bound C f ≤ b → (ρ : Env) → RowsIn C ρ → Bounded E T b f ρ
+  bounded {C} f N b l ρ R = record {
+    number = le-trans (value-bound E W f N ρ R) l;
+    first-heads = λ m q h e p s c. le-trans (partial-left E W m q h (subst (Named C (boundOf T)) e N) ρ R p s c) (subst (λ x. bound C x ≤ b) e l);
+    last-heads = λ m q h e p s c. le-trans (partial-right E W m q h (subst (Named C (boundOf T)) e N) ρ R p s c) (subst (λ x. bound C x ≤ b) e l);
   }
 
-  -- Where 28 does not refuse, every number in the normal form, and every sum, maximum and minimum on the way to it, is within 2^62.
-  pub numbers-fit : (f : NormalForm) → numbersFit f ≡ true → Each (λ s. (ρ : Env) → RowsIn ρ → Bounded E T (2 ^ 62) s ρ) (asForm f)
+  -- Where 28 does not refuse, every number in the normal form, and every sum, maximum and minimum on the way to it, is within 2^62, wherever each
+  -- generator stands for a row within what its table's columns declare.
+  pub numbers-fit : (f : NormalForm) → Numbered (asForm f) 0 → numbersFit (boundOf T) f ≡ true → Each (λ s. (ρ : Env) → RowsIn (declared (boundOf T) (asForm f)) ρ → Bounded E T (2 ^ 62) s ρ) (asForm f)
   unfolding numbersFit
-  numbers-fit f h = each (λ s. (ρ : Env) → RowsIn ρ → Bounded E T (2 ^ 62) s ρ) (λ s k. bounded s (2 ^ 62) (within-bound s k)) (asForm f) h
+  numbers-fit f n h = let C : Declared = declared (boundOf T) (asForm f) in
+      each C (boundOf T) (λ s. (ρ : Env) → RowsIn C ρ → Bounded E T (2 ^ 62) s ρ) (λ s N k. bounded s N (2 ^ 62) (within-bound C s k)) (asForm f) (declared-named (boundOf T) (asForm f) n) h

@@ -2,12 +2,11 @@
 use mathlib.Core.Path.{_≡_, refl, sym, ap, ap₂, subst, _∙_}
 use mathlib.Core.Bool.{Bool, true, false, false≢true}
 use Prim.Native.Nat.{ℕ, zero, suc}
-use lib.Dec.{eqb, ltb}
-use lib.ListN.{length}
+use lib.Dec.{eqb}
 use Rattle.spec_calculus.specs.Lists.{pick, upd}
 use Rattle.spec_calculus.specs.Syntax.{Collection, Monoid, of, sum, max, min, some, all, Bin, plus, minus, times, equal, less, and, or, Fun, choice, Term, Terms, Quals, num, name, field, rec, bin, negate, app, comp, table, tnil, tcons, qnil, gen, bind, cond, Question, asTerm}
 use Rattle.spec_calculus.specs.Syntax as Sy
-use Rattle.spec_calculus.specs.Value.{Tables, kindOf, columnsOf}
+use Rattle.spec_calculus.specs.Value.{Tables, kindOf, columnsOf, isThere}
 use Rattle.spec_checks.specs.Types.{Ty, Tys, ynil, ycons, Typed, Typeds, number, truth, record′, coll, wrong, has, wrongs, hass, cells, typeAt, fieldType, ofNumber, ofTruth, binType, gathers, compType, ranges, ofThree, choiceType, appType, allTyped, record″, consType, Context, typeOf, typesOf, typeOfQ, isTyped, typesFit}
 use Rattle.spec_normal_form.specs.Form.{Form, Forms, Clauses, NormalForm, fnil, fcons, done}
 use Rattle.spec_normal_form.specs.Form as Nf
@@ -213,7 +212,7 @@ module _ (J : Collection → Monoid → Bool) (T : Tables) where
   over-table (bin o s t) Γ j k a h = absurd a
   over-table (negate t) Γ j k a h = absurd a
   over-table (comp m q t) Γ j k a h = absurd a
-  over-table (table x) Γ j k a h = go (ltb x (length T)) h
+  over-table (table x) Γ j k a h = go (isThere T x) h
     where
       go : (b : Bool) → IsTyped (ranges j (pick b (has (coll (kindOf T x) (record′ (cells (columnsOf T x))))) wrong) k) → (y : ℕ) × (table x ≡ table y) × (n : ℕ) × IsTyped (k (record′ (cells n)))
       go true g = (x, refl, columnsOf T x, pick-typed (j (kindOf T x)) (k (record′ (cells (columnsOf T x)))) g)

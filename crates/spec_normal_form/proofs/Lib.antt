@@ -1,11 +1,13 @@
 -- Theorems about the normal form.
 pub mod Cases
+pub mod AcceptedCases
 pub mod IdempotentMonoids
 pub mod Meaning
 pub mod WriteOut
 pub mod Locality
 pub mod NoRuleApplies
 pub mod GeneratorNumbers
+pub mod GeneratorTables
 pub mod Ranges
 pub mod Substitution
 pub mod Rules
@@ -17,3 +19,4 @@ pub mod Example
 pub mod Bounds
 pub mod RawArranged
 pub mod StoredTables
+pub mod NormalByType

@@ -1,5 +1,5 @@
 -- "28: a number in the normal form with bound over 2^62."
-use mathlib.Core.List.{List, [], _∷_}
+use mathlib.Core.List.{List, [], _∷_, _++_}
 use mathlib.Core.Bool.{Bool, true, _&&_}
 use Prim.Native.Nat.{ℕ, _+_, _*_, _^_}
 use lib.Dec.{leb}
@@ -43,47 +43,78 @@ compBound min g a = a
 compBound some g a = 0
 compBound all g a = 0
 
--- "Bound of a number: a cell 2^31; a constant its magnitude; .." What is no number has bound 0.
+-- what the columns of each generator's table declare: the bound of column i of generator g's is C g i
+abbrev pub Declared : Type 0
+Declared = ℕ → ℕ → ℕ
+
+-- "Bound of a number: a cell 2^31; a constant its magnitude; .." What is no number has bound 0. "Reading a cell promises that bound; the bound rule .. use[s]
+-- it for 2^31." (document 02, E5)
 unfoldable mutual
-  pub bound : Form → ℕ
-  bound (num z) = natAbs z
-  bound (truth b) = 0
-  bound (row g) = 0
-  bound (cell i g) = 2 ^ 31
-  bound (rec ts) = 0
-  bound (app f ts) = appBound f (bounds ts)
-  bound (bin o s t) = binBound o (bound s) (bound t)
-  bound (negate t) = 0
-  bound (comp m q h) = compBound m (ownGens q) (bound h)
+  pub bound : Declared → Form → ℕ
+  bound C (num z) = natAbs z
+  bound C (truth b) = 0
+  bound C (row g) = 0
+  bound C (cell i g) = C g i
+  bound C (rec ts) = 0
+  bound C (app f ts) = appBound f (bounds C ts)
+  bound C (bin o s t) = binBound o (bound C s) (bound C t)
+  bound C (negate t) = 0
+  bound C (comp m q h) = compBound m (ownGens q) (bound C h)
 
-  pub bounds : Forms → List ℕ
-  bounds fnil = []
-  bounds (fcons t ts) = bound t ∷ bounds ts
+  pub bounds : Declared → Forms → List ℕ
+  bounds C fnil = []
+  bounds C (fcons t ts) = bound C t ∷ bounds C ts
 
-abbrev pub small : Form → Bool
-small t = leb (bound t) (2 ^ 62)
+abbrev pub small : Declared → Form → Bool
+small C t = leb (bound C t) (2 ^ 62)
 
 -- every number in it
 unfoldable mutual
-  pub within : Form → Bool
-  within (num z) = small (num z)
-  within (truth b) = true
-  within (row g) = true
-  within (cell i g) = small (cell i g)
-  within (rec ts) = withinF ts
-  within (app f ts) = small (app f ts) && withinF ts
-  within (bin o s t) = small (bin o s t) && (within s && within t)
-  within (negate t) = within t
-  within (comp m q h) = small (comp m q h) && (withinC q && within h)
+  pub within : Declared → Form → Bool
+  within C (num z) = small C (num z)
+  within C (truth b) = true
+  within C (row g) = true
+  within C (cell i g) = small C (cell i g)
+  within C (rec ts) = withinF C ts
+  within C (app f ts) = small C (app f ts) && withinF C ts
+  within C (bin o s t) = small C (bin o s t) && (within C s && within C t)
+  within C (negate t) = within C t
+  within C (comp m q h) = small C (comp m q h) && (withinC C q && within C h)
 
-  pub withinF : Forms → Bool
-  withinF fnil = true
-  withinF (fcons t ts) = within t && withinF ts
+  pub withinF : Declared → Forms → Bool
+  withinF C fnil = true
+  withinF C (fcons t ts) = within C t && withinF C ts
 
-  pub withinC : Clauses → Bool
-  withinC done = true
-  withinC (gen g k q) = withinC q
-  withinC (cond t q) = within t && withinC q
+  pub withinC : Declared → Clauses → Bool
+  withinC C done = true
+  withinC C (gen g k q) = withinC C q
+  withinC C (cond t q) = within C t && withinC C q
 
-unfoldable pub numbersFit : NormalForm → Bool
-numbersFit f = within (asForm f)
+-- the tables of a form's generators. "Generators are renumbered from 0 in written order": that of generator g stands at position g
+unfoldable mutual
+  pub tablesOf : Form → List ℕ
+  tablesOf (num z) = []
+  tablesOf (truth b) = []
+  tablesOf (row g) = []
+  tablesOf (cell i g) = []
+  tablesOf (rec ts) = tablesOfF ts
+  tablesOf (app f ts) = tablesOfF ts
+  tablesOf (bin o s t) = tablesOf s ++ tablesOf t
+  tablesOf (negate t) = tablesOf t
+  tablesOf (comp m q h) = tablesOfC q ++ tablesOf h
+
+  pub tablesOfF : Forms → List ℕ
+  tablesOfF fnil = []
+  tablesOfF (fcons t ts) = tablesOf t ++ tablesOfF ts
+
+  pub tablesOfC : Clauses → List ℕ
+  tablesOfC done = []
+  tablesOfC (gen g k q) = k ∷ tablesOfC q
+  tablesOfC (cond t q) = tablesOf t ++ tablesOfC q
+
+-- B k i is the bound of column i of table k
+unfoldable pub declared : (ℕ → ℕ → ℕ) → Form → Declared
+declared B t g = B (getD (tablesOf t) g 0)
+
+unfoldable pub numbersFit : (ℕ → ℕ → ℕ) → NormalForm → Bool
+numbersFit B f = within (declared B (asForm f)) (asForm f)

@@ -43,7 +43,7 @@ after (got a) j k h = h a refl
 -- Whatever was lent, both ways of answering have the same outcome: number, length, buffer and scratch.
 pub same-outcome : (d l : Bytes) (s : List ℕ) (b : List ℤ) → byPlan d l s b ≡ byLoops d l s b
 unfolding byPlan byLoops answered written
-same-outcome d l s b = ap (withScratch s b) (after (examine d l) (written planned b) (written looped b) (λ a e.
+same-outcome d l s b = ap (withScratch scratchWords s b) (after (examine d l) (written planned b) (written looped b) (λ a e.
     ap (λ v. require 32 (leb (G a) (length b)) (got (record { size = length (words v); front = words v ++ replicate (G a - length (words v)) (pos 0) }))) (same-value a (examined d l a e))))
 
 -- "Demand 3's answer words are the first G of the answer buffer; a refusal has none."
@@ -64,26 +64,26 @@ front-same (suc g) [] x y h = absurd (omega arith)
 front-same (suc g) (w ∷ f) x y h = ap (λ l. w ∷ l) (front-same g f x y (omega arith))
 
 -- an outcome depends on the buffer and the scratch only through their lengths
-settled-same : (s s′ : List ℕ) (b b′ : List ℤ) (g : ℕ) (r : Result (Answer ℤ)) → Only (λ n. n ≡ 0 → ⊥) r → ((a : Answer ℤ) → r ≡ got a → g ≤ length (a .front)) → SameAnswer g (settled s b r) (settled s′ b′ r)
+settled-same : (s s′ : List ℕ) (b b′ : List ℤ) (g : ℕ) (r : Result (Answer ℤ)) → Only (λ n. n ≡ 0 → ⊥) r → ((a : Answer ℤ) → r ≡ got a → g ≤ length (a .front)) → SameAnswer g (settled scratchWords s b r) (settled scratchWords s′ b′ r)
 unfolding settled
 settled-same s s′ b b′ g (refused n) k h = record { numbers = refl; sizes = refl; answers = λ e. absurd (k e) }
 settled-same s s′ b b′ g (got a) k h = record { numbers = refl; sizes = refl; answers = λ e. front-same g (a .front) (drop (length (a .front)) b) (drop (length (a .front)) b′) (h a refl) }
 
 -- 31, or what stands behind it
-pub scratch-short : {A : Type 0} (s : List ℕ) (b : List A) (r : Result (Answer A)) → length s < scratchWords → withScratch s b r ≡ record { number = 31; size = 0; buffer = b; scratch = s }
+pub scratch-short : {A : Type 0} {least : ℕ} (s : List ℕ) (b : List A) (r : Result (Answer A)) → length s < least → withScratch least s b r ≡ record { number = 31; size = 0; buffer = b; scratch = s }
 unfolding withScratch
-scratch-short s b r h = rw (lt-ltb (length s) scratchWords h, withScratch)
+scratch-short {least = least} s b r h = rw (lt-ltb (length s) least h, withScratch)
 
-pub scratch-long : {A : Type 0} (s : List ℕ) (b : List A) (r : Result (Answer A)) → scratchWords ≤ length s → withScratch s b r ≡ settled s b r
+pub scratch-long : {A : Type 0} {least : ℕ} (s : List ℕ) (b : List A) (r : Result (Answer A)) → least ≤ length s → withScratch least s b r ≡ settled least s b r
 unfolding withScratch
-scratch-long s b r h = rw (le-ltb (length s) scratchWords h, withScratch)
+scratch-long {least = least} s b r h = rw (le-ltb (length s) least h, withScratch)
 
-scratch-same : (s s′ : List ℕ) (b b′ : List ℤ) (g : ℕ) (r : Result (Answer ℤ)) → length s ≡ length s′ → SameAnswer g (settled s b r) (settled s′ b′ r) → SameAnswer g (withScratch s b r) (withScratch s′ b′ r)
+scratch-same : (s s′ : List ℕ) (b b′ : List ℤ) (g : ℕ) (r : Result (Answer ℤ)) → length s ≡ length s′ → SameAnswer g (settled scratchWords s b r) (settled scratchWords s′ b′ r) → SameAnswer g (withScratch scratchWords s b r) (withScratch scratchWords s′ b′ r)
 scratch-same s s′ b b′ g r e h = go (ltb (length s) scratchWords) refl
   where
-    go : (c : Bool) → ltb (length s) scratchWords ≡ c → SameAnswer g (withScratch s b r) (withScratch s′ b′ r)
-    go true p = let l = ltb-true (length s) scratchWords p in rw (scratch-short s b r l, scratch-short s′ b′ r (omega (arith, e, l))) (record { numbers = refl; sizes = refl; answers = λ z. absurd (omega (arith, z)) })
-    go false p = let l = ltb-false (length s) scratchWords p in rw (scratch-long s b r l, scratch-long s′ b′ r (omega (arith, e, l))) h
+    go : (c : Bool) → ltb (length s) scratchWords ≡ c → SameAnswer g (withScratch scratchWords s b r) (withScratch scratchWords s′ b′ r)
+    go true p = let l = ltb-true (length s) scratchWords p in rw (scratch-short s b r l, scratch-short {least = scratchWords} s′ b′ r (omega (arith, e, l))) (record { numbers = refl; sizes = refl; answers = λ z. absurd (omega (arith, z)) })
+    go false p = let l = ltb-false (length s) scratchWords p in rw (scratch-long s b r l, scratch-long {least = scratchWords} s′ b′ r (omega (arith, e, l))) h
 
 -- what an answer writes reaches up to G
 front-reaches : (g : ℕ) (ws : List ℤ) → g ≤ length (ws ++ replicate (g - length ws) (pos 0))
@@ -106,14 +106,14 @@ unfolding written
 written-only v b r h = only-then (λ n. n ≡ 0 → ⊥) r (written v b) h (λ a. only-require (λ n. n ≡ 0 → ⊥) 32 _ _ (λ e. absurd (omega arith)) tt)
 
 not-zero : All (λ n. n ≡ 0 → ⊥) numbers
-not-zero = (λ e. absurd (omega arith), (λ e. absurd (omega arith), (λ e. absurd (omega arith), (λ e. absurd (omega arith), (λ e. absurd (omega arith), (λ e. absurd (omega arith), (λ e. absurd (omega arith), (λ e. absurd (omega arith), (λ e. absurd (omega arith), (λ e. absurd (omega arith), (λ e. absurd (omega arith), tt)))))))))))
+not-zero = (λ e. absurd (omega arith), (λ e. absurd (omega arith), (λ e. absurd (omega arith), (λ e. absurd (omega arith), (λ e. absurd (omega arith), (λ e. absurd (omega arith), (λ e. absurd (omega arith), (λ e. absurd (omega arith), (λ e. absurd (omega arith), (λ e. absurd (omega arith), (λ e. absurd (omega arith), (λ e. absurd (omega arith), (λ e. absurd (omega arith), (λ e. absurd (omega arith), tt))))))))))))))
 
-answered-same : (v : Accepted → Value) (d l : Bytes) (s s′ : List ℕ) (b b′ : List ℤ) → length s ≡ length s′ → length b ≡ length b′ → SameAnswer (wordsOf (examine d l)) (answered v d l s b) (answered v d l s′ b′)
+answered-same : (v : Accepted → Value) (d l : Bytes) (s s′ : List ℕ) (b b′ : List ℤ) → length s ≡ length s′ → length b ≡ length b′ → SameAnswer (wordsOf (examine d l)) (answered scratchWords v d l s b) (answered scratchWords v d l s′ b′)
 unfolding answered
 answered-same v d l s s′ b b′ e f =
     let g = wordsOf (examine d l) in
     let r = andThen (examine d l) (written v b) in
-    subst (λ x. SameAnswer g (withScratch s b r) (withScratch s′ b′ (andThen (examine d l) x))) (fun-ext λ a. by-length a)
+    subst (λ x. SameAnswer g (withScratch scratchWords s b r) (withScratch scratchWords s′ b′ (andThen (examine d l) x))) (fun-ext λ a. by-length a)
     (scratch-same s s′ b b′ g r e (settled-same s s′ b b′ g r (written-only v b (examine d l) (examine-only (λ n. n ≡ 0 → ⊥) not-zero d l)) (answer-reaches v b (examine d l))))
   where
     by-length : (a : Accepted) → written v b a ≡ written v b′ a

@@ -3,7 +3,7 @@ use mathlib.Core.Path.{_≡_, ap, _∙_}
 use mathlib.Core.Bool.{Bool, true, false}
 use Prim.Native.Nat.{ℕ}
 use Rattle.spec_calculus.specs.Syntax.{Question}
-use Rattle.spec_calculus.specs.Value.{Tables, kindOf}
+use Rattle.spec_calculus.specs.Value.{Tables, kindOf, boundOf}
 use Rattle.spec_encoding.specs.Record.{Bytes, Result, refused, got, andThen, require}
 use Rattle.spec_encoding.specs.Data.{readData}
 use Rattle.spec_encoding.specs.Reader.{readQuestion}
@@ -30,7 +30,7 @@ module _ (d l : Bytes) {T : Tables} (t : readData d ≡ got T) where
   judged-as e = ap (λ r. andThen r (λ U. andThen (readQuestion l) (λ q. judge U q))) t ∙ ap (λ r. andThen r (λ q. judge T q)) e
 
 -- a rule that holds leaves it to the next one
-next : {A : Type 0} (n : ℕ) {b : Bool} (r : Result A) → b ≡ true → require n b r ≡ r
+pub next : {A : Type 0} (n : ℕ) {b : Bool} (r : Result A) → b ≡ true → require n b r ≡ r
 unfolding require
 next n r e = ap (λ b. require n b r) e
 
@@ -46,7 +46,7 @@ module _ (T : Tables) (q : Question) where
   whole = record { tables = T; question = q; form = form }
 
   abbrev from28 : Result Accepted
-  from28 = require 28 (numbersFit form) (got whole)
+  from28 = require 28 (numbersFit (boundOf T) form) (got whole)
 
   abbrev from27 : Result Accepted
   from27 = require 27 (sizeFits form) from28
@@ -80,8 +80,8 @@ module _ (T : Tables) (q : Question) where
           abbrev at28 : judge T q ≡ from28
           at28 = unfold judge in next 24 from25 a ∙ next 25 from26 b ∙ next 26 from27 c ∙ next 27 from28 e
 
-          pub numbers-decide : numbersFit form ≡ false → judge T q ≡ refused 28
+          pub numbers-decide : numbersFit (boundOf T) form ≡ false → judge T q ≡ refused 28
           numbers-decide g = at28 ∙ stops 28 (got whole) g
 
-          pub passes : numbersFit form ≡ true → judge T q ≡ got whole
+          pub passes : numbersFit (boundOf T) form ≡ true → judge T q ≡ got whole
           passes g = at28 ∙ next 28 (got whole) g

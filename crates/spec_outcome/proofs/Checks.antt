@@ -1,12 +1,12 @@
 -- What the checks hand on, and by which numbers they refuse.
-use mathlib.Core.Path.{_≡_, refl, subst, sym}
+use mathlib.Core.Path.{_≡_, refl, subst, sym, _∙_}
 use mathlib.Core.List.{List, [], _∷_}
 use mathlib.Core.Bool.{Bool, true, false}
 use Prim.Native.Nat.{ℕ, _≤_}
 use native.Mathlib.Omega.{arith}
 use borrow.Author.Tests.{leb-true}
 use Rattle.spec_calculus.specs.Syntax.{Question}
-use Rattle.spec_calculus.specs.Value.{Tables, kindOf}
+use Rattle.spec_calculus.specs.Value.{Tables, kindOf, boundOf}
 use Rattle.spec_calculus.proofs.Lists.{All}
 use Rattle.spec_encoding.specs.Record.{Bytes, Result, refused, got, andThen, require}
 use Rattle.spec_encoding.specs.Data.{readData}
@@ -16,9 +16,10 @@ use Rattle.spec_checks.specs.Scope.{namesHold}
 use Rattle.spec_checks.specs.Types.{typesFit, generatorsFit}
 use Rattle.spec_normal_form.specs.Normal.{normal}
 use Rattle.spec_normal_form.specs.Size.{sizeFits, nodes}
-use Rattle.spec_normal_form.specs.Bound.{numbersFit}
+use Rattle.spec_normal_form.specs.Bound.{Declared, within, numbersFit}
 use Rattle.spec_normal_form.specs.Form.{asForm}
 use Rattle.spec_normal_form.proofs.GeneratorNumbers.{Numbered, normal-numbered}
+use Rattle.spec_normal_form.proofs.GeneratorTables.{Named, numbers-fit-as}
 use Rattle.spec_outcome.specs.Acceptance.{Accepted, judge, examine}
 
 pub got-is : {A : Type 0} (x y : A) → _≡_ {A = Result A} (got x) (got y) → x ≡ y
@@ -43,7 +44,7 @@ pub record Passed (a : Accepted) : Type 0 where
   pub types : typesFit (a .tables) (a .question) ≡ true
   pub generators : generatorsFit (a .tables) (a .question) ≡ true
   pub size : sizeFits (a .form) ≡ true
-  pub numbers : numbersFit (a .form) ≡ true
+  pub numbers : numbersFit (boundOf (a .tables)) (a .form) ≡ true
 
 -- its normal form is numbered in order, and has at most 512 nodes
 module _ {a : Accepted} (P : Passed a) where
@@ -54,16 +55,20 @@ module _ {a : Accepted} (P : Passed a) where
   unfolding sizeFits
   form-nodes = leb-true (nodes (asForm (a .form))) 512 (P .size)
 
+  -- its numbers fit under whatever says of each generator what its table's columns declare
+  pub form-within : (C : Declared) → Named C (boundOf (a .tables)) (asForm (a .form)) → within C (asForm (a .form)) ≡ true
+  form-within C N = numbers-fit-as (boundOf (a .tables)) C (a .form) form-numbered N ∙ P .numbers
+
 pub judged : (T : Tables) (q : Question) (a : Accepted) → judge T q ≡ got a → Passed a
 unfolding judge
 judged T q a e =
     let f = normal (kindOf T) q in
     let x : Accepted = record { tables = T; question = q; form = f } in
-    let p = passed 24 (namesHold q) (require 25 (typesFit T q) (require 26 (generatorsFit T q) (require 27 (sizeFits f) (require 28 (numbersFit f) (got x))))) a e in
-    let r = passed 25 (typesFit T q) (require 26 (generatorsFit T q) (require 27 (sizeFits f) (require 28 (numbersFit f) (got x)))) a (p .1) in
-    let s = passed 26 (generatorsFit T q) (require 27 (sizeFits f) (require 28 (numbersFit f) (got x))) a (r .1) in
-    let t = passed 27 (sizeFits f) (require 28 (numbersFit f) (got x)) a (s .1) in
-    let u = passed 28 (numbersFit f) (got x) a (t .1) in
+    let p = passed 24 (namesHold q) (require 25 (typesFit T q) (require 26 (generatorsFit T q) (require 27 (sizeFits f) (require 28 (numbersFit (boundOf T) f) (got x))))) a e in
+    let r = passed 25 (typesFit T q) (require 26 (generatorsFit T q) (require 27 (sizeFits f) (require 28 (numbersFit (boundOf T) f) (got x)))) a (p .1) in
+    let s = passed 26 (generatorsFit T q) (require 27 (sizeFits f) (require 28 (numbersFit (boundOf T) f) (got x))) a (r .1) in
+    let t = passed 27 (sizeFits f) (require 28 (numbersFit (boundOf T) f) (got x)) a (s .1) in
+    let u = passed 28 (numbersFit (boundOf T) f) (got x) a (t .1) in
     subst Passed (got-is x a (u .1)) (record { form-is = refl; names = p .0; types = r .0; generators = s .0; size = t .0; numbers = u .0 })
 
 pub examined : (d l : Bytes) (a : Accepted) → examine d l ≡ got a → Passed a
@@ -73,12 +78,12 @@ examined d l a e =
     let q = handed (readQuestion l) (λ q. judge (t .0) q) a (t .1 .1) in
     judged (t .0) (q .0) a (q .1 .1)
 
--- The checks refuse by no other number than these of document 01: behind the data by those of whoever types the question.
+-- The checks refuse by no other number than these of documents 01 and 02 (E5, E9): behind the data by those of whoever types the question.
 abbrev pub questionNumbers : List ℕ
 questionNumbers = 21 ∷ 22 ∷ 23 ∷ 24 ∷ 25 ∷ 26 ∷ 27 ∷ 28 ∷ []
 
 abbrev pub numbers : List ℕ
-numbers = 11 ∷ 12 ∷ 13 ∷ questionNumbers
+numbers = 11 ∷ 12 ∷ 13 ∷ 43 ∷ 50 ∷ 51 ∷ questionNumbers
 
 pub examine-behind : (P : ℕ → Type 0) → All P questionNumbers → (d l : Bytes) → Only P (readData d) → Only P (examine d l)
 unfolding examine judge
@@ -87,4 +92,4 @@ examine-behind P (p21, (p22, (p23, (p24, (p25, (p26, (p27, (p28, z)))))))) d l p
     only-require P 24 _ _ p24 (only-require P 25 _ _ p25 (only-require P 26 _ _ p26 (only-require P 27 _ _ p27 (only-require P 28 _ _ p28 tt))))))
 
 pub examine-only : (P : ℕ → Type 0) → All P numbers → (d l : Bytes) → Only P (examine d l)
-examine-only P (p11, (p12, (p13, p))) d l = examine-behind P p d l (data-only P p11 p12 p13 d)
+examine-only P (p11, (p12, (p13, (p43, (p50, (p51, p)))))) d l = examine-behind P p d l (data-only P p11 p12 p13 p43 p50 p51 d)

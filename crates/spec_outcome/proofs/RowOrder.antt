@@ -5,12 +5,12 @@ use mathlib.Core.Bool.{Bool, true, false, true≢false}
 use Prim.Native.Nat.{ℕ, zero, suc, _-_, _≤_}
 use native.Mathlib.Omega.{arith}
 use borrow.Author.Tests.{ltb-true, ltb-false, le-leb}
-use lib.Dec.{ltb, leb}
+use lib.Dec.{eqb, ltb, leb}
 use lib.ListN.{length, getD, take, drop, replicate}
 use lib.Seq.{take-at}
 use lib.IntN.{ℤ, pos}
 use Rattle.spec_calculus.specs.Syntax.{Collection, list, bag, set, Monoid, of, Question, asTerm}
-use Rattle.spec_calculus.specs.Value.{Value, junk, coll, fromList, Tables, noTable, kindOf, columnsOf, rowsOf}
+use Rattle.spec_calculus.specs.Value.{Value, junk, coll, fromList, Tables, noTable, kindOf, columnsOf, boundOf, rowsOf}
 use Rattle.spec_calculus.specs.Order.{leV}
 use Rattle.spec_calculus.specs.Monoid.{canonical, raw}
 use Rattle.spec_calculus.specs.Meaning.{meaning}
@@ -51,21 +51,15 @@ pub reordered-restates : (T U : Tables) → Restates Reordered T U → Restates 
 reordered-restates [] [] h = tt
 reordered-restates [] (u ∷ U) h = h
 reordered-restates (t ∷ T) [] h = h
-reordered-restates (t ∷ T) (u ∷ U) h = (record { kind = h .0 .kind; columns = h .0 .columns; rows = reordered-alike (t .kind) (t .rows) (u .rows) (h .0 .rows) }, reordered-restates T U (h .1))
+reordered-restates (t ∷ T) (u ∷ U) h = (record { kind = h .0 .kind; columns = h .0 .columns; bounds = h .0 .bounds; rows = reordered-alike (t .kind) (t .rows) (u .rows) (h .0 .rows) }, reordered-restates T U (h .1))
 
 module _ (R : Collection → List Value → List Value → Type 0) (none : R list [] []) where
   restated-at : (T U : Tables) → Restates R T U → (k : ℕ) → Restated R (getD T k noTable) (getD U k noTable)
-  restated-at [] [] h k = record { kind = refl; columns = refl; rows = none }
+  restated-at [] [] h k = record { kind = refl; columns = refl; bounds = refl; rows = none }
   restated-at [] (u ∷ U) h k = absurd h
   restated-at (t ∷ T) [] h k = absurd h
   restated-at (t ∷ T) (u ∷ U) h zero = h .0
   restated-at (t ∷ T) (u ∷ U) h (suc k) = restated-at T U (h .1) k
-
-restates-length : (R : Collection → List Value → List Value → Type 0) (T U : Tables) → Restates R T U → length T ≡ length U
-restates-length R [] [] h = refl
-restates-length R [] (u ∷ U) h = absurd h
-restates-length R (t ∷ T) [] h = absurd h
-restates-length R (t ∷ T) (u ∷ U) h = ap suc (restates-length R T U (h .1))
 
 -- ---- G
 sorted-keeps : Keeping sorted
@@ -94,6 +88,10 @@ module _ (T U : Tables) (S : Restates Alike T U) where
   unfolding columnsOf
   columns-same k = restated-at Alike refl T U S k .columns
 
+  bounds-same : boundOf T ≡ boundOf U
+  unfolding boundOf
+  bounds-same = fun-ext λ k. fun-ext λ i. ap (λ b. getD b i 0) (restated-at Alike refl T U S k .bounds)
+
   rows-alike : (k : ℕ) → Alike (kindOf T k) (rowsOf T k) (rowsOf U k)
   unfolding kindOf rowsOf
   rows-alike k = restated-at Alike refl T U S k .rows
@@ -111,14 +109,15 @@ module _ (T U : Tables) (S : Restates Alike T U) where
       ∙ ap (λ c. canonical (of c) (rowsOf U k)) (kinds-same k)) (asTerm q) (λ x. junk)
 
   typed-same : (J : Collection → Monoid → Bool) (q : Question) → typeOf J T (asTerm q) (λ x. wrong) ≡ typeOf J U (asTerm q) (λ x. wrong)
-  typed-same J q = type-same J T U (restates-length Alike T U S) kinds-same columns-same (asTerm q) (λ x. wrong)
+  typed-same J q = type-same J T U kinds-same columns-same (asTerm q) (λ x. wrong)
 
-  judge-as : (q : Question) → judge U q ≡ tests (namesHold q) (typesFit T q) (generatorsFit T q) (sizeFits (normal (kindOf T) q)) (numbersFit (normal (kindOf T) q)) (accepted U q)
+  judge-as : (q : Question) → judge U q ≡ tests (namesHold q) (typesFit T q) (generatorsFit T q) (sizeFits (normal (kindOf T) q)) (numbersFit (boundOf T) (normal (kindOf T) q)) (accepted U q)
   unfolding judge typesFit generatorsFit
   judge-as q = sym (
-      ap (λ b. tests (namesHold q) b (generatorsFit T q) (sizeFits (normal (kindOf T) q)) (numbersFit (normal (kindOf T) q)) (accepted U q)) (ap isTyped (typed-same (λ c m. true) q))
-      ∙ ap (λ b. tests (namesHold q) (typesFit U q) b (sizeFits (normal (kindOf T) q)) (numbersFit (normal (kindOf T) q)) (accepted U q)) (ap isTyped (typed-same mayStand q))
-      ∙ ap (λ f. tests (namesHold q) (typesFit U q) (generatorsFit U q) (sizeFits f) (numbersFit f) (accepted U q)) (form-same q))
+      ap (λ b. tests (namesHold q) b (generatorsFit T q) (sizeFits (normal (kindOf T) q)) (numbersFit (boundOf T) (normal (kindOf T) q)) (accepted U q)) (ap isTyped (typed-same (λ c m. true) q))
+      ∙ ap (λ b. tests (namesHold q) (typesFit U q) b (sizeFits (normal (kindOf T) q)) (numbersFit (boundOf T) (normal (kindOf T) q)) (accepted U q)) (ap isTyped (typed-same mayStand q))
+      ∙ ap (λ f. tests (namesHold q) (typesFit U q) (generatorsFit U q) (sizeFits f) (numbersFit (boundOf T) f) (accepted U q)) (form-same q)
+      ∙ ap (λ B. tests (namesHold q) (typesFit U q) (generatorsFit U q) (sizeFits (normal (kindOf U) q)) (numbersFit B (normal (kindOf U) q)) (accepted U q)) bounds-same)
 
   -- what holds of equal refusals and of what k and k′ make of an accepted question holds of what they make of any
   module _ {A : Type 0} (P : Result A → Result A → Type 0) (refusals : (n : ℕ) → P (refused n) (refused n)) (k k′ : Accepted → Result A) (h : (q : Question) → P (k (accepted T q)) (k′ (accepted U q))) where
@@ -133,7 +132,7 @@ module _ (T U : Tables) (S : Restates Alike T U) where
 
     judged-both : (q : Question) → P (andThen (judge T q) k) (andThen (judge U q) k′)
     unfolding judge
-    judged-both q = subst (λ r. P (andThen (judge T q) k) (andThen r k′)) (sym (judge-as q)) (tests-both (namesHold q) (typesFit T q) (generatorsFit T q) (sizeFits (normal (kindOf T) q)) (numbersFit (normal (kindOf T) q)) (accepted T q) (accepted U q) (h q))
+    judged-both q = subst (λ r. P (andThen (judge T q) k) (andThen r k′)) (sym (judge-as q)) (tests-both (namesHold q) (typesFit T q) (generatorsFit T q) (sizeFits (normal (kindOf T) q)) (numbersFit (boundOf T) (normal (kindOf T) q)) (accepted T q) (accepted U q) (h q))
 
 -- ---- data that are refused alike, or read as tables in two states
 module _ (R : Collection → List Value → List Value → Type 0) (R-alike : (T U : Tables) → Restates R T U → Restates Alike T U) {A : Type 0} (P : Result A → Result A → Type 0) (refusals : (n : ℕ) → P (refused n) (refused n))
@@ -187,7 +186,7 @@ module _ (d d′ l : Bytes) (S : Rereads Reordered (readData d) (readData d′))
 
   loops-ordered : (s : List ℕ) (b : List ℤ) → byLoops d l s b ≡ byLoops d′ l s b
   unfolding byLoops answered
-  loops-ordered s b = ap (withScratch s b) (same-results (written looped b) (λ T U R. written-same T U R b))
+  loops-ordered s b = ap (withScratch scratchWords s b) (same-results (written looped b) (λ T U R. written-same T U R b))
 
   pub any-order : (w : Way) (s : List ℕ) (b : List ℤ) → by w d l s b ≡ by w d′ l s b
   any-order looping s b = loops-ordered s b
@@ -195,11 +194,11 @@ module _ (d d′ l : Bytes) (S : Rereads Reordered (readData d) (readData d′))
 
   pub any-order-checked : (s : List ℕ) → checked d l s ≡ checked d′ l s
   unfolding checked
-  any-order-checked s = ap (withScratch s []) (same-results (λ a. got (record { size = 0; front = [] })) (λ T U R q. refl))
+  any-order-checked s = ap (withScratch scratchWords s []) (same-results (λ a. got (record { size = 0; front = [] })) (λ T U R q. refl))
 
   pub any-order-lines : (s b : List ℕ) → planLines d l s b ≡ planLines d′ l s b
   unfolding planLines
-  any-order-lines s b = ap (withScratch s b) (same-results (printed b) (λ T U R. printed-same T U R b))
+  any-order-lines s b = ap (withScratch scratchWords s b) (same-results (printed b) (λ T U R. printed-same T U R b))
 
 -- ---- "and that repeating a row of a set table, within 1,024 rows, changes neither the answer's length nor a word before it, where the
 -- buffer suffices in both states"
@@ -231,7 +230,7 @@ written-answers v b b′ x y e = go (leb (G x) (length b)) (leb (G y) (length b�
     go true true h k = (ap (λ w. length (words w)) e, λ c c′. whole (v x) (G x) c ∙ ap words e ∙ sym (whole (v y) (G y) c′))
 
 settled-words : (s s′ : List ℕ) (b b′ : List ℤ) (x y : Result (Answer ℤ)) → (Suffices x → Suffices y → Answers x y)
-    → (settled s b x .number ≡ 32 → ⊥) → (settled s′ b′ y .number ≡ 32 → ⊥) → SameWords (settled s b x) (settled s′ b′ y)
+    → (settled scratchWords s b x .number ≡ 32 → ⊥) → (settled scratchWords s′ b′ y .number ≡ 32 → ⊥) → SameWords (settled scratchWords s b x) (settled scratchWords s′ b′ y)
 unfolding settled
 settled-words s s′ b b′ (refused m) (refused n) a h k = record { numbers = a h k; sizes = refl; answers = refl }
 settled-words s s′ b b′ (refused m) (got y) a h k = absurd (a h tt)
@@ -239,35 +238,35 @@ settled-words s s′ b b′ (got x) (refused n) a h k = absurd (a tt k)
 settled-words s s′ b b′ (got x) (got y) a h k = let p = a tt tt in record { numbers = refl; sizes = p .0; answers = p .1 (drop (length (x .front)) b) (drop (length (y .front)) b′) }
 
 scratch-words : (s s′ : List ℕ) (b b′ : List ℤ) (x y : Result (Answer ℤ)) → length s ≡ length s′ → (Suffices x → Suffices y → Answers x y)
-    → (withScratch s b x .number ≡ 32 → ⊥) → (withScratch s′ b′ y .number ≡ 32 → ⊥) → SameWords (withScratch s b x) (withScratch s′ b′ y)
+    → (withScratch scratchWords s b x .number ≡ 32 → ⊥) → (withScratch scratchWords s′ b′ y .number ≡ 32 → ⊥) → SameWords (withScratch scratchWords s b x) (withScratch scratchWords s′ b′ y)
 scratch-words s s′ b b′ x y e a = go (ltb (length s) scratchWords) refl
   where
-    go : (c : Bool) → ltb (length s) scratchWords ≡ c → (withScratch s b x .number ≡ 32 → ⊥) → (withScratch s′ b′ y .number ≡ 32 → ⊥) → SameWords (withScratch s b x) (withScratch s′ b′ y)
-    go true p = let m = ltb-true (length s) scratchWords p in rw (scratch-short s b x m, scratch-short s′ b′ y (omega (arith, e, m))) (λ h k. record { numbers = refl; sizes = refl; answers = refl })
-    go false p = let m = ltb-false (length s) scratchWords p in rw (scratch-long s b x m, scratch-long s′ b′ y (omega (arith, e, m))) (settled-words s s′ b b′ x y a)
+    go : (c : Bool) → ltb (length s) scratchWords ≡ c → (withScratch scratchWords s b x .number ≡ 32 → ⊥) → (withScratch scratchWords s′ b′ y .number ≡ 32 → ⊥) → SameWords (withScratch scratchWords s b x) (withScratch scratchWords s′ b′ y)
+    go true p = let m = ltb-true (length s) scratchWords p in rw (scratch-short s b x m, scratch-short {least = scratchWords} s′ b′ y (omega (arith, e, m))) (λ h k. record { numbers = refl; sizes = refl; answers = refl })
+    go false p = let m = ltb-false (length s) scratchWords p in rw (scratch-long s b x m, scratch-long {least = scratchWords} s′ b′ y (omega (arith, e, m))) (settled-words s s′ b b′ x y a)
 
--- a buffer of G words or more is not refused by 32, nor by any number above it
+-- a buffer of G words or more is not refused by 32
 module _ (d l : Bytes) (s : List ℕ) (b : List ℤ) (g : wordsOf (examine d l) ≤ length b) where
-  written-below : (r : Result Accepted) → wordsOf r ≤ length b → Only (λ n. ltb n 32 ≡ true) r → Only (λ n. ltb n 32 ≡ true) (andThen r (written looped b))
+  written-else : (r : Result Accepted) → wordsOf r ≤ length b → Only (λ n. eqb n 32 ≡ false) r → Only (λ n. eqb n 32 ≡ false) (andThen r (written looped b))
   unfolding andThen written wordsOf require
-  written-below (refused n) h o = o
-  written-below (got a) h o = rw (le-leb (G a) (length b) h) tt
+  written-else (refused n) h o = o
+  written-else (got a) h o = rw (le-leb (G a) (length b) h) tt
 
-  settled-below : (x : Result (Answer ℤ)) → Only (λ n. ltb n 32 ≡ true) x → ltb (settled s b x .number) 32 ≡ true
+  settled-else : (x : Result (Answer ℤ)) → Only (λ n. eqb n 32 ≡ false) x → eqb (settled scratchWords s b x .number) 32 ≡ false
   unfolding settled
-  settled-below (refused n) o = o
-  settled-below (got a) o = refl
+  settled-else (refused n) o = o
+  settled-else (got a) o = refl
 
   loops-suffice : byLoops d l s b .number ≡ 32 → ⊥
   unfolding byLoops answered
-  loops-suffice e = true≢false (sym (go (ltb (length s) scratchWords) refl) ∙ ap (λ n. ltb n 32) e)
+  loops-suffice e = true≢false (sym (ap (λ n. eqb n 32) e) ∙ go (ltb (length s) scratchWords) refl)
     where
-      below : Only (λ n. ltb n 32 ≡ true) (andThen (examine d l) (written looped b))
-      below = written-below (examine d l) g (examine-only (λ n. ltb n 32 ≡ true) (refl, (refl, (refl, (refl, (refl, (refl, (refl, (refl, (refl, (refl, (refl, tt))))))))))) d l)
+      other : Only (λ n. eqb n 32 ≡ false) (andThen (examine d l) (written looped b))
+      other = written-else (examine d l) g (examine-only (λ n. eqb n 32 ≡ false) (refl, (refl, (refl, (refl, (refl, (refl, (refl, (refl, (refl, (refl, (refl, (refl, (refl, (refl, tt)))))))))))))) d l)
 
-      go : (c : Bool) → ltb (length s) scratchWords ≡ c → ltb (withScratch s b (andThen (examine d l) (written looped b)) .number) 32 ≡ true
-      go true p = ap (λ (o : Outcome ℤ). ltb (o .number) 32) (scratch-short s b (andThen (examine d l) (written looped b)) (ltb-true (length s) scratchWords p))
-      go false p = ap (λ (o : Outcome ℤ). ltb (o .number) 32) (scratch-long s b (andThen (examine d l) (written looped b)) (ltb-false (length s) scratchWords p)) ∙ settled-below (andThen (examine d l) (written looped b)) below
+      go : (c : Bool) → ltb (length s) scratchWords ≡ c → eqb (withScratch scratchWords s b (andThen (examine d l) (written looped b)) .number) 32 ≡ false
+      go true p = ap (λ (o : Outcome ℤ). eqb (o .number) 32) (scratch-short s b (andThen (examine d l) (written looped b)) (ltb-true (length s) scratchWords p))
+      go false p = ap (λ (o : Outcome ℤ). eqb (o .number) 32) (scratch-long s b (andThen (examine d l) (written looped b)) (ltb-false (length s) scratchWords p)) ∙ settled-else (andThen (examine d l) (written looped b)) other
 
 -- The buffers may be of any two lengths, if each has room for its state's G words.
 module _ (d d′ l : Bytes) (S : Rereads Alike (readData d) (readData d′)) (s s′ : List ℕ) (b b′ : List ℤ) (e : length s ≡ length s′) (g : wordsOf (examine d l) ≤ length b) (g′ : wordsOf (examine d′ l) ≤ length b′) where

@@ -1,7 +1,7 @@
 -- The checks in their order: "the data ..; 21; 22 and 23 in reading order ..; then 24 to 28 by number, each over the whole
 -- question". "A question is accepted over tables where the checker, with scratch enough, answers 0."
 use Rattle.spec_calculus.specs.Syntax.{Question}
-use Rattle.spec_calculus.specs.Value.{Tables, kindOf}
+use Rattle.spec_calculus.specs.Value.{Tables, kindOf, boundOf}
 use Rattle.spec_encoding.specs.Record.{Bytes, Result, got, andThen, require}
 use Rattle.spec_encoding.specs.Data.{readData}
 use Rattle.spec_encoding.specs.Reader.{readQuestion}
@@ -26,7 +26,7 @@ judge T q =
     (require 25 (typesFit T q)
     (require 26 (generatorsFit T q)
     (require 27 (sizeFits f)
-    (require 28 (numbersFit f)
+    (require 28 (numbersFit (boundOf T) f)
     (got (record { tables = T; question = q; form = f }))))))
 
 unfoldable pub examine : Bytes → Bytes → Result Accepted

@@ -16,9 +16,9 @@ pub record Gives {A : Type 0} (o : Outcome A) (k n : ℕ) (b : List A) (s : List
 
 -- a part that found b in the buffer, left b′ there and says number k and length n has settled x
 pub record Settles {A : Type 0} (x : Result (Answer A)) (b : List A) (k n : ℕ) (b′ : List A) : Type 0 where
-  pub gives : (s : List ℕ) → Gives (settled s b x) k n b′ (cleared s)
+  pub gives : (s : List ℕ) → Gives (settled scratchWords s b x) k n b′ (cleared scratchWords s)
 
--- "the first 8,192 scratch words are 0, later ones unchanged": a part may leave anything in the first
-pub record Spares (s s′ : List ℕ) : Type 0 where
+-- "the first .. scratch words are 0, later ones unchanged": a part may leave anything in the first
+pub record Spares (least : ℕ) (s s′ : List ℕ) : Type 0 where
   pub long : length s′ ≡ length s
-  pub above : (j : ℕ) → scratchWords ≤ j → getD s′ j 0 ≡ getD s j 0
+  pub above : (j : ℕ) → least ≤ j → getD s′ j 0 ≡ getD s j 0

@@ -3,5 +3,8 @@ pub mod WrittenForm
 pub mod Acceptance
 pub mod Outcome
 pub mod RowOrder
+pub mod RecordOrder
 pub mod Gives
+pub mod Directions
 pub mod Rota
+pub mod ScratchLimit

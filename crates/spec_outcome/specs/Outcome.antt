@@ -23,12 +23,14 @@ pub record Outcome (A : Type 0) : Type 0 where
   pub buffer : List A
   pub scratch : List ℕ
 
--- "After every call but 31 the first 8,192 scratch words are 0, later ones unchanged."
+-- How many scratch words a call asks for, and leaves 0, is a parameter of its outcome (`least`). In force is document 02's, E13: "Refusal
+-- 31 moves to fewer than 2,048, the zeroed part shrinks likewise".
 abbrev pub scratchWords : ℕ
-scratchWords = 8192
+scratchWords = 2048
 
-abbrev pub cleared : List ℕ → List ℕ
-cleared s = replicate scratchWords 0 ++ drop scratchWords s
+-- "After every call but 31 the first .. scratch words are 0, later ones unchanged."
+abbrev pub cleared : ℕ → List ℕ → List ℕ
+cleared least s = replicate least 0 ++ drop least s
 
 -- what an answer writes: its length, and what stands at the buffer's front
 pub record Answer (A : Type 0) : Type 0 where
@@ -37,13 +39,13 @@ pub record Answer (A : Type 0) : Type 0 where
 
 -- "An answer is 0 and its length ..; a refusal its number and length 0, the answer or byte buffer unchanged." Behind what
 -- an answer writes the buffer is unchanged.
-unfoldable pub settled : {A : Type 0} → List ℕ → List A → Result (Answer A) → Outcome A
-settled s b (refused n) = record { number = n; size = 0; buffer = b; scratch = cleared s }
-settled s b (got a) = record { number = 0; size = a .size; buffer = a .front ++ drop (length (a .front)) b; scratch = cleared s }
+unfoldable pub settled : {A : Type 0} → ℕ → List ℕ → List A → Result (Answer A) → Outcome A
+settled least s b (refused n) = record { number = n; size = 0; buffer = b; scratch = cleared least s }
+settled least s b (got a) = record { number = 0; size = a .size; buffer = a .front ++ drop (length (a .front)) b; scratch = cleared least s }
 
--- "31: scratch under 8,192 words. Scratch stays untouched." It comes before all else.
-unfoldable pub withScratch : {A : Type 0} → List ℕ → List A → Result (Answer A) → Outcome A
-withScratch s b r = elim (ltb (length s) scratchWords) [ true ↦ record { number = 31; size = 0; buffer = b; scratch = s } | false ↦ settled s b r ]
+-- "31: scratch under .. words. Scratch stays untouched." It comes before all else.
+unfoldable pub withScratch : {A : Type 0} → ℕ → List ℕ → List A → Result (Answer A) → Outcome A
+withScratch least s b r = elim (ltb (length s) least) [ true ↦ record { number = 31; size = 0; buffer = b; scratch = s } | false ↦ settled least s b r ]
 
 -- "G being the answer's length in normal form with each set written as a bag": the order in which a collection's elements
 -- stand does not change its length
@@ -57,26 +59,29 @@ written value b a =
     let ws = words (value a) in
     require 32 (leb (G a) (length b)) (got (record { size = length ws; front = ws ++ replicate (G a - length ws) (pos 0) }))
 
-unfoldable pub answered : (Accepted → Value) → Bytes → Bytes → List ℕ → List ℤ → Outcome ℤ
-answered value d l s b = withScratch s b (andThen (examine d l) (written value b))
+unfoldable pub answered : ℕ → (Accepted → Value) → Bytes → Bytes → List ℕ → List ℤ → Outcome ℤ
+answered least value d l s b = withScratch least s b (andThen (examine d l) (written value b))
 
 -- "The checker takes no answer buffer and ends after 28": its buffer is empty, and so is what it writes
+abbrev pub checkedWith : ℕ → Bytes → Bytes → List ℕ → Outcome ℕ
+checkedWith least d l s = withScratch least s [] (andThen (examine d l) (λ a. got (record { size = 0; front = [] })))
+
 unfoldable pub checked : Bytes → Bytes → List ℕ → Outcome ℕ
-checked d l s = withScratch s [] (andThen (examine d l) (λ a. got (record { size = 0; front = [] })))
+checked = checkedWith scratchWords
 
 -- answering by loops: the value of the question as typed
 abbrev pub looped : Accepted → Value
 looped a = meaning canonical (a .tables) (a .question)
 
 unfoldable pub byLoops : Bytes → Bytes → List ℕ → List ℤ → Outcome ℤ
-byLoops = answered looped
+byLoops = answered scratchWords looped
 
 -- answering by plan: the value of the plan under the operators' definitions
 abbrev pub planned : Accepted → Value
 planned a = planValue canonical (a .tables) (planOf (a .form))
 
 unfoldable pub byPlan : Bytes → Bytes → List ℕ → List ℤ → Outcome ℤ
-byPlan = answered planned
+byPlan = answered scratchWords planned
 
 -- "One more call writes the plan's lines .. into a lent byte buffer; its length is in bytes." "33: the plan call's byte
 -- buffer is shorter than the plan's lines. Bytes behind the lines never change."
@@ -85,5 +90,8 @@ printed b a =
     let l = lines (planOf (a .form)) in
     require 33 (leb (length l) (length b)) (got (record { size = length l; front = l }))
 
+abbrev pub planLinesWith : ℕ → Bytes → Bytes → List ℕ → List ℕ → Outcome ℕ
+planLinesWith least d l s b = withScratch least s b (andThen (examine d l) (printed b))
+
 unfoldable pub planLines : Bytes → Bytes → List ℕ → List ℕ → Outcome ℕ
-planLines d l s b = withScratch s b (andThen (examine d l) (printed b))
+planLines = planLinesWith scratchWords

@@ -27,6 +27,7 @@ Reordered set l m = Rearranged l m
 pub record Restated (R : Collection → List Value → List Value → Type 0) (t u : Table) : Type 0 where
   pub kind : t .kind ≡ u .kind
   pub columns : t .columns ≡ u .columns
+  pub bounds : t .bounds ≡ u .bounds
   pub rows : R (t .kind) (t .rows) (u .rows)
 
 -- all tables, each with the one of its number
@@ -52,24 +53,26 @@ recordBytes l₀ l₁ k₀ k₁ c d = l₀ ∷ l₁ ∷ k₀ ∷ k₁ ∷ (c ++ 
 abbrev pub joined : List Bytes → Bytes
 joined rs = bindL rs (λ r. r)
 
--- "one byte of collection .., one byte of columns .., two bytes of rows .., then the cells row by row"
-abbrev pub tableContent : (c w n₀ n₁ : ℕ) → List Bytes → Bytes
-tableContent c w n₀ n₁ rs = c ∷ w ∷ n₀ ∷ n₁ ∷ joined rs
+-- "one byte of collection .., one byte of columns .., two bytes of rows .., then the cells row by row"; ahead of them the table's number (document 02, E9),
+-- between row count and cells the columns' bounds (E5)
+abbrev pub tableContent : (j c w n₀ n₁ : ℕ) → Bytes → List Bytes → Bytes
+tableContent j c w n₀ n₁ b rs = j ∷ c ∷ w ∷ n₀ ∷ n₁ ∷ (b ++ joined rs)
 
--- length and count are those of the rows, and a row has four bytes a column
-pub record Counted (w l₀ l₁ n₀ n₁ : ℕ) (rs : List Bytes) : Type 0 where
-  pub lengths : l₀ + 256 * l₁ ≡ 4 + length (joined rs)
+-- length and count are those of bounds and rows; the bounds, and each row, have four bytes a column
+pub record Counted (w l₀ l₁ n₀ n₁ : ℕ) (b : Bytes) (rs : List Bytes) : Type 0 where
+  pub lengths : l₀ + 256 * l₁ ≡ 5 + (length b + length (joined rs))
+  pub bounds : length b ≡ 4 * w
   pub counts : n₀ + 256 * n₁ ≡ length rs
   pub widths : All (λ r. length r ≡ 4 * w) rs
 
--- The same records, the rows of tables related by R; "within 1,024 rows", or beyond in both. Behind the last of them stand the same
--- bytes, whatever they are.
+-- The same records, their numbers and bounds too, the rows of tables of kind 20 related by R; "within 1,024 rows", or beyond in both. Behind the last of them
+-- stand the same bytes, whatever they are. A table of kind 23 is first turned into kind 20 (`Turned`).
 pub data Rewritten (R : Collection → List Bytes → List Bytes → Type 0) : Bytes → Bytes → Type 0 where
   rest : (d : Bytes) → Rewritten R d d
   same : (l₀ l₁ k₀ k₁ : ℕ) (c : Bytes) {d e : Bytes} → l₀ + 256 * l₁ ≡ length c → Rewritten R d e → Rewritten R (recordBytes l₀ l₁ k₀ k₁ c d) (recordBytes l₀ l₁ k₀ k₁ c e)
-  table : (k₀ k₁ c w : ℕ) {l₀ l₁ n₀ n₁ m₀ m₁ o₀ o₁ : ℕ} (rs us : List Bytes) {d e : Bytes} → Counted w l₀ l₁ n₀ n₁ rs → Counted w m₀ m₁ o₀ o₁ us
+  table : (j c w : ℕ) {l₀ l₁ n₀ n₁ m₀ m₁ o₀ o₁ : ℕ} (b : Bytes) (rs us : List Bytes) {d e : Bytes} → Counted w l₀ l₁ n₀ n₁ b rs → Counted w m₀ m₁ o₀ o₁ b us
       → leb (length rs) 1024 ≡ leb (length us) 1024 → R (collectionOf c) rs us → Rewritten R d e
-      → Rewritten R (recordBytes l₀ l₁ k₀ k₁ (tableContent c w n₀ n₁ rs) d) (recordBytes m₀ m₁ k₀ k₁ (tableContent c w o₀ o₁ us) e)
+      → Rewritten R (recordBytes l₀ l₁ 20 0 (tableContent j c w n₀ n₁ b rs) d) (recordBytes m₀ m₁ 20 0 (tableContent j c w o₀ o₁ b us) e)
 
 -- ---- answers
 -- "by loops or by plan"

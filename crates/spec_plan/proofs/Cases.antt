@@ -4,7 +4,7 @@ use Rattle.spec_calculus.specs.Lists.{bindL, guard, pick, upd}
 use Rattle.spec_calculus.specs.Value.{nth, fieldOf, asInt, asBool, elems, eqZ, binV, scalar, choiceV, appV, count, kindOf, rowsOf}
 use Rattle.spec_calculus.specs.Order.{then, compareZ, compareV, leV, insert, put}
 use Rattle.spec_calculus.specs.Monoid.{start, greater, lesser, against, step, total, finish, foldBy, ordered, canonical}
-use Rattle.spec_calculus.specs.Cases.{Case, answers, prints, refuses, starred}
+use Rattle.spec_calculus.specs.Cases.{Case, answers, prints, refuses, reads, declines, starred}
 use Rattle.spec_calculus.proofs.Lists.{All}
 use Rattle.spec_normal_form.specs.Form.{_⊕_, gens}
 use Rattle.spec_normal_form.specs.Normal.{quote, idempotent, givesWay, condition, ranges, part, binary, before, norm, normal}
@@ -30,7 +30,9 @@ abbrev pub Planned : Case → Type 0
 Planned (answers T q v ws g) = planValue canonical T (planOf (normal (kindOf T) q)) ≡ v
 Planned (prints T q s) = lines (planOf (normal (kindOf T) q)) ≡ ascii s
 Planned (refuses T q n) = Unit {0}
+Planned (reads d T) = Unit {0}
+Planned (declines d n) = Unit {0}
 
 pub starred-planned : All Planned starred
 unfolding planning running printing
-starred-planned = (refl, (refl, (refl, (refl, (refl, (refl, (refl, (refl, (refl, (refl, (refl, (refl, (refl, (refl, (refl, (refl, (refl, (tt, (refl, (refl, (refl, (tt, (tt, (tt, (refl, (refl, (refl, (refl, (refl, (refl, (tt, (tt, (tt, (tt, tt))))))))))))))))))))))))))))))))))
+starred-planned = (refl, (refl, (refl, (refl, (refl, (refl, (refl, (refl, (refl, (refl, (refl, (refl, (refl, (refl, (refl, (refl, (refl, (tt, (refl, (refl, (refl, (tt, (tt, (tt, (refl, (refl, (refl, (refl, (refl, (refl, (tt, (tt, (tt, (tt, (refl, (tt, (refl, (tt, (refl, (tt, (refl, (tt, (tt, (tt, (tt, (tt, (tt, (tt, (tt, (tt, (tt, (tt, (tt, (tt, (refl, (refl, (tt, (tt, (tt, (tt, (tt, (tt, (tt, (tt, (tt, (tt, (tt, (tt, (tt, (tt, tt))))))))))))))))))))))))))))))))))))))))))))))))))))))))))))))))))))))

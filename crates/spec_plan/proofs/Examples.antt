@@ -19,7 +19,7 @@ pub pair : ℕ → ℕ → Value
 pair a b = Va.rec (vcons (Va.num (pos a)) (vcons (Va.num (pos b)) vnil))
 
 pub bagOf : List Value → Table
-bagOf l = record { kind = bag; columns = 2; rows = l }
+bagOf l = record { kind = bag; columns = 2; bounds = 2147483648 ∷ 2147483648 ∷ []; rows = l }
 
 -- berths, two of them alike; bollards with the berth that they stand at; ropes with the bollard that they hang on
 pub harbour : Tables
