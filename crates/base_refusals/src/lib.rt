@@ -1,5 +1,5 @@
 // The numbers of the refusals, of documents 01 and 02, under the names of include/dislogha.h.
-// A record of the data is cut short or not kind 20.
+// A record of the data is cut short or of neither kind 20 nor 23.
 pub const NOT_A_TABLE: u64 = 11;
 
 pub const TABLE_OUT_OF_RANGE: u64 = 12;
@@ -28,8 +28,20 @@ pub const ANSWER_TOO_SHORT: u64 = 32;
 
 pub const LINES_TOO_SHORT: u64 = 33;
 
+// A column's bound is over 2^31, or a cell is beyond it.
+pub const CELL_BEYOND_BOUND: u64 = 43;
+
 pub const ROWS_OUT_OF_RANGE: u64 = 47;
 
 pub const NOTHING_UNFINISHED: u64 = 48;
 
 pub const ROTA_OUT_OF_RANGE: u64 = 49;
+
+// A table's number is above 7.
+pub const TABLE_NUMBER_OUT_OF_RANGE: u64 = 50;
+
+// A record before has this number.
+pub const TABLE_NUMBER_USED: u64 = 51;
+
+// The target of a turned table is shorter than its record.
+pub const TARGET_TOO_SHORT: u64 = 52;

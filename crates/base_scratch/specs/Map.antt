@@ -1,8 +1,8 @@
 -- Which scratch words hold what. Each phase has its own names for the words that it uses.
 --
 --   words         checks         by loops      a plan is made   a plan runs   settled
---   0             how many tables there are, in every phase
---   1 .. 8        their descriptions, in every phase
+--   0             free
+--   1 .. 8        the tables' descriptions, by number, in every phase
 --   9 .. 15       free
 --   16 .. 271     nodes          environment, from the normal form on
 --   272 .. 527    binders                      registers        totals
@@ -10,21 +10,15 @@
 --   784 .. 1295   sizes                        registers        starts
 --   1296 .. 1807  normal form    the same      and its marks    and links     the same
 --   1808 .. 1811  free, and between the portions of an unfinished question where it stands
---   1812 .. 8191  free
-use Prim.Native.Nat.{ℕ, _+_, _-_, _*_, _/_}
+--   1812 .. 1875  free, and from the normal form on the checkpoints of columns
+--   1876 .. 2047  free
+use Prim.Native.Nat.{ℕ, _+_, _*_, _/_}
 
--- how many words a call needs, and clears: spec_outcome's `scratchWords`
+-- how many words a call needs, and clears: spec_outcome's `scratchWords`. From this word on none is written.
 abbrev pub scratchSize : ℕ
-scratchSize = 8192
+scratchSize = 2048
 
--- from this word on none is written
-abbrev pub unusedAt : ℕ
-unusedAt = 2048
-
--- how many tables there are, and a description for each (base_tables/specs/DataReader)
-abbrev pub tablesAt : ℕ
-tablesAt = 0
-
+-- a description for each number of a table, 0 where there is none (base_tables/specs/DataReader)
 abbrev pub descriptionsAt : ℕ
 descriptionsAt = 1
 
@@ -90,3 +84,10 @@ limitAt = stageAt + 2
 
 abbrev pub firstAt : ℕ
 firstAt = stageAt + 3
+
+-- ---- from the normal form on: a word for each column of each table, its checkpoint where the table is by columns (base_checkpoints/specs/Checkpoints)
+abbrev pub checkpointsAt : ℕ
+checkpointsAt = firstAt + 1
+
+abbrev pub checkpointsEnd : ℕ
+checkpointsEnd = checkpointsAt + 64

@@ -9,11 +9,9 @@ ghost use Rattle.base_scratch.specs.ZeroedWords.{WipePost};
 // The map. specs/Map.antt has the same names and says what stands there.
 
 // How many words a call needs, and clears.
-pub const WORDS: usize = 8192;
+pub const WORDS: usize = 2048;
 
-// Always: how many tables there are, and their descriptions.
-pub const TABLES: usize = 0;
-
+// Always: the tables' descriptions, by number. Word 0 is free.
 pub const DESCRIPTIONS: usize = 1;
 
 // The words of a question begin here, and later those of answering: seven words behind the descriptions are free.
@@ -58,6 +56,9 @@ pub const CODE: usize = STAGE + 1;
 pub const LIMIT: usize = STAGE + 2;
 
 pub const FIRST: usize = STAGE + 3;
+
+// From the normal form on: a word for each column of each table, its checkpoint where the table is by columns.
+pub const CHECKPOINTS: usize = FIRST + 1;
 
 // Word i; 0 outside.
 pub fn load(s: &[u64], i: usize) -> u64
@@ -104,7 +105,7 @@ pub fn wipe(s: &mut [u64], a: usize, b: usize)
     }
 }
 
-// "After every call but 31 the first 8,192 scratch words are 0, later ones unchanged."
+// "After every call but 31 the first .. scratch words are 0, later ones unchanged": 2,048 of them by document 02, E13.
 pub fn clear(s: &mut [u64])
     requires { ⌜ scratchSize ≤ length (now s) ⌝ }
     ensures { λ r. ⌜ now (s .exit) ≡ replicate scratchSize 0 ++ drop scratchSize (now (s .entry)) ⌝ }

@@ -9,7 +9,7 @@ use lib.Dec.{T, ltb, eqb, ltb→lt, le→leb}
 use lib.ListN.{length, getD, set}
 use lib.Seq.{getD-set-same}
 use mathlib.Core.List.{List}
-use borrow.Author.Tests.{ltb-true, eq-eqb, ne-eqb, eqb-true, eqb-false}
+use borrow.Author.Tests.{eq-eqb, ne-eqb, eqb-true, eqb-false}
 use lib.IntN.{natAbs, ℤ, pos, negsuc, negℤ, _+ℤ_, _-ℤ_, _*ℤ_}
 use lib.Signed.{mag, ltZ, leZ, nonNeg, _<ℤ_, _≤ℤ_, ltZ-yes, ltZ-no, leZ-yes, <ℤ-≤ℤ-trans, clashℤ}
 use mir.Syntax.{w64}
@@ -93,31 +93,9 @@ pub mag-abs : (z : ℤ) → mag z ≤ natAbs z
 mag-abs (pos n) = omega arith
 mag-abs (negsuc n) = omega arith
 
-pub negated : (z : ℤ) → ltZ z (pos 0) ≡ true → pos 0 -ℤ z ≡ pos (natAbs z)
-negated (pos n) e = absurd (omega (arith, ltb-true n 0 e))
-negated (negsuc n) e = ap pos (omega arith)
-
-pub natural : (z : ℤ) → ltZ z (pos 0) ≡ false → z ≡ pos (natAbs z)
-natural (pos n) e = refl
-natural (negsuc n) e = absurd (let y : _≡_ {A = ℕ} 0 1 = cc in omega arith)
-
--- ... as they come of the machine's words
-module _ {z : ℤ} (f : SFits w64 z) (p : natAbs z ≤ 2 ^ 62 + 1) where
-  pub negative-ok : SFits w64 (toZ w64 (ofZ w64 (pos 0)) -ℤ toZ w64 (ofZ w64 z))
-  negative-ok = sub-ok (sfits-lit {z = pos 0} tt) f (omega (arith, mag-abs z))
-
-  module _ (l : ltZ (toZ w64 (ofZ w64 z)) (toZ w64 (ofZ w64 (pos 0))) ≡ true) where
-    turned : toZ w64 (ofZ w64 (toZ w64 (ofZ w64 (pos 0)) -ℤ toZ w64 (ofZ w64 z))) ≡ pos (natAbs z)
-    turned = sub-is (sfits-lit {z = pos 0} tt) f (omega (arith, mag-abs z)) ∙ negated z (lt-is f (sfits-lit {z = pos 0} tt) l)
-
-    pub negative-cast : T (nonNeg (toZ w64 (ofZ w64 (toZ w64 (ofZ w64 (pos 0)) -ℤ toZ w64 (ofZ w64 z))))) × Fits w64 (natAbs (toZ w64 (ofZ w64 (toZ w64 (ofZ w64 (pos 0)) -ℤ toZ w64 (ofZ w64 z)))))
-    negative-cast = rw turned (tt, omega arith)
-
-    pub negative-is : natAbs (toZ w64 (ofZ w64 (toZ w64 (ofZ w64 (pos 0)) -ℤ toZ w64 (ofZ w64 z)))) ≡ natAbs z
-    negative-is = ap natAbs turned
-
-  pub positive-cast : ltZ (toZ w64 (ofZ w64 z)) (toZ w64 (ofZ w64 (pos 0))) ≡ false → T (nonNeg (toZ w64 (ofZ w64 z))) × Fits w64 (natAbs (toZ w64 (ofZ w64 z)))
-  positive-cast l = rw (toZ-ofZ f ∙ natural z (lt-is f (sfits-lit {z = pos 0} tt) l)) (tt, omega arith)
+-- 0 less a number, as the machine's words have it
+pub negative-ok : {z : ℤ} → SFits w64 z → natAbs z ≤ 2 ^ 62 + 1 → SFits w64 (toZ w64 (ofZ w64 (pos 0)) -ℤ toZ w64 (ofZ w64 z))
+negative-ok {z} f p = sub-ok (sfits-lit {z = pos 0} tt) f (omega (arith, mag-abs z))
 
 -- by the two outcomes of a test
 pub by-test : {P : Type 0} (t : Bool) → (t ≡ true → P) → (t ≡ false → P) → P

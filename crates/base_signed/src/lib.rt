@@ -11,7 +11,14 @@ pub const NUMBER_MOST: i64 = NUMBER_LIMIT as i64;
 
 pub const NUMBER_LEAST: i64 = -NUMBER_MOST;
 
-// Counts and places in a buffer stop there too.
+// A cell is four signed bytes: its magnitude is at most 2^31.
+pub const CELL_LIMIT: u64 = 2147483648;
+
+pub const CELL_MOST: i64 = CELL_LIMIT as i64;
+
+pub const CELL_LEAST: i64 = -CELL_MOST;
+
+// Counts and places in a buffer stop at NUMBER_LIMIT, too.
 pub const COUNT_LIMIT: usize = NUMBER_LIMIT as usize;
 
 // A number that is not negative.

@@ -10,7 +10,7 @@ use Rattle.base_syntax.specs.declared.Fun.{Fun}
 use Rattle.base_syntax.specs.declared.Fun.the-variants.{Choice}
 use Rattle.base_syntax.specs.declared.Monoid.the-variants as Mo
 use Rattle.base_syntax.specs.MonoidWord.{monoidOf}
-use Rattle.base_syntax.specs.Numbers.{binOf, opArg, operators, opAt, funOf, funArg, funAt, monoidNumber, monoids, monoidNumbered, monoidArg, monoidAt}
+use Rattle.base_syntax.specs.Numbers.{binOf, opArg, operators, opAt, funOf, funArg, funAt, monoidNumber, monoidNumbered, monoidArg, monoidAt}
 
 pub op-back : (o : Bin) → binOf (opAt (opArg o)) ≡ o
 op-back plus = refl

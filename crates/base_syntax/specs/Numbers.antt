@@ -1,7 +1,10 @@
--- Operators and monoids as numbers: an operator's in a form word, a monoid's own of document 01, and the three bits that a form
--- word keeps of that.
+-- Operators, monoids and constants as numbers: an operator's in a form word, a monoid's own of document 01, the three bits that a form
+-- word keeps of that, and a constant's distance from -2^31.
 use mathlib.Core.List.{List, [], _∷_}
-use Prim.Native.Nat.{ℕ, zero, suc, _%_}
+use mathlib.Core.Bool.{true, false}
+use Prim.Native.Nat.{ℕ, zero, suc, _-_, _%_}
+use lib.Dec.{ltb}
+use lib.IntN.{ℤ, pos, negsuc}
 use lib.ListN.{getD}
 use Rattle.spec_calculus.specs.Syntax.{list, bag, set, of, sum, max, min, some, all, Bin, plus, minus, times, equal, less, and, or, choice}
 use Rattle.spec_calculus.specs.Syntax as Sy
@@ -37,6 +40,10 @@ operators = Plus ∷ Minus ∷ Times ∷ Equal ∷ Less ∷ And ∷ Or ∷ []
 
 abbrev pub opAt : ℕ → Op
 opAt a = getD operators a Plus
+
+-- A number is kept, in a question's words and in a form's, as its distance from -2^31 (OFFSET in the code).
+abbrev pub constantOf : ℕ → ℤ
+constantOf a = elim (ltb a 0x80000000) [ true ↦ negsuc (0x7fffffff - a) | false ↦ pos (a - 0x80000000) ]
 
 -- document 02's operators
 abbrev pub funOf : Fun → Sy.Fun

@@ -51,8 +51,10 @@ pub const KIND_CONDITION: u64 = 18;
 // Document 02's: a choice (E2).
 pub const KIND_CHOICE: u64 = 19;
 
-// The kind of the data's records: a table with its rows.
+// The kinds of the data's records: a table by its rows, and the same by its columns (E10).
 pub const KIND_ROWS: usize = 20;
+
+pub const KIND_COLUMNS: usize = 23;
 
 // Numbers are kept, in a question's words and in a form's, as their distance from -2^31; ZERO is the number 0.
 pub const OFFSET: i64 = 2147483648;

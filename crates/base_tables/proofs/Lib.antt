@@ -1,7 +1,9 @@
 -- Laws of the tables' descriptions and of the data's reading.
 pub mod DataRecords
 pub mod ByteReaders
-mod ReadLoop
+mod ColumnBounds
 mod TableCells
+mod NumberedTables
+mod ReadLoop
 pub mod ReadData
 pub mod TableWords

@@ -1,45 +1,85 @@
 -- A table's cells in the bytes of its record, and by its description. Assumes nothing.
 use mathlib.Core.Path.{_≡_, refl, sym, ap, ap₂, _∙_}
-use mathlib.Core.List.{_∷_}
-use Prim.Native.Nat.{ℕ, zero, suc, _+_, _*_, _≤_, _<_}
-use native.Mathlib.Nat.{add-zero, add-assoc, mul-zero, mul-suc, mul-le-mul-left}
+use mathlib.Core.Bool.{true, false}
+use mathlib.Core.List.{[], _∷_}
+use Prim.Native.Nat.{ℕ, zero, suc, _+_, _-_, _*_, _^_, _≤_, _<_}
+use native.Mathlib.Nat.{add-zero, add-assoc, mul-comm}
 use native.Mathlib.Omega.{arith}
-use borrow.Author.Tests.{lt-ltb}
-use lib.ListN.{length, getD, drop}
+use borrow.Author.Tests.{lt-ltb, le-ltb, le-leb, ltb-true, ltb-false, eq-eqb, ne-eqb}
+use lib.Dec.{eqb, ltb}
+use lib.IntN.{pos, natAbs}
+use lib.ListN.{length, getD, drop, List·getD-eq-default}
 use lib.Seq.{drop-drop, getD-drop, getD-take}
 use Rattle.spec_calculus.specs.Lists.{pick}
-use Rattle.spec_calculus.specs.Value.{vcons, num, rec, Table, Tables, junk, asInt, nth, fieldOf, kindOf, columnsOf, rowsOf}
-use Rattle.spec_encoding.specs.Record.{Bytes, byte, two, four, signed, lengthOf, contentOf}
-use Rattle.spec_encoding.specs.Data.{collectionOf, cells, rowsFrom, tableOf}
-use Rattle.base_tables.specs.Description.{descriptionOf, collectionIn, columnsIn, rowsIn, kindIn, subsetIn, positionIn, cellIn, cellsIn, collectionNumber, Describes}
-use Rattle.spec_encoding.proofs.Data.{rows-length, Fit}
-use Rattle.base_tables.proofs.DataRecords.{content-length, ReadAt, read-whole, read-fit}
+use Rattle.spec_calculus.specs.Value.{vcons, num, rec, Tables, noTable, columnsOf, boundOf, rowsOf}
+use Rattle.spec_calculus.specs.Value as Value
+use Rattle.spec_calculus.proofs.WellFormed.{all-at}
+use Rattle.spec_encoding.specs.Record.{Bytes, four, signed, lengthOf, kindOf, contentOf}
+use Rattle.spec_encoding.specs.Columns.{summed}
+use Rattle.spec_encoding.specs.Data.{collectionOf, boundsFrom, cells, tableCollection, tableColumns, tableRows, boundsAt, fits, tableOf, cellsAt, contentByRows, contentBy, tableBy, bounded}
+use Rattle.spec_encoding.proofs.Arrangement.{SameHead, by-head, by-fit}
+use Rattle.spec_encoding.proofs.Columns.{summed-same, summed-cell, by-bound}
+use Rattle.spec_encoding.proofs.Data.{rows-length, bounds-length, Fit, fit, table-read}
+use Rattle.spec_encoding.proofs.ColumnBounds.{four-same, four-drop, row-at, contentCell, bound-read, cell-read, bounded-column}
+use Rattle.base_signed.proofs.SignedWords.{by-test}
+use Rattle.base_tables.specs.Description.{oneColumn, oneRow, oneKind, onePosition, kindBit, descriptionOf, collectionIn, columnsIn, rowsIn, kindIn, subsetIn, positionIn, wordIn, cellIn, cellsIn, boundIn, collectionNumber, Describes}
+use Rattle.base_tables.proofs.DataRecords.{content-length, kindAt, contentAt, ReadAt, read-whole}
+use Rattle.base_tables.proofs.ByteReaders.{row-within}
 
 -- the fields of a description
-module _ (c : Bytes) (p : ℕ) (f : Fit c) where
-  collection-in : collectionIn (descriptionOf c p) ≡ byte c 0
-  unfolding descriptionOf
-  collection-in = omega arith
+module _ (a b n z x : ℕ) (p : a ≤ 3) (q : b ≤ 8) (l : n ≤ 1024) (u : z ≤ 1) where
+  abbrev packed : ℕ
+  packed = a + oneColumn * b + oneRow * n + oneKind * z + onePosition * x
 
-  columns-in : columnsIn (descriptionOf c p) ≡ byte c 1
-  unfolding descriptionOf
-  columns-in = omega arith
+  collection-of : collectionIn packed ≡ a
+  collection-of = omega arith
 
-  rows-in : rowsIn (descriptionOf c p) ≡ two c 2
-  unfolding descriptionOf
-  rows-in = omega arith
+  columns-of : columnsIn packed ≡ b
+  columns-of = omega arith
 
-  kind-in : kindIn (descriptionOf c p) ≡ 0
-  unfolding descriptionOf
-  kind-in = omega arith
+  rows-of : rowsIn packed ≡ n
+  rows-of = omega arith
 
-  subset-in : subsetIn (descriptionOf c p) ≡ 0
-  unfolding descriptionOf
-  subset-in = omega arith
+  kind-of : kindIn packed ≡ z
+  kind-of = omega arith
 
-  position-in : positionIn (descriptionOf c p) ≡ p
+  subset-of : subsetIn packed ≡ 0
+  subset-of = omega arith
+
+  position-of : positionIn packed ≡ x
+  position-of = omega arith
+
+bit-most : (k : ℕ) → kindBit k ≤ 1
+unfolding kindBit pick
+bit-most k = by-test (eqb k 23) (λ t. rw t (omega arith)) (λ t. rw t (omega arith))
+
+module _ (K : ℕ) (c : Bytes) (p : ℕ) (f : Fit c) where
+  abbrev place : ℕ
+  place = p + 4 * tableColumns c
+
+  collection-in : collectionIn (descriptionOf K c p) ≡ tableCollection c
   unfolding descriptionOf
-  position-in = omega arith
+  collection-in = collection-of (tableCollection c) (tableColumns c) (tableRows c) (kindBit K) place (f .collection-most) (f .columns-most) (f .rows-most) (bit-most K)
+
+  columns-in : columnsIn (descriptionOf K c p) ≡ tableColumns c
+  unfolding descriptionOf
+  columns-in = columns-of (tableCollection c) (tableColumns c) (tableRows c) (kindBit K) place (f .collection-most) (f .columns-most) (f .rows-most) (bit-most K)
+
+  rows-in : rowsIn (descriptionOf K c p) ≡ tableRows c
+  unfolding descriptionOf
+  rows-in = rows-of (tableCollection c) (tableColumns c) (tableRows c) (kindBit K) place (f .collection-most) (f .columns-most) (f .rows-most) (bit-most K)
+
+  kind-in : kindIn (descriptionOf K c p) ≡ kindBit K
+  unfolding descriptionOf
+  kind-in = kind-of (tableCollection c) (tableColumns c) (tableRows c) (kindBit K) place (f .collection-most) (f .columns-most) (f .rows-most) (bit-most K)
+
+  subset-in : subsetIn (descriptionOf K c p) ≡ 0
+  unfolding descriptionOf
+  subset-in = subset-of (tableCollection c) (tableColumns c) (tableRows c) (kindBit K) place (f .collection-most) (f .columns-most) (f .rows-most) (bit-most K)
+
+  position-in : positionIn (descriptionOf K c p) ≡ place
+  unfolding descriptionOf
+  position-in = position-of (tableCollection c) (tableColumns c) (tableRows c) (kindBit K) place (f .collection-most) (f .columns-most) (f .rows-most) (bit-most K)
 
 number-of : (k : ℕ) → 1 ≤ k → k ≤ 3 → k ≡ collectionNumber (collectionOf k)
 unfolding collectionNumber
@@ -49,44 +89,39 @@ number-of (suc (suc zero)) p q = refl
 number-of (suc (suc (suc zero))) p q = refl
 number-of (suc (suc (suc (suc k)))) p q = absurd (omega arith)
 
--- the rows of a table's content, and the cells of a row
-row-at : (m n r : ℕ) (l : Bytes) → r < n → getD (rowsFrom m n l) r junk ≡ rec (cells m (drop (4 * (m * r)) l))
-unfolding rowsFrom
-row-at m zero r l p = absurd (omega arith)
-row-at m (suc n) zero l p = rw mul-zero
-row-at m (suc n) (suc r) l p = row-at m n r (drop (4 * m) l) (omega arith) ∙ ap (λ x. rec (cells m x)) (drop-drop (4 * (m * r)) (4 * m) l ∙ ap (λ k. drop k l) k)
-  where
-    k : 4 * m + 4 * (m * r) ≡ 4 * (m * suc r)
-    k = omega (arith, mul-suc m r)
-
--- four bytes are the same where each of them is
-four-same : (l m : Bytes) (i j : ℕ) → ((x : ℕ) → x < 4 → getD l (i + x) 0 ≡ getD m (j + x) 0) → four l i ≡ four m j
-four-same l m i j h =
-    let e0 : getD l i 0 ≡ getD m j 0 = simp add-zero at (h 0 (omega arith)) in
-    let e3 : getD l (i + 2 + 1) 0 ≡ getD m (j + 2 + 1) 0 = simp add-assoc (h 3 (omega arith)) in
-    rw (e0, h 1 (omega arith), h 2 (omega arith), e3)
-
-four-drop : (k i : ℕ) (l : Bytes) → four (drop k l) i ≡ four l (k + i)
-four-drop k i l = four-same (drop k l) l i (k + i) (λ x q. getD-drop k l (i + x) 0 ∙ simp add-assoc)
-
-cell-at : (m c : ℕ) (l : Bytes) → c < m → nth c (cells m l) ≡ num (signed (four l (4 * c)))
-unfolding cells nth
-cell-at zero c l p = absurd (omega arith)
-cell-at (suc m) zero l p = refl
-cell-at (suc m) (suc c) l p = cell-at m c (drop 4 l) (omega arith) ∙ ap (λ x. num (signed x)) (four-drop 4 (4 * c) l ∙ ap (four l) k)
-  where
-    k : 4 + 4 * c ≡ 4 * suc c
-    k = omega arith
-
 content-at : (d : Bytes) (p x : ℕ) → x < lengthOf (drop p d) → getD (contentOf (drop p d)) x 0 ≡ getD d (p + 4 + x) 0
 content-at d p x q =
     getD-take (lengthOf (drop p d)) (drop 4 (drop p d)) x 0 q ∙ getD-drop 4 (drop p d) x 0 ∙ getD-drop p d (4 + x) 0 ∙ simp add-assoc
 
-cell-found : (d : Bytes) (w r c : ℕ) {n m p : ℕ} → rowsIn w ≡ n → columnsIn w ≡ m → positionIn w ≡ p → r < n → c < m →
-    cellIn d w r c ≡ signed (four d (p + 4 * (m * r + c)))
+-- the cell's number, by rows and by columns
+word-by-rows : (d : Bytes) (w r c : ℕ) {m p : ℕ} → kindIn w ≡ 0 → columnsIn w ≡ m → positionIn w ≡ p → wordIn d w r c ≡ four d (p + 4 * (m * r + c))
+unfolding wordIn pick
+word-by-rows d w r c k em ep = rw (ne-eqb (kindIn w) 1 (λ e. omega (arith, k, e))) (rw (em, ep))
+
+word-by-columns : (d : Bytes) (w r c : ℕ) {n p : ℕ} → kindIn w ≡ 1 → rowsIn w ≡ n → positionIn w ≡ p → wordIn d w r c ≡ summed d (p + 4 * (n * c)) (suc r)
+unfolding wordIn pick
+word-by-columns d w r c k en ep = rw (eq-eqb (kindIn w) 1 k) (rw (en, ep))
+
+cell-found : (d : Bytes) (w r c : ℕ) {n m : ℕ} → rowsIn w ≡ n → columnsIn w ≡ m → r < n → c < m → cellIn d w r c ≡ signed (wordIn d w r c)
 unfolding cellIn pick
-cell-found d w r c en em ep q t =
-    rw (lt-ltb r (rowsIn w) (rw (← en) at q), lt-ltb c (columnsIn w) (rw (← em) at t)) (ap signed (rw (em, ep)))
+cell-found d w r c en em q t = rw (lt-ltb r (rowsIn w) (rw (← en) at q), lt-ltb c (columnsIn w) (rw (← em) at t))
+
+cell-below : (d : Bytes) (w r c : ℕ) {n : ℕ} → rowsIn w ≡ n → n ≤ r → cellIn d w r c ≡ pos 0
+unfolding cellIn pick
+cell-below d w r c e p = rw (le-ltb r (rowsIn w) (rw (← e) at p))
+
+cell-beside : (d : Bytes) (w r c : ℕ) {m : ℕ} → columnsIn w ≡ m → m ≤ c → cellIn d w r c ≡ pos 0
+unfolding cellIn pick
+cell-beside d w r c e p = by-test (ltb r (rowsIn w)) (λ h. rw (h, le-ltb c (columnsIn w) (rw (← e) at p))) (λ h. rw h)
+
+bound-found : (d : Bytes) (w c : ℕ) {m p : ℕ} → columnsIn w ≡ m → positionIn w ≡ p → c < m → 4 * m ≤ p → boundIn d w c ≡ four d (p - 4 * m + 4 * c)
+unfolding boundIn pick
+bound-found d w c em ep t l =
+    rw (lt-ltb c (columnsIn w) (rw (← em) at t), le-leb (4 * columnsIn w) (positionIn w) (rw (← em, ← ep) at l)) (rw (em, ep))
+
+bound-none : (d : Bytes) (w c : ℕ) {m : ℕ} → columnsIn w ≡ m → m ≤ c → boundIn d w c ≡ 0
+unfolding boundIn pick
+bound-none d w c e p = rw (le-ltb c (columnsIn w) (rw (← e) at p))
 
 -- the same for the cells of a row, from column j on
 module _ (d : Bytes) (w r : ℕ) (l : Bytes) (m : ℕ) (h : (j : ℕ) → j < m → signed (four l (4 * j)) ≡ cellIn d w r j) where
@@ -106,78 +141,186 @@ module _ (d : Bytes) (w r : ℕ) (l : Bytes) (m : ℕ) (h : (j : ℕ) → j < m 
 
 -- where row r of the content c begins
 abbrev rowBytes : Bytes → ℕ → Bytes
-rowBytes c r = drop (4 * (byte c 1 * r)) (drop 4 c)
+rowBytes c r = drop (4 * (tableColumns c * r)) (drop (boundsAt + 4 * tableColumns c) c)
 
 -- the table that was read at p, with the content c
-module _ {d : Bytes} {p w e : ℕ} (R : ReadAt d p w e) (c : Bytes) (s : c ≡ contentOf (drop p d)) where
+module _ {d : Bytes} {p k w e : ℕ} (R : ReadAt d p k w e) (c : Bytes) (s : c ≡ contentOf (drop p d)) where
+  -- its record's kind, and its content by rows
+  abbrev K : ℕ
+  K = kindOf (drop p d)
+
+  abbrev f : Bytes
+  f = contentBy K c
+
+  -- where its bounds begin
+  abbrev from : ℕ
+  from = p + 4 + boundsAt
+
+  fitting-here : fits c ≡ true
+  fitting-here = rw s (R .fitting)
+
   fit-here : Fit c
-  fit-here = rw s (read-fit R)
+  fit-here = fit c fitting-here
+
+  fit-rows : Fit f
+  fit-rows = fit f (by-fit K c (fit-here .long) ∙ fitting-here)
+
+  head : SameHead c f
+  head = by-head K c (fit-here .long)
+
+  keeping-here : bounded (tableOf f) ≡ true
+  unfolding tableBy
+  keeping-here = rw s (R .keeping)
 
   byte-here : (i : ℕ) → i < length c → getD c i 0 ≡ getD d (p + 4 + i) 0
   byte-here i q = rw s (content-at d p i (rw (s, content-length (drop p d) (read-whole R)) at q))
 
-  bytes-here : (r j x : ℕ) → r < two c 2 → j < byte c 1 → x < 4 →
-      getD (rowBytes c r) (4 * j + x) 0 ≡ getD d (p + 8 + 4 * (byte c 1 * r + j) + x) 0
-  bytes-here r j x q t u =
-      getD-drop (4 * (byte c 1 * r)) (drop 4 c) (4 * j + x) 0
-      ∙ getD-drop 4 c (4 * (byte c 1 * r) + (4 * j + x)) 0
-      ∙ byte-here (4 + (4 * (byte c 1 * r) + (4 * j + x))) inside
-      ∙ ap (λ i. getD d i 0) place
+  -- four bytes of the content, and where they stand in the data
+  four-here : (i j : ℕ) → i + 4 ≤ length c → j ≡ p + 4 + i → four c i ≡ four d j
+  four-here i j q t = four-same c d i j (λ x u. byte-here (i + x) (omega arith) ∙ ap (λ k. getD d k 0) (place x))
     where
-      inside : 4 + (4 * (byte c 1 * r) + (4 * j + x)) < length c
-      inside = omega (arith, fit-here .long, mul-suc (byte c 1) r, mul-le-mul-left {m = suc r} {n = two c 2} (byte c 1) q)
+      place : (x : ℕ) → p + 4 + (i + x) ≡ j + x
+      place x = omega (arith, t)
 
-      place : p + 4 + (4 + (4 * (byte c 1 * r) + (4 * j + x))) ≡ p + 8 + 4 * (byte c 1 * r + j) + x
-      place = omega arith
+  abbrev W : ℕ
+  W = descriptionOf K c from
 
-  -- row r: its cells in the content, and by the description
-  module _ (r : ℕ) (q : r < two c 2) where
-    four-here : (j : ℕ) → j < byte c 1 → signed (four (rowBytes c r) (4 * j)) ≡ cellIn d (descriptionOf c (p + 8)) r j
-    four-here j t =
-        ap signed (four-same (rowBytes c r) d (4 * j) (p + 8 + 4 * (byte c 1 * r + j)) (λ x. bytes-here r j x q t))
-        ∙ sym
-        (cell-found d (descriptionOf c (p + 8)) r j (rows-in c (p + 8) fit-here) (columns-in c (p + 8) fit-here) (position-in c (p + 8) fit-here) q t)
+  -- row r, column j: the cell in the content, and by the description
+  module _ (r j : ℕ) (q : r < tableRows c) (t : j < tableColumns c) where
+    found-here : cellIn d W r j ≡ signed (wordIn d W r j)
+    found-here = cell-found d W r j (rows-in K c from fit-here) (columns-in K c from fit-here) q t
 
-    cell-here : (j : ℕ) → j < byte c 1 →
-        cellIn d (descriptionOf c (p + 8)) r j ≡ asInt (fieldOf j (getD (rowsFrom (byte c 1) (two c 2) (drop 4 c)) r junk))
-    unfolding asInt fieldOf
-    cell-here j t =
-        sym
-        (ap (λ v. asInt (fieldOf j v)) (row-at (byte c 1) (two c 2) r (drop 4 c) q)
-        ∙ ap asInt (cell-at (byte c 1) j (rowBytes c r) t)
-        ∙ four-here j t)
+    cell-by-rows : eqb K 23 ≡ false → cellIn d W r j ≡ contentCell c r j
+    unfolding kindBit pick
+    cell-by-rows b =
+        found-here
+        ∙ ap signed
+        (word-by-rows d W r j (kind-in K c from fit-here ∙ ap (λ t. pick t 1 0) b) (columns-in K c from fit-here) (position-in K c from fit-here)
+        ∙ sym (four-here (boundsAt + 4 * tableColumns c + 4 * (tableColumns c * r + j))
+        (from + 4 * tableColumns c + 4 * (tableColumns c * r + j)) inside (omega arith)))
+      where
+        inside : boundsAt + 4 * tableColumns c + 4 * (tableColumns c * r + j) + 4 ≤ length c
+        inside = omega (arith, fit-here .long, row-within {m = tableColumns c} {r = r} {n = tableRows c} {c = j} q t)
 
-  pub described-here : (T : Tables) → Describes d (tableOf c ∷ T) 0 w
-  unfolding kindOf columnsOf rowsOf tableOf
-  described-here T =
-      let f = fit-here in
-      let W : descriptionOf c (p + 8) ≡ w = rw s (R .word) in
-      rw (← W)
+    cell-by-columns : eqb K 23 ≡ true → cellIn d W r j ≡ contentCell (contentByRows c) r j
+    unfolding kindBit pick
+    cell-by-columns b =
+        found-here
+        ∙ ap signed
+        (word-by-columns d W r j (kind-in K c from fit-here ∙ ap (λ t. pick t 1 0) b) (rows-in K c from fit-here) (position-in K c from fit-here)
+        ∙ sym (summed-same c d (cellsAt c + 4 * (tableRows c * j)) (from + 4 * tableColumns c + 4 * (tableRows c * j)) (suc r) at))
+        ∙ sym (summed-cell c (fit-here .long) t q)
+      where
+        inside : (x : ℕ) → x < suc r → cellsAt c + 4 * (tableRows c * j) + 4 * x + 4 ≤ length c
+        inside x u = omega (arith, fit-here .long, mul-comm (tableColumns c) (tableRows c), row-within {m = tableRows c} {r = j} {n = tableColumns c} {c = x} t (omega (arith, u, q)))
+
+        at : (x : ℕ) → x < suc r → four c (cellsAt c + 4 * (tableRows c * j) + 4 * x) ≡ four d (from + 4 * tableColumns c + 4 * (tableRows c * j) + 4 * x)
+        at x u = four-here (cellsAt c + 4 * (tableRows c * j) + 4 * x) (from + 4 * tableColumns c + 4 * (tableRows c * j) + 4 * x) (inside x u) (omega arith)
+
+  module _ (r j : ℕ) (q : r < tableRows f) (t : j < tableColumns f) where
+    cell-here : cellIn d W r j ≡ contentCell f r j
+    unfolding pick
+    cell-here =
+        let q′ : r < tableRows c = rw (head .rows) at q in
+        let t′ : j < tableColumns c = rw (head .columns) at t in
+        by-test (eqb K 23)
+        (λ b. cell-by-columns r j q′ t′ b ∙ sym (ap (λ b. contentCell (pick b (contentByRows c) c) r j) b))
+        (λ b. cell-by-rows r j q′ t′ b ∙ sym (ap (λ b. contentCell (pick b (contentByRows c) c) r j) b))
+
+    row-here : signed (four (rowBytes f r) (4 * j)) ≡ cellIn d W r j
+    row-here =
+        ap signed (four-drop (4 * (tableColumns f * r)) (4 * j) (drop (boundsAt + 4 * tableColumns f) f)
+        ∙ four-drop (boundsAt + 4 * tableColumns f) (4 * (tableColumns f * r) + 4 * j) f ∙ ap (four f) place)
+        ∙ sym cell-here
+      where
+        place : boundsAt + 4 * tableColumns f + (4 * (tableColumns f * r) + 4 * j) ≡ boundsAt + 4 * tableColumns f + 4 * (tableColumns f * r + j)
+        place = omega arith
+
+  -- the bound of column j, 0 where there is no such column
+  bound-here : (j : ℕ) → boundIn d W j ≡ getD (tableOf f .bounds) j 0
+  unfolding tableOf
+  bound-here j = by-test (ltb j (tableColumns c))
+      (λ h. let t = ltb-true j (tableColumns c) h in
+      bound-found d W j (columns-in K c from fit-here) (position-in K c from fit-here) t (omega arith)
+      ∙ sym (four-here (boundsAt + 4 * j) (from + 4 * tableColumns c - 4 * tableColumns c + 4 * j) (omega (arith, fit-here .long, t)) (omega arith))
+      ∙ sym (by-bound c (fit-here .long) t K)
+      ∙ sym (bound-read f (omega (arith, head .columns, t))))
+      (λ h. let t = ltb-false j (tableColumns c) h in
+      bound-none d W j (columns-in K c from fit-here) t
+      ∙ sym (List·getD-eq-default (boundsFrom (tableColumns f) (drop boundsAt f)) 0 (omega (arith, bounds-length (tableColumns f) (drop boundsAt f), head .columns, t))))
+
+  bound-most : (j : ℕ) → getD (tableOf f .bounds) j 0 ≤ 2 ^ 31
+  bound-most j = all-at (λ b. b ≤ 2 ^ 31) (tableOf f .bounds) 0 (table-read f (by-fit K c (fit-here .long) ∙ fitting-here) keeping-here .1 .bounds-most) (omega arith) j
+
+  -- 43 let the cell pass
+  cell-kept : (r j : ℕ) → natAbs (cellIn d W r j) ≤ getD (tableOf f .bounds) j 0
+  cell-kept r j = by-test (ltb r (tableRows f))
+      (λ h. by-test (ltb j (tableColumns f))
+      (λ k. let q = ltb-true r (tableRows f) h in let t = ltb-true j (tableColumns f) k in
+      rw (cell-here r j q t, bound-read f t) (bounded-column f keeping-here t .cells r q))
+      (λ k. outside (cell-beside d W r j (columns-in K c from fit-here ∙ sym (head .columns)) (ltb-false j (tableColumns f) k))))
+      (λ h. outside (cell-below d W r j (rows-in K c from fit-here ∙ sym (head .rows)) (ltb-false r (tableRows f) h)))
+    where
+      outside : cellIn d W r j ≡ pos 0 → natAbs (cellIn d W r j) ≤ getD (tableOf f .bounds) j 0
+      outside h = rw h (omega arith)
+
+  described-alone : Describes d (tableOf f ∷ []) 0 w
+  unfolding Value.kindOf columnsOf rowsOf boundOf tableOf
+  described-alone =
+      let g = fit-rows in
+      let E : W ≡ w = rw s (R .word) in
+      let l = drop (boundsAt + 4 * tableColumns f) f in
+      rw (← E)
       (record {
-        collection = collection-in c (p + 8) f ∙ number-of (byte c 0) (f .collection-least) (f .collection-most);
-        columns = columns-in c (p + 8) f;
-        most-columns = f .columns-most;
-        rows = rows-in c (p + 8) f ∙ sym (rows-length (byte c 1) (two c 2) (drop 4 c));
-        most-rows = rw rows-length (f .rows-most);
-        kind = kind-in c (p + 8) f;
-        subset = subset-in c (p + 8) f;
-        row = λ r q. let u : r < two c 2 = rw rows-length at q in
-            row-at (byte c 1) (two c 2) r (drop 4 c) u ∙ ap rec (cells-found d (descriptionOf c (p + 8)) r (rowBytes c r) (byte c 1) (four-here r u) (byte c 1) 0 (omega arith));
-        cell = λ r j q t. cell-here r (rw rows-length at q) j t;
+        collection = collection-in K c from fit-here ∙ sym (head .collection) ∙ number-of (tableCollection f) (g .collection-least) (g .collection-most);
+        columns = columns-in K c from fit-here ∙ sym (head .columns);
+        most-columns = g .columns-most;
+        rows = rows-in K c from fit-here ∙ sym (head .rows) ∙ sym (rows-length (tableColumns f) (tableRows f) l);
+        most-rows = rw rows-length (g .rows-most);
+        subset = subset-in K c from fit-here;
+        row = λ r q. let u : r < tableRows f = rw rows-length at q in
+            row-at (tableColumns f) (tableRows f) r l u
+            ∙ ap rec (cells-found d W r (rowBytes f r) (tableColumns f) (λ j t. row-here r j u t) (tableColumns f) 0 (omega arith));
+        cell = λ r j q t. let u : r < tableRows f = rw rows-length at q in cell-here r j u t ∙ sym (cell-read f t u);
+        bound = bound-here;
+        most-bound = bound-most;
+        within = cell-kept;
       })
 
--- a table in front of others does not change their descriptions
-pub described-behind : {d : Bytes} {T : Tables} {k w : ℕ} (t : Table) → Describes d T k w → Describes d (t ∷ T) (suc k) w
-unfolding kindOf columnsOf rowsOf
-described-behind t D =
-    record {
-      collection = D .collection;
-      columns = D .columns;
-      most-columns = D .most-columns;
-      rows = D .rows;
-      most-rows = D .most-rows;
-      kind = D .kind;
-      subset = D .subset;
-      row = D .row;
-      cell = D .cell;
-    }
+-- what stands at its number is all that a description is about
+module _ (T U : Tables) (k j : ℕ) (e : getD T k noTable ≡ getD U j noTable) where
+  kind-same : Value.kindOf T k ≡ Value.kindOf U j
+  unfolding Value.kindOf
+  kind-same = ap (λ t. t .kind) e
+
+  columns-same : columnsOf T k ≡ columnsOf U j
+  unfolding columnsOf
+  columns-same = ap (λ t. t .columns) e
+
+  rows-same : rowsOf T k ≡ rowsOf U j
+  unfolding rowsOf
+  rows-same = ap (λ t. t .rows) e
+
+  bound-same : (c : ℕ) → boundOf T k c ≡ boundOf U j c
+  unfolding boundOf
+  bound-same c = ap (λ t. getD (t .bounds) c 0) e
+
+  pub described-same : {d : Bytes} {w : ℕ} → Describes d T k w → Describes d U j w
+  described-same D =
+      record {
+        collection = rw kind-same at (D .collection);
+        columns = rw columns-same at (D .columns);
+        most-columns = rw columns-same at (D .most-columns);
+        rows = rw rows-same at (D .rows);
+        most-rows = rw rows-same at (D .most-rows);
+        subset = D .subset;
+        row = rw (rows-same, columns-same) at (D .row);
+        cell = rw (rows-same, columns-same) at (D .cell);
+        bound = λ c. D .bound c ∙ bound-same c;
+        most-bound = λ c. rw bound-same at (D .most-bound c);
+        within = λ r c. rw bound-same at (D .within r c);
+      }
+
+pub described-here : {d : Bytes} {p k w e : ℕ} → ReadAt d p k w e → (T : Tables) → getD T k noTable ≡ tableBy (kindAt d p) (contentAt d p) → Describes d T k w
+unfolding tableBy
+described-here {d} {p} {k} R T e = described-same (tableOf (contentBy (kindAt d p) (contentAt d p)) ∷ []) T 0 k (sym e) (described-alone R (contentAt d p) refl)

@@ -1,44 +1,36 @@
 -- What the words of scratch say of the tables that were read: which there are, and their descriptions.
 use mathlib.Core.Path.{_≡_, refl, sym, ap, subst, _∙_}
-use mathlib.Core.Bool.{Bool, true, false}
+use mathlib.Core.Bool.{true, false}
 use mathlib.Core.List.{List}
 use Prim.Native.Nat.{ℕ, zero, suc, _+_, _-_, _≤_, _<_}
 use native.Mathlib.Numerals.{one-add, unary-clauses}
 use native.Mathlib.Omega.{arith}
-use borrow.Author.Tests.{lt-ltb, le-ltb, ltb-true, ltb-false}
-use lib.Dec.{ltb}
-use lib.ListN.{length, getD}
+use borrow.Author.Tests.{lt-ltb, le-ltb, ltb-true}
+use lib.Dec.{ltb, leb}
+use lib.ListN.{getD}
 use Rattle.spec_calculus.specs.Lists.{pick}
 use Rattle.spec_calculus.specs.Syntax.{Collection, list, bag, set}
-use Rattle.spec_calculus.specs.Value.{Tables}
+use Rattle.spec_calculus.specs.Value.{Tables, isThere}
 use Rattle.spec_encoding.specs.Record.{Bytes, got}
 use Rattle.spec_encoding.specs.Data.{collectionOf, readData}
-use Rattle.base_signed.proofs.SignedWords.{by-test, no}
-use Rattle.base_tables.specs.Description.{mostTables, presentIn, tableIn, descriptionIn, collectionNumber, Describes}
+use Rattle.base_signed.proofs.SignedWords.{by-test}
+use Rattle.base_tables.specs.Description.{mostTables, columnsIn, presentIn, tableIn, descriptionIn, collectionNumber, Describes}
 use Rattle.base_tables.specs.DataReader.{Stored}
-use Rattle.base_tables.proofs.ReadData.{described-word, tables-most}
+use Rattle.base_tables.proofs.NumberedTables.{numbered, word-is, present-word}
 
 -- ---- the functions
 module _ (s : List ℕ) (k : ℕ) where
-  pub present-few : {c : ℕ} {r : Bool} → c ≡ getD s 0 0 → k < mostTables → r ≡ ltb k c → r ≡ presentIn s k
-  unfolding presentIn pick
-  present-few e p h = rw (lt-ltb k mostTables p) (h ∙ ap (ltb k) e)
-
-  pub present-past : mostTables ≤ k → false ≡ presentIn s k
-  unfolding presentIn pick
-  present-past p = rw (le-ltb k mostTables p)
-
-  pub present-low : presentIn s k ≡ true → k < mostTables
-  unfolding presentIn pick
-  present-low h = by-test (ltb k mostTables) (λ p. ltb-true k mostTables p) (λ p. no (sym h ∙ rw p))
-
-  pub table-there : {r : ℕ} → presentIn s k ≡ true → r ≡ getD s (1 + k) 0 → r ≡ tableIn s k
+  pub table-few : {r : ℕ} → k < mostTables → r ≡ getD s (1 + k) 0 → r ≡ tableIn s k
   unfolding tableIn pick
-  table-there p h = rw p (h ∙ ap (λ (j : ℕ). getD s j 0) (one-add k))
+  table-few p h = rw (lt-ltb k mostTables p) (h ∙ ap (λ (j : ℕ). getD s j 0) (one-add k))
 
-  pub table-none : presentIn s k ≡ false → 0 ≡ tableIn s k
+  pub table-past : mostTables ≤ k → 0 ≡ tableIn s k
   unfolding tableIn pick
-  table-none p = rw p
+  table-past p = rw (le-ltb k mostTables p)
+
+  pub present-columns : {w c : ℕ} → w ≡ tableIn s k → c ≡ columnsIn w → leb 1 c ≡ presentIn s k
+  unfolding presentIn
+  present-columns e h = ap (leb 1) (h ∙ ap columnsIn e)
 
 pub description-none : (s : List ℕ) {n : ℕ} → n ≡ 0 → 0 ≡ descriptionIn s n
 unfolding descriptionIn
@@ -57,27 +49,33 @@ by-number bag = refl
 by-number set = refl
 
 -- ---- the tables that were read
-module _ {d : Bytes} {T : Tables} {s : List ℕ} (S : Stored d T s) (h : readData d ≡ got T) (k : ℕ) where
-  pub present-is : presentIn s k ≡ ltb k (length T)
-  unfolding presentIn pick
-  present-is = by-test (ltb k mostTables)
-      (λ p. rw p (ap (ltb k) (S .count)))
-      (λ p. rw p (sym (le-ltb k (length T) (omega (arith, tables-most d h, ltb-false k mostTables p)))))
+module _ {d : Bytes} {T : Tables} {s : List ℕ} (S : Stored d s) (h : readData d ≡ got T) (k : ℕ) where
+  pub present-is : presentIn s k ≡ isThere T k
+  present-is = present-word (numbered d h) s (S .each) k
 
-  pub described-in : k < length T → Describes d T k (tableIn s k)
-  described-in p = subst (Describes d T k) (table-there s k (present-is ∙ lt-ltb k (length T) p) refl) (described-word S h k p)
+  pub described-in : isThere T k ≡ true → Describes d T k (tableIn s k)
+  described-in p = subst (Describes d T k) (sym (word-is (numbered d h) s (S .each) k)) (numbered d h .there k p)
 
-  pub undescribed : length T ≤ k → tableIn s k ≡ 0
-  undescribed p = sym (table-none s k (present-is ∙ le-ltb k (length T) p))
+  pub undescribed : isThere T k ≡ false → tableIn s k ≡ 0
+  undescribed p = word-is (numbered d h) s (S .each) k ∙ numbered d h .absent k p
 
--- ---- they are the same where the first nine words are
+-- ---- they are the same where the words of the descriptions are
 module _ (s t : List ℕ) (same : (j : ℕ) → j ≤ mostTables → getD s j 0 ≡ getD t j 0) (k : ℕ) where
+  pub table-same : tableIn s k ≡ tableIn t k
+  unfolding tableIn pick
+  table-same = by-test (ltb k mostTables)
+      (λ p. rw (p, same (suc k) (omega (arith, ltb-true k mostTables p))))
+      (λ p. rw p)
+
   pub present-same : presentIn s k ≡ presentIn t k
   unfolding presentIn
-  present-same = ap (λ (c : ℕ). pick (ltb k mostTables) (ltb k c) false) (same 0 (omega arith))
+  present-same = ap (λ (w : ℕ). leb 1 (columnsIn w)) table-same
 
-  pub table-same : tableIn s k ≡ tableIn t k
-  unfolding tableIn presentIn pick
-  table-same = by-test (ltb k mostTables)
-      (λ p. rw (p, same 0 (omega arith), same (suc k) (omega (arith, ltb-true k mostTables p))))
-      (λ p. rw p)
+-- So are the descriptions, and what they are known to be.
+pub description-same : (s t : List ℕ) → ((j : ℕ) → j ≤ mostTables → getD s j 0 ≡ getD t j 0) → (n : ℕ) → descriptionIn s n ≡ descriptionIn t n
+unfolding descriptionIn
+description-same s t h zero = refl
+description-same s t h (suc k) = table-same s t h k
+
+pub stored-same : {d : Bytes} {s : List ℕ} (t : List ℕ) → ((j : ℕ) → j ≤ mostTables → getD t j 0 ≡ getD s j 0) → Stored d s → Stored d t
+stored-same t same S = record { each = λ k p. same (1 + k) (omega arith) ∙ S .each k p }

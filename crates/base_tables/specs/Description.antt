@@ -1,16 +1,18 @@
--- A table's description: the one word that the engine keeps of a table. Collection (2 bits), columns (4), rows (11), kind (1),
--- subset of rows (12), and above them the position of the table's first cell in the data. Kind and subset have no meaning yet: 0.
+-- A table's description: the one word that the engine keeps of a table. Collection (2 bits), columns (4), rows (11), kind (1: 0 by rows, 1 by columns),
+-- subset of rows (12), and above them the position of the table's first cell in the data. The subset has no meaning yet: 0.
 use mathlib.Core.Path.{_≡_}
 use mathlib.Core.Bool.{Bool, true, false}
 use mathlib.Core.List.{List}
-use Prim.Native.Nat.{ℕ, zero, suc, _+_, _*_, _/_, _%_, _≤_, _<_, _^_}
+use Prim.Native.Nat.{ℕ, zero, suc, _+_, _-_, _*_, _/_, _%_, _≤_, _<_, _^_}
 use lib.Dec.{eqb, ltb, leb}
 use lib.ListN.{length, getD}
 use lib.IntN.{ℤ, pos, natAbs}
 use Rattle.spec_calculus.specs.Lists.{pick}
 use Rattle.spec_calculus.specs.Syntax.{Collection, list, bag, set}
-use Rattle.spec_calculus.specs.Value.{Values, vnil, vcons, num, rec, Tables, junk, asInt, fieldOf, kindOf, columnsOf, rowsOf}
-use Rattle.spec_encoding.specs.Record.{Bytes, byte, two, four, signed}
+use Rattle.spec_calculus.specs.Value.{Values, vnil, vcons, num, rec, Tables, junk, asInt, fieldOf, kindOf, columnsOf, boundOf, rowsOf}
+use Rattle.spec_encoding.specs.Record.{Bytes, four, signed}
+use Rattle.spec_encoding.specs.Columns.{summed}
+use Rattle.spec_encoding.specs.Data.{tableCollection, tableColumns, tableRows}
 
 -- what one of each field counts for
 abbrev pub oneColumn : ℕ
@@ -28,9 +30,13 @@ oneSubset = 262144
 abbrev pub onePosition : ℕ
 onePosition = 1073741824
 
--- of the table with this content, whose cells begin at p
-unfoldable pub descriptionOf : Bytes → ℕ → ℕ
-descriptionOf c p = byte c 0 + oneColumn * byte c 1 + oneRow * two c 2 + onePosition * p
+-- "Add kind 23, the same table rearranged: columns one after another" (document 02, E10)
+unfoldable pub kindBit : ℕ → ℕ
+kindBit k = pick (eqb k 23) 1 0
+
+-- of the table with this content, of a record of kind k, whose bounds begin at p; its cells stand behind them
+unfoldable pub descriptionOf : ℕ → Bytes → ℕ → ℕ
+descriptionOf k c p = tableCollection c + oneColumn * tableColumns c + oneRow * tableRows c + oneKind * kindBit k + onePosition * (p + 4 * tableColumns c)
 
 abbrev pub collectionIn : ℕ → ℕ
 collectionIn w = w % oneColumn
@@ -50,53 +56,61 @@ subsetIn w = w / oneSubset % 4096
 abbrev pub positionIn : ℕ → ℕ
 positionIn w = w / onePosition
 
--- cells as they stand, and all rows: kind and subset are 0
-abbrev pub plainIn : ℕ → Bool
-plainIn w = eqb (w / oneKind % 8192) 0
+-- all rows: no subset of them
+abbrev pub fullIn : ℕ → Bool
+fullIn w = eqb (subsetIn w) 0
 
--- "data is 0 to 8 such records"
+-- "Data is 0 to 8 such records", numbered "0 to 7" (document 02, E9)
 abbrev pub mostTables : ℕ
 mostTables = 8
 
--- whether scratch has table k: its word 0 is the number of tables
-unfoldable pub presentIn : List ℕ → ℕ → Bool
-presentIn s k = pick (ltb k mostTables) (ltb k (getD s 0 0)) false
-
--- the description of table k, its word 1 + k; 0, which has no columns and no rows, where there is no such table
+-- the description of table k, scratch word 1 + k; 0, which has no columns and no rows, where there is no such table
 unfoldable pub tableIn : List ℕ → ℕ → ℕ
-tableIn s k = pick (presentIn s k) (getD s (suc k) 0) 0
+tableIn s k = pick (ltb k mostTables) (getD s (suc k) 0) 0
+
+-- whether there is a table k: its word has columns
+unfoldable pub presentIn : List ℕ → ℕ → Bool
+presentIn s k = leb 1 (columnsIn (tableIn s k))
 
 -- that of table n - 1
 unfoldable pub descriptionIn : List ℕ → ℕ → ℕ
 descriptionIn s zero = 0
 descriptionIn s (suc k) = tableIn s k
 
--- where the cell in row r and column c stands
+-- the bound of column c, which stands before the first cell; 0 outside
+unfoldable pub boundIn : Bytes → ℕ → ℕ → ℕ
+boundIn d w c =
+    pick (ltb c (columnsIn w)) (pick (leb (4 * columnsIn w) (positionIn w)) (four d (positionIn w - 4 * columnsIn w + 4 * c)) 0) 0
+
+-- where the cell in row r and column c stands, by rows; where the numbers stored for column c begin, by columns
 abbrev pub placeIn : ℕ → ℕ → ℕ → ℕ
 placeIn w r c = positionIn w + 4 * (columnsIn w * r + c)
 
+abbrev pub columnPlaceIn : ℕ → ℕ → ℕ
+columnPlaceIn w c = positionIn w + 4 * (rowsIn w * c)
+
+-- the number of that cell's four bytes, by either
+unfoldable pub wordIn : Bytes → ℕ → ℕ → ℕ → ℕ
+wordIn d w r c = pick (eqb (kindIn w) 1) (summed d (columnPlaceIn w c) (suc r)) (four d (placeIn w r c))
+
 -- that cell; 0 outside
 unfoldable pub cellIn : Bytes → ℕ → ℕ → ℕ → ℤ
-cellIn d w r c = pick (ltb r (rowsIn w)) (pick (ltb c (columnsIn w)) (signed (four d (placeIn w r c))) (pos 0)) (pos 0)
+cellIn d w r c = pick (ltb r (rowsIn w)) (pick (ltb c (columnsIn w)) (signed (wordIn d w r c)) (pos 0)) (pos 0)
 
--- a plain table whose last cell is not behind the data
+-- a table of all its rows whose last cell is not behind the data
 unfoldable pub placedIn : Bytes → ℕ → Bool
-placedIn d w = pick (plainIn w) (leb (placeIn w (rowsIn w) 0) (length d)) false
+placedIn d w = pick (fullIn w) (leb (placeIn w (rowsIn w) 0) (length d)) false
 
--- Every cell stands at its place in the data: all that a loop over cells asks of a table.
+-- What every cell is stored as stands in the data, by rows or by columns: all that a loop over cells asks of a table.
 pub record Placed (d : Bytes) (w : ℕ) : Type 0 where
-  pub inside : {r c : ℕ} → r < rowsIn w → c < columnsIn w → placeIn w r c + 4 ≤ length d
-  pub low : {r c : ℕ} → r < rowsIn w → c < columnsIn w → four d (placeIn w r c) < 2 ^ 32
-  pub cell : {r c : ℕ} → r < rowsIn w → c < columnsIn w → cellIn d w r c ≡ signed (four d (placeIn w r c))
+  pub by-rows : {r c : ℕ} → r < rowsIn w → c < columnsIn w → placeIn w r c + 4 ≤ length d
+  pub by-columns : {r c : ℕ} → r < rowsIn w → c < columnsIn w → columnPlaceIn w c + 4 * r + 4 ≤ length d
+  pub low : {r c : ℕ} → r < rowsIn w → c < columnsIn w → wordIn d w r c < 2 ^ 32
+  pub cell : {r c : ℕ} → r < rowsIn w → c < columnsIn w → cellIn d w r c ≡ signed (wordIn d w r c)
 
 pub record PlacedPost (d : Bytes) (w : ℕ) (r : Bool) : Type 0 where
   pub is : r ≡ placedIn d w
   pub cells : r ≡ true → Placed d w
-
--- "Bound of a number: a cell 2^31"
-pub record CellPost (d : Bytes) (w r c : ℕ) (z : ℤ) : Type 0 where
-  pub is : z ≡ cellIn d w r c
-  pub small : natAbs z ≤ 2 ^ 31
 
 -- n cells of row r, from column c on
 unfoldable pub cellsIn : Bytes → ℕ → ℕ → ℕ → ℕ → Values
@@ -116,7 +130,21 @@ pub record Describes (d : Bytes) (T : Tables) (k w : ℕ) : Type 0 where
   pub most-columns : columnsOf T k ≤ 8
   pub rows : rowsIn w ≡ length (rowsOf T k)
   pub most-rows : length (rowsOf T k) ≤ 1024
-  pub kind : kindIn w ≡ 0
   pub subset : subsetIn w ≡ 0
   pub row : (r : ℕ) → r < length (rowsOf T k) → getD (rowsOf T k) r junk ≡ rec (cellsIn d w r 0 (columnsOf T k))
   pub cell : (r c : ℕ) → r < length (rowsOf T k) → c < columnsOf T k → cellIn d w r c ≡ asInt (fieldOf c (getD (rowsOf T k) r junk))
+  pub bound : (c : ℕ) → boundIn d w c ≡ boundOf T k c
+  pub most-bound : (c : ℕ) → boundOf T k c ≤ 2 ^ 31
+  pub within : (r c : ℕ) → natAbs (cellIn d w r c) ≤ boundOf T k c
+
+-- "Reading a cell promises that bound" (document 02, E5); whatever w is, "a cell 2^31"
+pub record CellPost (d : Bytes) (w r c : ℕ) (z : ℤ) : Type 0 where
+  pub is : z ≡ cellIn d w r c
+  pub small : natAbs z ≤ 2 ^ 31
+  pub within : (T : Tables) (k : ℕ) → Describes d T k w → natAbs z ≤ boundOf T k c
+
+-- the bound that the column declares
+pub record BoundPost (d : Bytes) (w c b : ℕ) : Type 0 where
+  pub is : b ≡ boundIn d w c
+  pub low : b < 2 ^ 32
+  pub declared : (T : Tables) (k : ℕ) → Describes d T k w → b ≡ boundOf T k c

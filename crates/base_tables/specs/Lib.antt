@@ -1,3 +1,4 @@
 -- The lent data: a table's description in one word, and the reading of the data's records.
 pub mod Description
+pub mod ColumnBounds
 pub mod DataReader

@@ -1,24 +1,39 @@
 // The one place that reads the lent data: its records, the descriptions of its tables, and their cells.
 ghost use mathlib.Core.Path.{_≡_};
+ghost use mathlib.Core.Bool.{true};
 ghost use Prim.Native.Nat.{_+_, _*_, _≤_, _<_, _^_};
 ghost use lib.ListN.{length, getD};
 ghost use lib.IntN.{natAbs};
 ghost use Rattle.spec_encoding.specs.Record.{four, signed};
-ghost use Rattle.spec_encoding.specs.Data.{fits};
-ghost use Rattle.base_tables.specs.Description.{descriptionOf, collectionIn, columnsIn, rowsIn, presentIn, tableIn, descriptionIn, placeIn, PlacedPost, CellPost};
-ghost use Rattle.base_tables.specs.DataReader.{headerGives, headerAt, tableAt, ReadDataPost};
+ghost use lib.Dec.{leb, eqb};
+ghost use Rattle.spec_encoding.specs.Columns.{plus, unfolded, summed};
+ghost use Rattle.spec_encoding.specs.Data.{fits, isKind, contentByRows, contentBy, tableBy, bounded};
+ghost use Rattle.base_tables.specs.Description.{kindBit, descriptionOf, collectionIn, columnsIn, rowsIn, kindIn, presentIn, tableIn, descriptionIn, placeIn, columnPlaceIn, PlacedPost, CellPost, BoundPost};
+ghost use Rattle.base_tables.specs.ColumnBounds.{ColumnPre, ColumnWithinPost, ColumnBoundedPost};
+ghost use Rattle.base_tables.specs.DataReader.{headerGives, headerAt, numberedTable, tableAt, ReadDataPost};
 use base_scratch::DESCRIPTIONS;
-use base_scratch::TABLES;
 use base_scratch::load;
 use base_scratch::store;
+use base_scratch::wipe;
 
-// "data is 0 to 8 such records"
+// "Data is 0 to 8 such records", numbered 0 to 7.
 pub const MOST_TABLES: usize = 8;
 
 // "columns (1 to 8)", "rows (0 to 1,024)"
 const MOST_COLUMNS: usize = 8;
 
 pub const TABLE_ROWS: usize = 1024;
+
+// Where a table's number, collection, columns and rows stand in its content, and behind them its bounds (spec_encoding/specs/Data.antt).
+pub const NUMBER_AT: usize = 0;
+
+const COLLECTION_AT: usize = 1;
+
+pub const COLUMNS_AT: usize = 2;
+
+pub const ROWS_AT: usize = 3;
+
+pub const BOUNDS_AT: usize = 5;
 
 // What one of each field of a description counts for (specs/Description.antt).
 const ONE_COLUMN: u64 = 4;
@@ -27,24 +42,26 @@ const ONE_ROW: u64 = 64;
 
 const ONE_KIND: u64 = 131072;
 
+const ONE_SUBSET: u64 = 262144;
+
 const ONE_POSITION: u64 = 1073741824;
 
-// So many numbers of columns and rows has such a word; so many kinds with subsets, of which 0 alone is plain.
+// So many numbers of columns and rows has such a word, and so many subsets, of which 0 is all rows.
 const COLUMNS: u64 = 16;
 
 const ROWS: u64 = 2048;
 
-const KINDS_AND_SUBSETS: u64 = 8192;
+const SUBSETS: u64 = 4096;
 
-// A whole record of kind 20 with the length of its content, or none.
+// A whole record of kind 20 or 23 with the length of its content, or none.
 pub enum TableHeader {
     Record(usize),
     Bad,
 }
 
-// A table's description and the position behind its record, or the refusal's number.
+// A table's number, its description and the position behind its record, or the refusal's number.
 pub enum TableRead {
-    Is(u64, usize),
+    Is(usize, u64, usize),
     Refused(u64),
 }
 
@@ -56,14 +73,14 @@ fn wide(x: u8) -> usize
 }
 
 // A byte; 0 outside.
-fn byte_at(s: &[u8], i: usize) -> usize
+pub fn byte_at(s: &[u8], i: usize) -> usize
     ensures { λ r. ⌜ (r ≡ getD (now (s .entry)) i 0) × (r < 256) ⌝ }
 {
     if i < s.len() { wide(s[i]) } else { 0 }
 }
 
 // Two bytes, little-endian.
-fn two_at(s: &[u8], i: usize) -> usize
+pub fn two_at(s: &[u8], i: usize) -> usize
     requires { ⌜ i < 2 ^ 62 ⌝ }
     ensures { λ r. ⌜ (r ≡ getD (now (s .entry)) i 0 + 256 * getD (now (s .entry)) (i + 1) 0) × (r < 65536) ⌝ }
 {
@@ -89,6 +106,68 @@ fn four_at(s: &[u8], i: usize) -> usize
     two_at(s, i) + 65536 * two_at(s, i + 2)
 }
 
+// The same as a number that wraps at 32 bits.
+pub fn word_in(s: &[u8], i: usize) -> u32
+    requires { ⌜ i + 4 ≤ length (now s) ⌝ }
+    ensures { λ r. ⌜ r ≡ four (now (s .entry)) i ⌝ }
+{
+    four_in(s, i) as u32
+}
+
+fn word_at(s: &[u8], i: usize) -> u32
+    requires { ⌜ i < 2 ^ 61 ⌝ }
+    ensures { λ r. ⌜ r ≡ four (now (s .entry)) i ⌝ }
+{
+    four_at(s, i) as u32
+}
+
+// A cell of a table by columns from what is stored for it, below the cell above it: "the difference wrapping at 32 bits, then folded",
+// undone. No branch: loops go down the rows.
+pub fn below(above: u32, n: u32) -> u32
+    ensures { λ r. ⌜ r ≡ plus above (unfolded n) ⌝ }
+{
+    std::num::wrapping_add_u32(above, std::num::wrapping_sub_u32(n / 2, n % 2 * n))
+}
+
+// The cell above row n in a column whose stored numbers begin at p, all in the bytes. No test in the loop, so that the compiler adds
+// several at once.
+fn sum_in(s: &[u8], p: usize, n: usize) -> u32
+    requires { ⌜ (p + 4 * n ≤ length (now s)) × (n ≤ 2048) ⌝ }
+    ensures { λ r. ⌜ r ≡ summed (now (s .entry)) p n ⌝ }
+{
+    let mut x: u32 = 0;
+    let mut r = 0;
+    while r < n {
+        x = below(x, word_in(s, p + 4 * r));
+        r += 1;
+    }
+    x
+}
+
+// The same wherever they stand.
+fn sum_at(s: &[u8], p: usize, n: usize) -> u32
+    requires { ⌜ (p < 2 ^ 60) × (n ≤ 2048) ⌝ }
+    ensures { λ r. ⌜ r ≡ summed (now (s .entry)) p n ⌝ }
+{
+    let mut x: u32 = 0;
+    let mut r = 0;
+    while r < n {
+        x = below(x, word_at(s, p + 4 * r));
+        r += 1;
+    }
+    x
+}
+
+pub fn sum_down(s: &[u8], p: usize, n: usize) -> u32
+    requires { ⌜ (p < 2 ^ 60) × (n ≤ 2048) ⌝ }
+    ensures { λ r. ⌜ r ≡ summed (now (s .entry)) p n ⌝ }
+{
+    if p + 4 * n <= s.len() {
+        return sum_in(s, p, n);
+    }
+    sum_at(s, p, n)
+}
+
 // How many cells so many rows have.
 fn cells(columns: usize, rows: usize) -> usize
     requires { ⌜ (columns < 16) × (rows < 2048) ⌝ }
@@ -97,7 +176,17 @@ fn cells(columns: usize, rows: usize) -> usize
     columns * rows
 }
 
-// "a record cut short or not kind 20"
+// Neither is "not kind 20"; "refusals .. take kind 23 wherever they name 20".
+fn is_table(kind: usize) -> bool
+    ensures { λ r. ⌜ r ≡ isKind kind ⌝ }
+{
+    if kind == base_syntax::KIND_ROWS {
+        return true;
+    }
+    kind == base_syntax::KIND_COLUMNS
+}
+
+// "a record cut short or not kind 20", nor 23
 pub fn read_header(s: &[u8]) -> TableHeader
     ensures { λ r. ⌜ headerGives r ≡ headerAt (now (s .entry)) ⌝ }
 {
@@ -108,20 +197,20 @@ pub fn read_header(s: &[u8]) -> TableHeader
     if s.len() - 4 < n {
         return TableHeader::Bad;
     }
-    if two_at(s, 2) != base_syntax::KIND_ROWS {
-        return TableHeader::Bad;
+    if is_table(two_at(s, 2)) {
+        return TableHeader::Record(n);
     }
-    TableHeader::Record(n)
+    TableHeader::Bad
 }
 
 // "12: collection, columns or rows outside their ranges, or a length that does not match"
-fn well_formed(c: &[u8]) -> bool
+pub fn well_formed(c: &[u8]) -> bool
     ensures { λ r. ⌜ r ≡ fits (now (c .entry)) ⌝ }
 {
-    let collection = byte_at(c, 0);
-    let columns = byte_at(c, 1);
-    let rows = two_at(c, 2);
-    if c.len() < 4 {
+    let collection = byte_at(c, COLLECTION_AT);
+    let columns = byte_at(c, COLUMNS_AT);
+    let rows = two_at(c, ROWS_AT);
+    if c.len() < BOUNDS_AT {
         return false;
     }
     if collection < 1 {
@@ -139,36 +228,110 @@ fn well_formed(c: &[u8]) -> bool
     if TABLE_ROWS < rows {
         return false;
     }
-    c.len() == 4 + 4 * cells(columns, rows)
+    c.len() == BOUNDS_AT + 4 * columns + 4 * cells(columns, rows)
 }
 
-// The description of the table with this content, whose cells begin at p.
-fn describe(c: &[u8], p: usize) -> u64
-    requires { ⌜ p < 2 ^ 33 ⌝ }
-    ensures { λ r. ⌜ r ≡ descriptionOf (now (c .entry)) p ⌝ }
+// Whether the cell of these four bytes is of magnitude at most b: it is counted from -b on, modulo 2^32.
+fn cell_within(x: usize, b: usize) -> bool
+    requires { ⌜ (x < 2 ^ 32) × (b < 2 ^ 31) ⌝ }
+    ensures { λ r. ⌜ r ≡ leb (natAbs (signed x)) b ⌝ }
 {
-    let w = byte_at(c, 0) as u64
-        + ONE_COLUMN * byte_at(c, 1) as u64
-        + ONE_ROW * two_at(c, 2) as u64
-        + ONE_POSITION * p as u64;
-    w
+    (x + b) % 4294967296 <= 2 * b
 }
 
-// The record that begins at p.
-fn table_at(data: &[u8], p: usize) -> TableRead
-    requires { ⌜ (p ≤ length (now «data»)) × (p < 2 ^ 32) ⌝ }
-    ensures { λ r. ⌜ r ≡ tableAt (now («data» .entry)) p ⌝ }
+// Whether every cell in column i is. On each row one load, one sum, one test: every call that reads the data looks at every cell.
+fn column_within(c: &[u8], i: usize, b: usize) -> bool
+    requires { ⌜ ColumnPre (now c) i × (b < 2 ^ 31) ⌝ }
+    ensures { λ r. ⌜ ColumnWithinPost (now (c .entry)) i b r ⌝ }
 {
-    let TableHeader::Record(n) = read_header(&data[p..]) else {
-        return TableRead::Refused(base_refusals::NOT_A_TABLE);
-    };
-    let from = p + 4;
-    let next = from + n;
-    if well_formed(&data[from..next]) {
-        TableRead::Is(describe(&data[from..next], p + 8), next)
-    } else {
-        TableRead::Refused(base_refusals::TABLE_OUT_OF_RANGE)
+    let n = two_at(c, ROWS_AT);
+    let step = 4 * byte_at(c, COLUMNS_AT);
+    let mut r = 0;
+    let mut p = BOUNDS_AT + step + 4 * i;
+    while r < n {
+        if cell_within(four_in(c, p), b) {
+            r += 1;
+            p += step;
+        } else {
+            return false;
+        }
     }
+    true
+}
+
+// The same of a table by columns: the cells that come out.
+fn sums_within(c: &[u8], i: usize, b: usize) -> bool
+    requires { ⌜ ColumnPre (now c) i × (b < 2 ^ 31) ⌝ }
+    ensures { λ r. ⌜ ColumnWithinPost (contentByRows (now (c .entry))) i b r ⌝ }
+{
+    let n = two_at(c, ROWS_AT);
+    let mut p = BOUNDS_AT + 4 * byte_at(c, COLUMNS_AT) + 4 * cells(i, n);
+    let mut x: u32 = 0;
+    let mut r = 0;
+    while r < n {
+        x = below(x, word_in(c, p));
+        if cell_within(x as usize, b) {
+            r += 1;
+            p += 4;
+        } else {
+            return false;
+        }
+    }
+    true
+}
+
+// Neither "a bound over 2^31" nor "a cell beyond its column's" in column i. No cell is beyond 2^31.
+fn column_bounded(c: &[u8], kind: usize, i: usize) -> bool
+    requires { ⌜ ColumnPre (now c) i ⌝ }
+    ensures { λ r. ⌜ ColumnBoundedPost (contentBy kind (now (c .entry))) i r ⌝ }
+{
+    let b = four_in(c, BOUNDS_AT + 4 * i);
+    if b < 2147483648 {
+        if kind == base_syntax::KIND_COLUMNS {
+            return sums_within(c, i, b);
+        }
+        return column_within(c, i, b);
+    }
+    b == 2147483648
+}
+
+// "43, a bound over 2^31 or a cell beyond its column's"
+pub fn columns_bounded(c: &[u8], kind: usize) -> bool
+    requires { ⌜ fits (now c) ≡ true ⌝ }
+    ensures { λ r. ⌜ r ≡ bounded (tableBy kind (now (c .entry))) ⌝ }
+{
+    let n = byte_at(c, COLUMNS_AT);
+    let mut i = 0;
+    while i < n {
+        if column_bounded(c, kind, i) {
+            i += 1;
+        } else {
+            return false;
+        }
+    }
+    true
+}
+
+fn kind_bit(kind: usize) -> u64
+    ensures { λ r. ⌜ (r ≡ kindBit kind) × (r ≤ 1) ⌝ }
+{
+    if kind == base_syntax::KIND_COLUMNS {
+        return 1;
+    }
+    0
+}
+
+// The description of the table with this content, of a record of this kind, whose bounds begin at p.
+fn describe(c: &[u8], kind: usize, p: usize) -> u64
+    requires { ⌜ p < 2 ^ 33 ⌝ }
+    ensures { λ r. ⌜ r ≡ descriptionOf kind (now (c .entry)) p ⌝ }
+{
+    let w = byte_at(c, COLLECTION_AT) as u64
+        + ONE_COLUMN * byte_at(c, COLUMNS_AT) as u64
+        + ONE_ROW * two_at(c, ROWS_AT) as u64
+        + ONE_KIND * kind_bit(kind)
+        + ONE_POSITION * (p + 4 * byte_at(c, COLUMNS_AT)) as u64;
+    w
 }
 
 // The fields of a description (specs/Description.antt).
@@ -190,24 +353,21 @@ pub fn rows(w: u64) -> usize
     (w / ONE_ROW % ROWS) as usize
 }
 
+// The description of table k; where there is none 0, which has no columns and no rows.
+pub fn table(s: &[u64], k: usize) -> u64
+    ensures { λ r. ⌜ r ≡ tableIn (now (s .entry)) k ⌝ }
+{
+    if k < MOST_TABLES {
+        return load(s, DESCRIPTIONS + k);
+    }
+    0
+}
+
 // Whether there is a table k.
 pub fn present(s: &[u64], k: usize) -> bool
     ensures { λ r. ⌜ r ≡ presentIn (now (s .entry)) k ⌝ }
 {
-    if k < MOST_TABLES {
-        return (k as u64) < load(s, TABLES);
-    }
-    false
-}
-
-// The description of table k; where there is none 0, which has no rows.
-pub fn table(s: &[u64], k: usize) -> u64
-    ensures { λ r. ⌜ r ≡ tableIn (now (s .entry)) k ⌝ }
-{
-    if present(s, k) {
-        return load(s, DESCRIPTIONS + k);
-    }
-    0
+    1 <= columns(table(s, k))
 }
 
 // That of the table whose number is n - 1.
@@ -221,19 +381,26 @@ pub fn description(s: &[u64], n: usize) -> u64
 }
 
 // "signed, four bytes each"
-fn signed_of(n: usize) -> i64
+pub fn signed_of(n: usize) -> i64
     requires { ⌜ n < 2 ^ 32 ⌝ }
     ensures { λ z. ⌜ (z ≡ signed n) × (natAbs z ≤ 2 ^ 31) ⌝ }
 {
     ((n + 2147483648) % 4294967296) as i64 - 2147483648
 }
 
-// The cell that stands at p.
-pub fn cell_in(data: &[u8], p: usize) -> i64
-    requires { ⌜ p + 4 ≤ length (now «data») ⌝ }
-    ensures { λ z. ⌜ (z ≡ signed (four (now («data» .entry)) p)) × (natAbs z ≤ 2 ^ 31) ⌝ }
+// Whether w describes a table by columns.
+pub fn by_columns(w: u64) -> bool
+    ensures { λ r. ⌜ r ≡ eqb (kindIn w) 1 ⌝ }
 {
-    signed_of(four_in(data, p))
+    w / ONE_KIND % 2 == 1
+}
+
+// Where the numbers that such a table stores for column c begin.
+pub fn column_place(w: u64, c: usize) -> usize
+    requires { ⌜ c < 16 ⌝ }
+    ensures { λ p. ⌜ (p ≡ columnPlaceIn w c) × (p < 2 ^ 60) ⌝ }
+{
+    (w / ONE_POSITION) as usize + 4 * cells(c, rows(w))
 }
 
 // Where the cell in row r and column c stands.
@@ -251,12 +418,12 @@ pub fn stride(w: u64) -> usize
     4 * columns(w)
 }
 
-// Whether the table that w describes is plain, and every cell of it stands at its place in the data. What a loop over cells asks
-// once, so that a table that is not plain costs those that are nothing.
+// Whether the table that w describes has all its rows, and every cell of it stands in the data. What a loop over cells asks once, so that a
+// subset costs those that have all nothing.
 pub fn placed(data: &[u8], w: u64) -> bool
     ensures { λ r. ⌜ PlacedPost (now («data» .entry)) w r ⌝ }
 {
-    if w / ONE_KIND % KINDS_AND_SUBSETS == 0 {
+    if w / ONE_SUBSET % SUBSETS == 0 {
         return place(w, rows(w), 0) <= data.len();
     }
     false
@@ -273,31 +440,91 @@ pub fn cell(data: &[u8], w: u64, r: usize, c: usize) -> i64
     if width <= c {
         return 0;
     }
+    if by_columns(w) {
+        return signed_of(sum_down(data, column_place(w, c), r + 1) as usize);
+    }
     signed_of(four_at(data, place(w, r, c)))
 }
 
-// "the data, earliest record first, 13 before 11 before 12". Answers the refusal's number, or 0 with the tables' number and
-// descriptions in the first nine words of scratch.
+// The bound that column c of the table that w describes declares: it stands before the first cell. 0 outside.
+pub fn bound(data: &[u8], w: u64, c: usize) -> u64
+    ensures { λ b. ⌜ BoundPost (now («data» .entry)) w c b ⌝ }
+{
+    let width = columns(w);
+    if width <= c {
+        return 0;
+    }
+    let first = (w / ONE_POSITION) as usize;
+    if first < 4 * width {
+        return 0;
+    }
+    four_at(data, first - 4 * width + 4 * c) as u64
+}
+
+// The table with this content, of a record of this kind, whose bounds begin at p and whose record ends before next; scratch has those of
+// the records before.
+fn numbered_table(c: &[u8], kind: usize, scratch: &[u64], p: usize, next: usize) -> TableRead
+    requires { ⌜ (fits (now c) ≡ true) × (p < 2 ^ 33) ⌝ }
+    ensures { λ r. ⌜ r ≡ numberedTable kind (now (c .entry)) (now (scratch .entry)) p next ⌝ }
+{
+    let k = byte_at(c, NUMBER_AT);
+    if MOST_TABLES <= k {
+        return TableRead::Refused(base_refusals::TABLE_NUMBER_OUT_OF_RANGE);
+    }
+    if present(scratch, k) {
+        return TableRead::Refused(base_refusals::TABLE_NUMBER_USED);
+    }
+    if columns_bounded(c, kind) {
+        return TableRead::Is(k, describe(c, kind, p), next);
+    }
+    TableRead::Refused(base_refusals::CELL_BEYOND_BOUND)
+}
+
+// The record that begins at p.
+fn table_at(data: &[u8], scratch: &[u64], p: usize) -> TableRead
+    requires { ⌜ (p ≤ length (now «data»)) × (p < 2 ^ 32) ⌝ }
+    ensures { λ r. ⌜ r ≡ tableAt (now («data» .entry)) (now (scratch .entry)) p ⌝ }
+{
+    let TableHeader::Record(n) = read_header(&data[p..]) else {
+        return TableRead::Refused(base_refusals::NOT_A_TABLE);
+    };
+    let from = p + 4;
+    let next = from + n;
+    if well_formed(&data[from..next]) {
+        return numbered_table(
+            &data[from..next],
+            two_at(data, p + 2),
+            scratch,
+            from + BOUNDS_AT,
+            next,
+        );
+    }
+    TableRead::Refused(base_refusals::TABLE_OUT_OF_RANGE)
+}
+
+// "the data, earliest record first, 13 before 11 before 12"; "50 .. 51 .. both at their record, after 12 and before 43".
+// Answers the refusal's number, or 0 with each table's description at its number.
 pub fn read_data(data: &[u8], scratch: &mut [u64]) -> u64
+    requires { ⌜ 9 ≤ length (now scratch) ⌝ }
     ensures { λ r. ⌜ ReadDataPost (now («data» .entry)) (now (scratch .entry)) (now (scratch .exit)) r ⌝ }
 {
+    wipe(scratch, DESCRIPTIONS, DESCRIPTIONS + MOST_TABLES);
     let mut p = 0;
     let mut n = 0;
     while p < data.len() {
         if n == MOST_TABLES {
             return base_refusals::TOO_MANY_TABLES;
         }
-        match table_at(data, p) {
+        match table_at(data, scratch, p) {
             TableRead::Refused(x) => {
                 return x;
             }
-            TableRead::Is(w, next) => {
+            TableRead::Is(k, w, next) => {
                 n += 1;
-                store(scratch, n, w);
+                store(scratch, DESCRIPTIONS + k, w);
                 p = next;
             }
         }
     }
-    store(scratch, TABLES, n as u64);
     0
 }

@@ -3,7 +3,7 @@ use Prim.Native.Nat.{_-_}
 use native.Mathlib.Omega.{arith}
 use mathlib.Core.Path.{sym, _∙_}
 use lib.ListN.{length}
-use Rattle.base_tables.proofs.ReadLoop.{Going, going-first, going-ninth, going-refused, going-falls, going-next, going-ended}
+use Rattle.base_tables.proofs.ReadLoop.{Going, going-first, from-lent, going-ninth, going-refused, going-falls, going-number, going-next, going-ended}
 use borrow.Author.Needs.{needs}
 use Rattle.base_tables.proofs.read_data.Statement.{statement}
 use Rattle.base_tables.proofs.read_data.Tie as tie
@@ -15,58 +15,68 @@ abbrev μ-loop : tie.MeasureT-loop
 μ-loop «data» scratch₀ p₀ n₀ scratch p n = length «data» - p
 
 loop-holds : tie.Need-loop-holds Inv-loop μ-loop
-loop-holds c = going-first (c .before .before .args .«data» .now) (c .before .before .args .scratch .now)
+loop-holds c = let w = c .before .before in let s = w .before .before .before .before in going-first (s .args .«data» .now) (w .wipe .ensures) (s .pre)
 
 same-length : tie.Need-same-length Inv-loop μ-loop
-same-length c = c .before .before .loop .inv .long
+same-length c = let l = c .before .before in l .loop .inv .long ∙ l .before .before .before .wipe .kept .0
 
 returns : tie.Need-returns Inv-loop μ-loop
-returns c = going-ninth (c .before .before .loop .inv) (c .before .loop-test .taken) (c .if1 .taken)
+returns c =
+    let l = c .before .before in
+    let w = l .before .before .before in
+    let s = w .before .before .before .before in
+    from-lent (s .args .«data» .now) (w .wipe .ensures) (going-ninth (l .loop .inv) (c .before .loop-test .taken) (c .if1 .taken))
 
 table-at-requires : tie.Need-table-at-requires Inv-loop μ-loop
 table-at-requires c κs = omega arith
 
 same-length-2 : tie.Need-same-length-2 Inv-loop μ-loop
-same-length-2 c = c .before .before .before .before .before .before .loop .inv .long
+same-length-2 c = let l = c .before .before .before .before .before .before .before in l .loop .inv .long ∙ l .before .before .before .wipe .kept .0
 
 returns-2 : tie.Need-returns-2 Inv-loop μ-loop
 returns-2 c =
-    let c3 = c .before .before .before in
-    let c4 = c3 .before in
-    let c5 = c4 .before in
-    let c6 = c5 .before in
-    going-refused (c6 .loop .inv) (c5 .loop-test .taken) (c4 .if1 .left) (sym (c3 .table-at .ensures) ∙ c .before .x .given .1)
+    let t = c .before .before .before in
+    let i = t .before .before in
+    let l = i .before .before in
+    let w = l .before .before .before in
+    let s = w .before .before .before .before in
+    from-lent (s .args .«data» .now) (w .wipe .ensures)
+    (going-refused (l .loop .inv) (i .before .loop-test .taken) (i .if1 .left) (sym (t .table-at .ensures) ∙ c .before .x .given .1))
 
 add-n : tie.Need-add-n Inv-loop μ-loop
 add-n c = omega arith
 
+add-store : tie.Need-add-store Inv-loop μ-loop
+add-store c =
+    let t = c .before .before .before .before in
+    let i = t .before .before in
+    let k = going-number (i .before .before .loop .inv) (i .before .loop-test .taken) (sym (t .table-at .ensures) ∙ c .before .before .k .given .1) in
+    record { fits = omega (arith, k) }
+
 loop-less : tie.Need-loop-less Inv-loop μ-loop
 loop-less c =
-    let c5 = c .before .before .before .before .before in
-    let c7 = c5 .before .before in
-    let c9 = c7 .before .before in
-    let c10 = c9 .before in
-    going-falls (c10 .loop .inv) (c9 .loop-test .taken) (sym (c7 .table-at .ensures) ∙ c5 .w .given .1)
+    let k = c .before .before .before .before .before in
+    let t = k .before .before in
+    let i = t .before .before in
+    going-falls (i .before .before .loop .inv) (i .before .loop-test .taken) (sym (t .table-at .ensures) ∙ k .k .given .1)
 
 loop-again : tie.Need-loop-again Inv-loop μ-loop
 loop-again c =
-    let c2 = c .before .before in
-    let c5 = c2 .before .before .before in
-    let c7 = c5 .before .before in
-    let c8 = c7 .before in
-    let c9 = c8 .before in
-    let c10 = c9 .before in
-    going-next (c10 .loop .inv) (c9 .loop-test .taken) (c8 .if1 .left) (sym (c7 .table-at .ensures) ∙ c5 .w .given .1) (c2 .store .ensures)
+    let k = c .before .before .before .before .before in
+    let t = k .before .before in
+    let i = t .before .before in
+    going-next (i .before .before .loop .inv) (i .before .loop-test .taken) (i .if1 .left)
+    (sym (t .table-at .ensures) ∙ k .k .given .1) (c .before .before .store .ensures)
 
 same-length-3 : tie.Need-same-length-3 Inv-loop μ-loop
-same-length-3 c = c .before .before .store2 .kept .0 ∙ c .before .before .before .before .before .loop .inv .long
+same-length-3 c = let l = c .before in l .loop .inv .long ∙ l .before .before .before .wipe .kept .0
 
 returns-3 : tie.Need-returns-3 Inv-loop μ-loop
 returns-3 c =
-    let c2 = c .before .before in
-    let c4 = c2 .before .before in
-    let c5 = c4 .before in
-    going-ended (c5 .loop .inv) (c4 .loop-test .left) (c2 .store2 .ensures)
+    let l = c .before in
+    let w = l .before .before .before in
+    let s = w .before .before .before .before in
+    from-lent (s .args .«data» .now) (w .wipe .ensures) (going-ended (l .loop .inv) (c .loop-test .left))
 
 pub read-data-spec : {M : Type 1} → statement M
 read-data-spec =
@@ -74,6 +84,8 @@ read-data-spec =
     (tie.spec
     Inv-loop
     μ-loop
+    (λ c. search needs)
+    (λ c κs. search needs)
     loop-holds
     same-length
     returns
@@ -83,9 +95,9 @@ read-data-spec =
     returns-2
     (λ c. search needs)
     add-n
+    add-store
     (λ c κs. search needs)
     loop-less
     loop-again
-    (λ c κs. search needs)
     same-length-3
     returns-3)

@@ -44,6 +44,8 @@ well-formed-spec =
     returns-4
     returns-5
     returns-6
+    (λ c. search needs)
+    (λ c. search needs)
     (λ c κs. search needs)
     (λ c. search needs)
     (λ c. search needs)

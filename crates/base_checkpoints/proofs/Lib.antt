@@ -1,0 +1,2 @@
+-- Laws of checkpoints.
+pub mod Laws

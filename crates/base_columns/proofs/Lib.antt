@@ -1,0 +1,3 @@
+-- Laws of turned records.
+pub mod WrittenColumns
+pub mod TurnedRecords
