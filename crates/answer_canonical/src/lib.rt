@@ -2,7 +2,8 @@
 ghost use Prim.Native.Nat.{_≤_};
 ghost use Rattle.base_scratch.specs.Map.{formWords};
 ghost use Rattle.answer_types.specs.Shape.{Shaped};
-ghost use Rattle.answer_canonical.specs.CompactingWalk.{CarryPost, ArrangePost, WalkPost, WalkFieldsPost, WalkElementsPost, FinishPost};
+ghost use Rattle.answer_canonical.specs.CompactingWalk.{CarryPost, ArrangePost, WalkPost, WalkFieldsPost, WalkElementsPost, FinishPost, FinishCount};
+use answer_heap::more;
 use answer_sort::order;
 use answer_types::Layout;
 use answer_types::ValueType;
@@ -16,10 +17,17 @@ use base_buffer::step;
 use base_buffer::tally;
 use form_words::next;
 
-// Where the next raw word is read, and where the next written word goes.
+// Where the next raw word is read, where the next written word goes, and the comparisons of the ordering steps so far.
 struct Ends {
     src: usize,
     dst: usize,
+    comparisons: u64,
+}
+
+// How many words a value has when it is written, and the comparisons of all its ordering steps.
+pub struct Finished {
+    pub length: usize,
+    pub comparisons: u64,
 }
 
 // The next n words, which are written as they are, move down.
@@ -31,6 +39,7 @@ fn carry(o: &mut [i64], n: usize, e: Ends) -> Ends
     Ends {
         src: src,
         dst: ahead(o, e.dst, n),
+        comparisons: e.comparisons,
     }
 }
 
@@ -54,6 +63,7 @@ fn arrange(s: &[u64], o: &mut [i64], t: Layout, p: usize, e: Ends) -> Ends
             Ends {
                 src: e.src,
                 dst: r.end,
+                comparisons: more(e.comparisons, r.comparisons),
             }
         }
     }
@@ -111,13 +121,22 @@ fn walk_elements(s: &[u64], o: &mut [i64], t: Layout, count: usize, e: Ends) -> 
     g
 }
 
-// The value of the type at i whose raw words stand in front; how many words it has when written.
-pub fn finish(s: &[u64], o: &mut [i64], i: usize) -> usize
-    ensures { λ r. ⌜ FinishPost (now (s .entry)) i (now (o .entry)) (now (o .exit)) r ⌝ }
+// The value of the type at i whose raw words stand in front is brought to its written form.
+pub fn finish(s: &[u64], o: &mut [i64], i: usize) -> Finished
+    ensures { λ r. ⌜ FinishPost (now (s .entry)) i (now (o .entry)) (now (o .exit)) (r .length) ⌝ }
+    ensures { λ r. ⌜ FinishCount (now (s .entry)) i (now (o .entry)) (r .comparisons) ⌝ }
 {
     let t = layout_at(s, i);
-    let g = walk(s, o, t, Ends { src: 0, dst: 0 });
+    let b = Ends {
+        src: 0,
+        dst: 0,
+        comparisons: 0,
+    };
+    let g = walk(s, o, t, b);
     let e = arrange(s, o, t, 0, g);
     clear(o, e.dst, e.src);
-    e.dst
+    Finished {
+        length: e.dst,
+        comparisons: e.comparisons,
+    }
 }

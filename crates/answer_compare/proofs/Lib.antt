@@ -3,3 +3,4 @@ pub mod FlatCompare
 pub mod CompareExits
 pub mod Depth
 pub mod ValueOrder
+pub mod SegmentCompare

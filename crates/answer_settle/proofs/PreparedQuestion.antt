@@ -17,7 +17,6 @@ use Rattle.spec_normal_form.specs.NoRule.{Ordered}
 use Rattle.spec_normal_form.proofs.NoRuleApplies.{normal-in-scope}
 use Rattle.spec_outcome.specs.Acceptance.{Accepted}
 use Rattle.spec_outcome.proofs.Checks.{Passed, judged}
-use Rattle.base_tables.specs.DataReader.{Stored}
 use Rattle.form_words.specs.FormTree.{formTree, left}
 use Rattle.form_words.proofs.ReadBack.{read-back}
 use Rattle.form_prepared.specs.PreparedQuestion.{Prepared}
@@ -61,7 +60,8 @@ module _ {d : Bytes} {a : Accepted} {s : List ℕ} (P : Prepared d a s) where
   pub held : Held d s
   held = record {
     read = P .tables ∙ ap got (sym tables-are);
-    stored = subst (λ (T : Tables). Stored d T s) (sym tables-are) (P .stored);
+    stored = P .stored;
+    checkpointed = P .checkpointed;
     long = omega (arith, P .long);
   }
 

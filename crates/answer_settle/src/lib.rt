@@ -7,5 +7,5 @@ use answer_canonical::finish;
 pub fn settle(s: &[u64], out: &mut [i64]) -> usize
     ensures { λ r. ⌜ SettlePost (now (s .entry)) (now (out .entry)) (now (out .exit)) r ⌝ }
 {
-    finish(s, out, 0)
+    finish(s, out, 0).length
 }

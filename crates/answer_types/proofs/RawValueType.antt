@@ -5,20 +5,19 @@ use mathlib.Core.Bool.{Bool, true, false}
 use mathlib.Core.List.{List, [], _∷_, map}
 use Prim.Native.Nat.{ℕ, zero, suc, _≤_}
 use native.Mathlib.Omega.{arith}
-use lib.Dec.{T, ltb, eqb, eqb→eq}
-use borrow.Author.Tests.{ltb-true, ltb-false}
+use lib.Dec.{T, eqb, eqb→eq}
 use lib.IntN.{ℤ, pos}
 use lib.ListN.{length}
 use Rattle.spec_calculus.specs.Lists.{guard, pick, upd}
 use Rattle.spec_calculus.specs.Syntax as Sy
 use Rattle.spec_calculus.specs.Syntax.{Monoid, of, sum, max, some, all, Bin, plus, minus, times, equal, less, and, or, Fun, choice}
-use Rattle.spec_calculus.specs.Value.{Value, Values, toList, fromList, junk, asBool, nth, fieldOf, binV, notV, scalar, choiceV, appV, Tables, columnsOf, rowsOf}
+use Rattle.spec_calculus.specs.Value.{Value, Values, toList, fromList, junk, asBool, nth, fieldOf, binV, notV, scalar, choiceV, appV, Tables, columnsOf, isThere, rowsOf}
 use Rattle.spec_calculus.specs.Value as Va
 use Rattle.spec_calculus.specs.Monoid.{start, step, total, finish, foldBy, raw}
 use Rattle.spec_calculus.specs.Meaning.{Env}
 use Rattle.spec_calculus.proofs.Lists.{All, all-imp, all-bind}
 use Rattle.spec_calculus.proofs.Folds.{raw-of}
-use Rattle.spec_calculus.proofs.WellFormed.{Row, WellFormed, rows-well-formed, columns-at-least, past-no-rows}
+use Rattle.spec_calculus.proofs.WellFormed.{Row, WellFormed, rows-well-formed, columns-at-least, absent-no-rows}
 use Rattle.spec_checks.specs.Types.{Ty, Tys, number, truth, record′, coll, ynil, ycons, cells}
 use Rattle.spec_checks.proofs.Judgement.{result, Scalar, Takes}
 use Rattle.spec_checks.proofs.Refold.{gives, gathered}
@@ -52,9 +51,9 @@ row-of : {n : ℕ} {v : Value} → 1 ≤ n → Row n v → Of (record′ (cells 
 row-of {n} l r = subst (Of (record′ (cells n))) (sym (r .is)) (a-record (some-cells n l) (subst (λ (m : ℕ). OfEach (cells m) (fromList (map Va.num (r .cells)))) (r .width) (row-cells (r .cells))))
 
 rows-of : {D : Tables} → WellFormed D → (k : ℕ) → All (Of (record′ (cells (columnsOf D k)))) (rowsOf D k)
-rows-of {D} W k = by-test (ltb k (length D))
-    (λ e. all-imp (Row (columnsOf D k)) (Of (record′ (cells (columnsOf D k)))) (rowsOf D k) (rows-well-formed W k) (λ v r. row-of (columns-at-least W k (ltb-true k (length D) e)) r))
-    (λ e. rw (past-no-rows D k (ltb-false k (length D) e)) tt)
+rows-of {D} W k = by-test (isThere D k)
+    (λ e. all-imp (Row (columnsOf D k)) (Of (record′ (cells (columnsOf D k)))) (rowsOf D k) (rows-well-formed W k) (λ v r. row-of (columns-at-least W k e) r))
+    (λ e. rw (absent-no-rows W k e) tt)
 
 nth-of : (n i : ℕ) (vs : Values) → OfEach (cells n) vs → Of number (nth i vs)
 unfolding cells nth
@@ -210,14 +209,15 @@ choice-values t vs s (field {v = c} h (field {v = v} a (field {v = w} b no-field
 app-of : (f : Fun) (us : Tys) (t : Ty) (vs : Values) → Takes f us t → OfEach us vs → Of t (appV f vs)
 app-of choice us t vs h k = choice-values t vs (h .0) (subst (λ (ts : Tys). OfEach ts vs) (h .1) k)
 
-takes-scalar : (f : Fun) (us : Tys) (t : Ty) → Takes f us t → Scalar t
+pub takes-scalar : (f : Fun) (us : Tys) (t : Ty) → Takes f us t → Scalar t
 takes-scalar choice us t h = h .0
 
-abbrev Scalars : Tys → Type 0
+-- numbers and truths
+abbrev pub Scalars : Tys → Type 0
 Scalars ynil = Unit {0}
 Scalars (ycons t ts) = Scalar t × Scalars ts
 
-takes-scalars : (f : Fun) (us : Tys) (t : Ty) → Takes f us t → Scalars us
+pub takes-scalars : (f : Fun) (us : Tys) (t : Ty) → Takes f us t → Scalars us
 takes-scalars choice us t h = subst Scalars (sym (h .1)) (tt, (h .0, (h .0, tt)))
 
 guard-all : (P : Value → Type 0) (b : Bool) (l : List Value) → All P l → All P (guard b l)

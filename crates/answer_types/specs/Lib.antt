@@ -8,4 +8,5 @@ pub mod FlatTypes
 pub mod Shape
 pub mod Widths
 pub mod ElementTypes
+pub mod Segments
 pub mod SkipContract

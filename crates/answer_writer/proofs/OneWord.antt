@@ -4,8 +4,7 @@ use mathlib.Core.List.{[], _∷_}
 use mathlib.Core.Bool.{Bool, true, false}
 use lib.IntN.{ℤ}
 use Rattle.spec_calculus.specs.Syntax.{Bin, plus, minus, times, equal, less, and, or, Fun, choice}
-use Rattle.spec_calculus.specs.Value.{Value, Values, num, truth, rec, coll, nth, asInt, asBool, binV, scalar, choiceV, appV}
-use Rattle.spec_calculus.specs.Lists.{pick}
+use Rattle.spec_calculus.specs.Value.{Value, Values, num, truth, rec, coll, asInt, asBool, binV, scalar, choiceV, appV}
 use Rattle.spec_outcome.specs.WrittenForm.{truthWord}
 use Rattle.form_arith.specs.declared.Sort.{Sort}
 use Rattle.form_arith.specs.declared.Sort.the-variants as So

@@ -19,11 +19,27 @@ returns-3 : tie.Need-returns-3
 returns-3 c = arrange-record (reshape (c .before .before .before .pre) (c .enum-told3 .given .1))
 
 same-length : tie.Need-same-length
-same-length c = c .before .mark .kept .0 ∙ c .before .before .before .before .order .kept .1 .0
+same-length c = c .before .before .mark .kept .0 ∙ c .before .before .before .before .before .order .kept .1 .0
 
 returns-4 : tie.Need-returns-4
-returns-4 c = arrange-collection (reshape (c .before .before .before .before .before .before .before .before .before .before .before .before .before .before .before .pre) (c .before .before .before .before .before .before .before .before .before .before .before .before .shape .given .1)) (laid-as (c .before .before .before .before .before .before .before .before .before .before .element-layout .ensures)) (c .before .before .before .before .before .before .before .before .tally .ensures) (c .before .before .before .before .before .before .step .ensures) (c .before .before .before .before .order .ensures) (c .before .mark .ensures) refl refl
+returns-4 c = arrange-collection (reshape (c .before .before .before .before .before .before .before .before .before .before .before .before .before .before .before .before .pre) (c .before .before .before .before .before .before .before .before .before .before .before .before .before .shape .given .1)) (laid-as (c .before .before .before .before .before .before .before .before .before .before .before .element-layout .ensures)) (c .before .before .before .before .before .before .before .before .before .tally .ensures) (c .before .before .before .before .before .before .before .step .ensures) (c .before .before .before .before .before .order .ensures .0) (c .before .before .before .before .before .order .ensures .1) (c .before .before .mark .ensures) refl refl (c .more .ensures)
 
 pub arrange-spec : {M : Type 1} → statement M
 arrange-spec =
-    tie.close (tie.spec (λ c. search needs) (λ c. search needs) (λ c. search needs) (λ c. search needs) (λ c κs. search needs) (λ c κs. search needs) (λ c κs. search needs) order-requires (λ c κs. search needs) returns returns-2 returns-3 same-length returns-4)
+    tie.close
+    (tie.spec
+    (λ c. search needs)
+    (λ c. search needs)
+    (λ c. search needs)
+    (λ c. search needs)
+    (λ c κs. search needs)
+    (λ c κs. search needs)
+    (λ c κs. search needs)
+    order-requires
+    (λ c κs. search needs)
+    (λ c κs. search needs)
+    returns
+    returns-2
+    returns-3
+    same-length
+    returns-4)

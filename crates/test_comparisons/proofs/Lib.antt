@@ -1,0 +1,4 @@
+-- Laws of answering with its comparisons counted, and of the call.
+pub mod RowColumns
+pub mod CountedAnswer
+pub mod Call

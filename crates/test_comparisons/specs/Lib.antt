@@ -1,0 +1,3 @@
+-- How many comparisons an answer takes.
+pub mod ComparedAnswer
+pub mod Contract
