@@ -11,7 +11,7 @@ use Rattle.spec_calculus.specs.Syntax as Sy
 use Rattle.spec_calculus.specs.Syntax.{Monoid, of, sum, max, some, all}
 use Rattle.spec_calculus.specs.Value.{Tables, rowsOf}
 use Rattle.spec_normal_form.specs.Form.{Form, Forms, Clauses, num, truth, row, cell, rec, bin, negate, app, comp, fnil, fcons, done, gen, cond}
-use Rattle.spec_normal_form.specs.Bound.{ownGens, bound, compBound, within, withinF, withinC}
+use Rattle.spec_normal_form.specs.Bound.{ownGens, Declared, bound, compBound, within, withinF, withinC}
 use Rattle.spec_normal_form.proofs.Bounds.{within-bound, within-operands, within-negated, within-app, within-fields, within-field, within-gen, within-comp, within-cond}
 use Rattle.form_words.specs.declared.FormNode.{FormNode}
 use Rattle.form_words.specs.declared.FormNode.the-variants as N
@@ -49,35 +49,36 @@ spotTakes s T (end c) = 1
 spotTakes s T (loop i p) = rowsBy T (clauseOf (nodeAt s i)) * spotTakes s T p
 spotTakes s T (inner a p) = spotTakes s T p
 
--- the numbers in the conditions and in the head of the comprehension at c are small, and its head is read where it stands
-pub record Smalls (s : List ℕ) (c : ℕ) : Type 0 where
-  pub clauses : withinC (clausesTree fuel s (c + 1)) ≡ true
-  pub head : within (formTree fuel s (headAt s c)) ≡ true
+-- the numbers in the conditions and in the head of the comprehension at c are small, by what C says that the generators' tables declare, and
+-- its head is read where it stands
+pub record Smalls (C : Declared) (s : List ℕ) (c : ℕ) : Type 0 where
+  pub clauses : withinC C (clausesTree fuel s (c + 1)) ≡ true
+  pub head : within C (formTree fuel s (headAt s c)) ≡ true
   pub term : headIn fuel s (c + 1) ≡ termIn fuel s (headAt s c)
 
 -- so is what its heads come to, which is within its own bound; and the same of the comprehensions inside
-pub record CompFits (s : List ℕ) (T : Tables) (y : Spots) : Type 0 where
-  pub total : mergeBound (monoidBy (nodeAt s (compOf y))) (spotTakes s T y) (headBound s (compOf y)) ≤ numberLimit
-  pub own : mergeBound (monoidBy (nodeAt s (compOf y))) (spotTakes s T y) (headBound s (compOf y)) ≤ wordBound (sortOf (monoidBy (nodeAt s (compOf y)))) (formTree fuel s (compOf y))
-  pub smalls : Smalls s (compOf y)
+pub record CompFits (C : Declared) (s : List ℕ) (T : Tables) (y : Spots) : Type 0 where
+  pub total : mergeBound (monoidBy (nodeAt s (compOf y))) (spotTakes s T y) (headBound C s (compOf y)) ≤ numberLimit
+  pub own : mergeBound (monoidBy (nodeAt s (compOf y))) (spotTakes s T y) (headBound C s (compOf y)) ≤ wordBound C (sortOf (monoidBy (nodeAt s (compOf y)))) (formTree fuel s (compOf y))
+  pub smalls : Smalls C s (compOf y)
 
-abbrev pub Fit : List ℕ → Tables → Spots → Type 0
-Fit s T (end c) = Unit {0}
-Fit s T (loop i p) = Fit s T p
-Fit s T (inner a p) = CompFits s T a × (Fit s T a × Fit s T p)
+abbrev pub Fit : Declared → List ℕ → Tables → Spots → Type 0
+Fit C s T (end c) = Unit {0}
+Fit C s T (loop i p) = Fit C s T p
+Fit C s T (inner a p) = CompFits C s T a × (Fit C s T a × Fit C s T p)
 
 -- "max its head's; sum its head's times 1,024 for each generator"; min as max
-heads-within : (m : Monoid) (q : Clauses) (h : Form) → mergeBound m (0 + 1024 ^ ownGens q) (wordBound (sortOf m) h) ≤ wordBound (sortOf m) (comp m q h)
+heads-within : (C : Declared) (m : Monoid) (q : Clauses) (h : Form) → mergeBound m (0 + 1024 ^ ownGens q) (wordBound C (sortOf m) h) ≤ wordBound C (sortOf m) (comp m q h)
 unfolding mergeBound bound compBound
-heads-within (of c) q h = omega (arith, mul-zero (0 + 1024 ^ ownGens q))
-heads-within sum q h = omega (arith, mul-comm (bound h) (1024 ^ ownGens q), ap (λ (x : ℕ). x * bound h) (zero-add (1024 ^ ownGens q)))
-heads-within max q h = le-refl (bound h)
-heads-within Sy.min q h = le-refl (bound h)
-heads-within some q h = le-refl 1
-heads-within all q h = le-refl 1
+heads-within C (of c) q h = omega (arith, mul-zero (0 + 1024 ^ ownGens q))
+heads-within C sum q h = omega (arith, mul-comm (bound C h) (1024 ^ ownGens q), ap (λ (x : ℕ). x * bound C h) (zero-add (1024 ^ ownGens q)))
+heads-within C max q h = le-refl (bound C h)
+heads-within C Sy.min q h = le-refl (bound C h)
+heads-within C some q h = le-refl 1
+heads-within C all q h = le-refl 1
 
-module _ (s : List ℕ) (T : Tables) (few : (k : ℕ) → length (rowsOf T k) ≤ 1024) where
-  fit-loops : (l : List ℕ) (p : Spots) → Fit s T p → Fit s T (loopsAt l p)
+module _ (C : Declared) (s : List ℕ) (T : Tables) (few : (k : ℕ) → length (rowsOf T k) ≤ 1024) where
+  fit-loops : (l : List ℕ) (p : Spots) → Fit C s T p → Fit C s T (loopsAt l p)
   unfolding loopsAt
   fit-loops [] p h = h
   fit-loops (i ∷ l) p h = fit-loops l p h
@@ -163,46 +164,46 @@ module _ (s : List ℕ) (T : Tables) (few : (k : ℕ) → length (rowsOf T k) �
     comp-tree : formTree fuel s c ≡ comp m q h
     comp-tree = tree-is s (comp m q h) c fuel L n (omega arith)
 
-    own-small : mergeBound (monoidBy (nodeAt s c)) (spotTakes s T (spotsOf q h c)) (headBound s c) ≤ wordBound (sortOf (monoidBy (nodeAt s c))) (formTree fuel s c)
+    own-small : mergeBound (monoidBy (nodeAt s c)) (spotTakes s T (spotsOf q h c)) (headBound C s c) ≤ wordBound C (sortOf (monoidBy (nodeAt s c))) (formTree fuel s c)
     own-small =
-        subst (λ (x : Monoid). mergeBound x (spotTakes s T (spotsOf q h c)) (wordBound (sortOf x) (formTree fuel s (headAt s c))) ≤ wordBound (sortOf x) (formTree fuel s c)) (sym monoid-node)
-        (subst (λ (x : Form). mergeBound m (spotTakes s T (spotsOf q h c)) (wordBound (sortOf m) (formTree fuel s (headAt s c))) ≤ wordBound (sortOf m) x) (sym comp-tree)
-        (subst (λ (x : Form). mergeBound m (spotTakes s T (spotsOf q h c)) (wordBound (sortOf m) x) ≤ wordBound (sortOf m) (comp m q h)) (sym head-tree)
-        (le-trans (more-words m (wordBound (sortOf m) h) (omega (arith, takes-comp m q h c L))) (heads-within m q h))))
+        subst (λ (x : Monoid). mergeBound x (spotTakes s T (spotsOf q h c)) (wordBound C (sortOf x) (formTree fuel s (headAt s c))) ≤ wordBound C (sortOf x) (formTree fuel s c)) (sym monoid-node)
+        (subst (λ (x : Form). mergeBound m (spotTakes s T (spotsOf q h c)) (wordBound C (sortOf m) (formTree fuel s (headAt s c))) ≤ wordBound C (sortOf m) x) (sym comp-tree)
+        (subst (λ (x : Form). mergeBound m (spotTakes s T (spotsOf q h c)) (wordBound C (sortOf m) x) ≤ wordBound C (sortOf m) (comp m q h)) (sym head-tree)
+        (le-trans (more-words m (wordBound C (sortOf m) h) (omega (arith, takes-comp m q h c L))) (heads-within C m q h))))
 
-    total-small : within (comp m q h) ≡ true → mergeBound (monoidBy (nodeAt s c)) (spotTakes s T (spotsOf q h c)) (headBound s c) ≤ numberLimit
+    total-small : within C (comp m q h) ≡ true → mergeBound (monoidBy (nodeAt s c)) (spotTakes s T (spotsOf q h c)) (headBound C s c) ≤ numberLimit
     unfolding bound
     total-small w =
-        subst (λ (x : Monoid). mergeBound x (spotTakes s T (spotsOf q h c)) (wordBound (sortOf x) (formTree fuel s (headAt s c))) ≤ numberLimit) (sym monoid-node)
-        (subst (λ (x : Form). mergeBound m (spotTakes s T (spotsOf q h c)) (wordBound (sortOf m) x) ≤ numberLimit) (sym head-tree)
-        (le-trans (more-words m (wordBound (sortOf m) h) (omega (arith, takes-comp m q h c L))) (comp-within m (ownGens q) h (within-bound (comp m q h) w))))
+        subst (λ (x : Monoid). mergeBound x (spotTakes s T (spotsOf q h c)) (wordBound C (sortOf x) (formTree fuel s (headAt s c))) ≤ numberLimit) (sym monoid-node)
+        (subst (λ (x : Form). mergeBound m (spotTakes s T (spotsOf q h c)) (wordBound C (sortOf m) x) ≤ numberLimit) (sym head-tree)
+        (le-trans (more-words m (wordBound C (sortOf m) h) (omega (arith, takes-comp m q h c L))) (comp-within C m (ownGens q) h (within-bound C (comp m q h) w))))
 
-    pub comp-fits : within (comp m q h) ≡ true → CompFits s T (spotsOf q h c)
+    pub comp-fits : within C (comp m q h) ≡ true → CompFits C s T (spotsOf q h c)
     comp-fits w =
-        let v = within-comp m q h w in
+        let v = within-comp C m q h w in
         let e : c ≡ compOf (spotsOf q h c) = sym (comp-own q h c) in
         record {
-          total = subst (λ (x : ℕ). mergeBound (monoidBy (nodeAt s x)) (spotTakes s T (spotsOf q h c)) (headBound s x) ≤ numberLimit) e (total-small w);
-          own = subst (λ (x : ℕ). mergeBound (monoidBy (nodeAt s x)) (spotTakes s T (spotsOf q h c)) (headBound s x) ≤ wordBound (sortOf (monoidBy (nodeAt s x))) (formTree fuel s x)) e own-small;
-          smalls = subst (Smalls s) e (record { clauses = ap withinC clauses-tree ∙ v .0; head = ap within head-tree ∙ v .1; term = term-there });
+          total = subst (λ (x : ℕ). mergeBound (monoidBy (nodeAt s x)) (spotTakes s T (spotsOf q h c)) (headBound C s x) ≤ numberLimit) e (total-small w);
+          own = subst (λ (x : ℕ). mergeBound (monoidBy (nodeAt s x)) (spotTakes s T (spotsOf q h c)) (headBound C s x) ≤ wordBound C (sortOf (monoidBy (nodeAt s x))) (formTree fuel s x)) e own-small;
+          smalls = subst (Smalls C s) e (record { clauses = ap (withinC C) clauses-tree ∙ v .0; head = ap (within C) head-tree ∙ v .1; term = term-there });
         }
 
   mutual
     unfolding inners size spotsOf
 
-    fit-inners : (t : Form) (i : ℕ) (p : Spots) → Lies s i t → i + size t ≤ formWords → within t ≡ true → Fit s T p → Fit s T (inners t i p)
+    fit-inners : (t : Form) (i : ℕ) (p : Spots) → Lies s i t → i + size t ≤ formWords → within C t ≡ true → Fit C s T p → Fit C s T (inners t i p)
     fit-inners (num z) i p L n w h = h
     fit-inners (truth b) i p L n w h = h
     fit-inners (row g) i p L n w h = h
     fit-inners (cell j g) i p L n w h = h
-    fit-inners (rec ts) i p L n w h = fit-innersF ts (i + 1) p (L .1) (omega arith) (within-fields ts w) h
-    fit-inners (app f ts) i p L n w h = fit-innersF ts (i + 1) p (L .1) (omega arith) (within-app f ts w) h
+    fit-inners (rec ts) i p L n w h = fit-innersF ts (i + 1) p (L .1) (omega arith) (within-fields C ts w) h
+    fit-inners (app f ts) i p L n w h = fit-innersF ts (i + 1) p (L .1) (omega arith) (within-app C f ts w) h
     fit-inners (bin o t u) i p L n w h =
-        let v = within-operands o t u w in
+        let v = within-operands C o t u w in
         fit-inners t (i + 1) (inners u (i + 1 + size t) p) (L .1 .0) (omega arith) (v .0) (fit-inners u (i + 1 + size t) p (L .1 .1) (omega arith) (v .1) h)
-    fit-inners (negate t) i p L n w h = fit-inners t (i + 1) p (L .1) (omega arith) (within-negated t w) h
+    fit-inners (negate t) i p L n w h = fit-inners t (i + 1) p (L .1) (omega arith) (within-negated C t w) h
     fit-inners (comp m q u) i p L n w h =
-        let v = within-comp m q u w in
+        let v = within-comp C m q u w in
         let e : Spots = inners u (i + 1 + sizeC q) (end i) in (
           comp-fits m q u i L n w,
           (
@@ -211,20 +212,20 @@ module _ (s : List ℕ) (T : Tables) (few : (k : ℕ) → length (rowsOf T k) �
           ),
         )
 
-    fit-innersF : (ts : Forms) (i : ℕ) (p : Spots) → LiesF s i ts → i + sizeF ts ≤ formWords → withinF ts ≡ true → Fit s T p → Fit s T (innersF ts i p)
+    fit-innersF : (ts : Forms) (i : ℕ) (p : Spots) → LiesF s i ts → i + sizeF ts ≤ formWords → withinF C ts ≡ true → Fit C s T p → Fit C s T (innersF ts i p)
     fit-innersF fnil i p L n w h = h
     fit-innersF (fcons t ts) i p L n w h =
-        let v = within-field t ts w in
+        let v = within-field C t ts w in
         fit-inners t i (innersF ts (i + size t) p) (L .1 .0) (omega arith) (v .0) (fit-innersF ts (i + size t) p (L .1 .1) (omega arith) (v .1) h)
 
-    fit-innersC : (q : Clauses) (i : ℕ) (p : Spots) → LiesC s i q → i + sizeC q ≤ formWords → withinC q ≡ true → Fit s T p → Fit s T (innersC q i p)
+    fit-innersC : (q : Clauses) (i : ℕ) (p : Spots) → LiesC s i q → i + sizeC q ≤ formWords → withinC C q ≡ true → Fit C s T p → Fit C s T (innersC q i p)
     fit-innersC done i p L n w h = h
-    fit-innersC (gen g k q) i p L n w h = fit-innersC q (i + 1) p (L .1 .1) (omega arith) (within-gen g k q w) h
+    fit-innersC (gen g k q) i p L n w h = fit-innersC q (i + 1) p (L .1 .1) (omega arith) (within-gen C g k q w) h
     fit-innersC (cond t q) i p L n w h =
-        let v = within-cond t q w in
+        let v = within-cond C t q w in
         fit-inners t (i + 1) (innersC q (i + 1 + size t) p) (L .1 .0) (omega arith) (v .0) (fit-innersC q (i + 1 + size t) p (L .1 .1) (omega arith) (v .1) h)
 
   -- those inside a comprehension
-  pub fit-inside : (m : Monoid) (q : Clauses) (u : Form) (c : ℕ) → Lies s c (comp m q u) → c + size (comp m q u) ≤ formWords → within (comp m q u) ≡ true → Fit s T (spotsOf q u c)
+  pub fit-inside : (m : Monoid) (q : Clauses) (u : Form) (c : ℕ) → Lies s c (comp m q u) → c + size (comp m q u) ≤ formWords → within C (comp m q u) ≡ true → Fit C s T (spotsOf q u c)
   unfolding inners spotsOf
   fit-inside m q u c L n w = fit-inners (comp m q u) c (end c) L n w tt .1 .0

@@ -1,4 +1,4 @@
--- The generators of a form by their places: each has its table named, where the form says so of all.
+-- The generators of a form: by their places each has its table named, where the form says so of all; all below a number decide.
 use mathlib.Core.Path.{_≡_, refl, sym, ap, subst, _∙_}
 use mathlib.Core.List.{List}
 use Prim.Native.Nat.{ℕ, suc, _+_, _≤_, _<_}
@@ -6,6 +6,8 @@ use native.Mathlib.Omega.{arith}
 use borrow.Author.Tests.{ltb-true, ltb-false}
 use lib.Dec.{ltb}
 use Rattle.spec_normal_form.specs.Form.{Form, Forms, Clauses, num, truth, row, cell, rec, bin, negate, app, comp, fnil, fcons, done, gen, cond}
+use Rattle.spec_normal_form.proofs.Ranges.{Below, BelowF, BelowC}
+use Rattle.spec_normal_form.proofs.GeneratorTables as Ge
 use Rattle.form_words.specs.declared.FormNode.{FormNode}
 use Rattle.form_words.specs.declared.FormNode.the-variants as N
 use Rattle.form_words.specs.NodeWord.{nodeAt}
@@ -70,3 +72,26 @@ module _ (C : ℕ → ℕ) (s : List ℕ) where
 
   pub tables-named : (t : Form) → Lies s 0 t → Named C t → (i g k : ℕ) → i < size t → nodeAt s i ≡ N.Generator g k → C g ≡ suc k
   tables-named t h w i g k l e = says-term t 0 h w i (omega arith) (omega (arith, l)) g k e
+
+-- ---- what is said of the generators below m is said of a form that has no other
+module _ {A : Type 0} (C D B : ℕ → A) (m : ℕ) (same : (g : ℕ) → g < m → D g ≡ C g) where
+  mutual
+    pub named-below : (t : Form) → Below m t → Ge.Named C B t → Ge.Named D B t
+    named-below (num z) l h = tt
+    named-below (truth b) l h = tt
+    named-below (row g) l h = tt
+    named-below (cell i g) l h = tt
+    named-below (rec ts) l h = named-belowF ts l h
+    named-below (app f ts) l h = named-belowF ts l h
+    named-below (bin o t u) l h = (named-below t (l .0) (h .0), named-below u (l .1) (h .1))
+    named-below (negate t) l h = named-below t l h
+    named-below (comp o q u) l h = (named-belowC q (l .0) (h .0), named-below u (l .1) (h .1))
+
+    named-belowF : (ts : Forms) → BelowF m ts → Ge.NamedF C B ts → Ge.NamedF D B ts
+    named-belowF fnil l h = tt
+    named-belowF (fcons t ts) l h = (named-below t (l .0) (h .0), named-belowF ts (l .1) (h .1))
+
+    named-belowC : (q : Clauses) → BelowC m q → Ge.NamedC C B q → Ge.NamedC D B q
+    named-belowC done l h = tt
+    named-belowC (gen g k q) l h = (same g (l .0) ∙ h .0, named-belowC q (l .1) (h .1))
+    named-belowC (cond t q) l h = (named-below t (l .0) (h .0), named-belowC q (l .1) (h .1))

@@ -7,7 +7,7 @@ use mathlib.Core.List.{List, []}
 use Prim.Native.Nat.{ℕ, _+_, _≤_}
 use Rattle.spec_encoding.specs.Record.{Bytes}
 use Rattle.spec_normal_form.specs.Form.{comp}
-use Rattle.spec_normal_form.specs.Bound.{within}
+use Rattle.spec_normal_form.specs.Bound.{Declared, within}
 use Rattle.base_scratch.specs.Map.{formWords}
 use Rattle.form_words.specs.NodeWord.{next, wordAt}
 use Rattle.form_words.specs.FormTree.{formTree}
@@ -30,6 +30,7 @@ use Rattle.plan_links.specs.SpotWords.{fuel}
 use Rattle.form_env.specs.Environment.{tablesIn}
 use Rattle.form_env.proofs.SameForm.{node-same, next-same}
 use Rattle.form_arith.specs.WordSorts.{sortOf, wordBound, mergeBound}
+use Rattle.exec_terms.specs.PlanColumns.{planDeclared}
 use Rattle.exec_terms.specs.Agreement.{Agrees, AgreesC}
 use Rattle.exec_terms.specs.PartsWalk.{AgreesP}
 use Rattle.exec_terms.proofs.FormAgreement.{tree-is, agrees-on, agrees-clauses}
@@ -40,6 +41,7 @@ use Rattle.exec_simulation.specs.AccumulatorRoom.{takesOf, Room}
 use Rattle.exec_simulation.specs.SimulationRelation.{Question, Stands}
 use Rattle.exec_simulation.specs.WiredProgram.{Id}
 use Rattle.exec_simulation.proofs.PathWords.{comp-node}
+use Rattle.exec_simulation.proofs.OperatorWrites.{declared-kept}
 use Rattle.exec_initial.specs.PlaceFillers.{fillers, Named, NamedC, NamedUpto, CompAt, headOf, Fills}
 use Rattle.exec_initial.specs.PlaceContents.{Holding}
 use Rattle.exec_initial.proofs.AccumulatorBounds.{Smalls}
@@ -75,7 +77,7 @@ module _ (d : Bytes) (p : Spots) (b s : List ℕ) (same : (i : ℕ) → wordAt s
       subst (Agrees fuel d s r) (sym (head-now b s same A)) (agrees-on d s r (A .head) (headOf A) fuel (lies-now b s same A .1 .1 .1) n (omega arith) (agrees-named d p b s same w F r H (A .head) (headOf A) (A .lies .1 .1 .1) n f h))
 
   -- the parts of the head before node e
-  pub parts-agree : (e : ℕ) → within (A .head) ≡ true → NamedUpto b F e (headOf A) (A .head) → e ≤ headOf A + size (A .head) → AgreesP fuel d s r (headAt s c) e
+  pub parts-agree : (e : ℕ) → within (planDeclared d s) (A .head) ≡ true → NamedUpto b F e (headOf A) (A .head) → e ≤ headOf A + size (A .head) → AgreesP fuel d s r (headAt s c) e
   unfolding size
   parts-agree e v h l =
       let n : headOf A + size (A .head) ≤ formWords = omega (arith, A .few) in
@@ -84,9 +86,9 @@ module _ (d : Bytes) (p : Spots) (b s : List ℕ) (same : (i : ℕ) → wordAt s
       (agrees-named-upto d p b s same w F r H (A .head) e (headOf A) (A .lies .1 .1 .1) n (head-fits (collects (A .monoid)) (A .head) (A .fitting)) h) (omega arith) l)
 
 -- ---- along a path
-module _ {d : Bytes} (Q : Question d) (small : (π : Path) (x : Program) → Valid (Q .program) π x → Smalls (Q .base) (compOf (spotsAt (Q .spots) π))) (filled : Fills (Q .base) [] (Q .spots))
+module _ {d : Bytes} (Q : Question d) (small : (π : Path) (x : Program) → Valid (Q .program) π x → Smalls (planDeclared d (Q .base)) (Q .base) (compOf (spotsAt (Q .spots) π))) (filled : Fills (Q .base) [] (Q .spots))
     (own : (π : Path) (i p : Program) → Valid (Q .program) π (Pr.inner i p)
-    → mergeBound (endOf i .monoid) (takesOf (tablesIn d) i) (Q .bound (pos π + before i)) ≤ wordBound (sortOf (endOf i .monoid)) (formTree fuel (Q .base) (compOf (inside (spotsAt (Q .spots) π)))))
+    → mergeBound (endOf i .monoid) (takesOf (tablesIn d) i) (Q .bound (pos π + before i)) ≤ wordBound (planDeclared d (Q .base)) (sortOf (endOf i .monoid)) (formTree fuel (Q .base) (compOf (inside (spotsAt (Q .spots) π)))))
     (s : List ℕ) (w : Words) (r : Spans) where
   abbrev b : List ℕ
   b = Q .base
@@ -109,11 +111,11 @@ module _ {d : Bytes} (Q : Question d) (small : (π : Path) (x : Program) → Val
   same-monoid : (π : Path) (x : Program) → Valid (Q .program) π x → (A : CompAt b (compOf (spotsAt sp π))) → A .monoid ≡ endOf x .monoid
   same-monoid π x v A = sym (monoid-back (A .monoid)) ∙ ap monoidBy (sym (A .lies .0) ∙ comp-node Q π x v) ∙ monoid-back (endOf x .monoid)
 
-  head-small : (π : Path) (x : Program) → Valid (Q .program) π x → (A : CompAt b (compOf (spotsAt sp π))) → within (A .head) ≡ true
+  head-small : (π : Path) (x : Program) → Valid (Q .program) π x → Stands Q s w r → (A : CompAt b (compOf (spotsAt sp π))) → within (planDeclared d s) (A .head) ≡ true
   unfolding size
-  head-small π x v A = sym (ap within (ap (formTree fuel b) (head-place A) ∙ tree-is b (A .head) (headOf A) fuel (A .lies .1 .1 .1) (omega (arith, A .few)) (omega arith))) ∙ small π x v .head
+  head-small π x v S A = ap (λ (C : Declared). within C (A .head)) (declared-kept Q (S .kept)) ∙ sym (ap (within (planDeclared d b)) (ap (formTree fuel b) (head-place A) ∙ tree-is b (A .head) (headOf A) fuel (A .lies .1 .1 .1) (omega (arith, A .few)) (omega arith))) ∙ small π x v .head
 
-  pub ends-read : (π : Path) (e : End) (k : ℕ) → wordBound (sortOf (e .monoid)) (formTree fuel b (headAt b (compOf (spotsAt sp π)))) ≡ Q .bound (last (Q .program) π) → Valid (Q .program) π (Pr.end e) → Begun w π → Stands Q s w r
+  pub ends-read : (π : Path) (e : End) (k : ℕ) → wordBound (planDeclared d b) (sortOf (e .monoid)) (formTree fuel b (headAt b (compOf (spotsAt sp π)))) ≡ Q .bound (last (Q .program) π) → Valid (Q .program) π (Pr.end e) → Begun w π → Stands Q s w r
       → Room (tablesIn d) (Q .bound) (Q .program) w π k → EndReads d s (rowAt π) (compOf (spotsAt sp π)) (Q .bound (last (Q .program) π)) e
   unfolding endOf
   ends-read π e k x v g S R =
@@ -132,7 +134,7 @@ module _ {d : Bytes} (Q : Question d) (small : (π : Path) (x : Program) → Val
       let E = end-filled-at Q filled π e v in
       let A = E .comp in
       let c : ℕ = compOf (spotsAt sp π) in
-      parts-agree d sp b s (S .kept .form) w (fillers sp π) (rowAt π) H A (next s c) (head-small π (Pr.end e) v A) (upto-whole b (fillers sp π) (next s c) (A .head) (headOf A) (E .head)) (omega (arith, next-same s b (S .kept .form) c, A .past))
+      parts-agree d sp b s (S .kept .form) w (fillers sp π) (rowAt π) H A (next s c) (head-small π (Pr.end e) v S A) (upto-whole b (fillers sp π) (next s c) (A .head) (headOf A) (E .head)) (omega (arith, next-same s b (S .kept .form) c, A .past))
 
   -- that before an inner collection, when this is opened
   pub opening-agrees : (π : Path) (i p : Program) (k : ℕ) → Valid (Q .program) π (Pr.inner i p) → writes (Q .program) (inP π i p) ≡ true → Begun w π → Stands Q s w r → Room (tablesIn d) (Q .bound) (Q .program) w π k
@@ -145,4 +147,4 @@ module _ {d : Bytes} (Q : Question d) (small : (π : Path) (x : Program) → Val
       let j : ℕ = compOf (inside (spotsAt sp π)) in
       let P = part-at Q filled small π i p v z in
       let n = top-within (A .head) (headOf A) j (part-top b j (comp-node Q (inP π i p) i (refl, v)) (A .head) (headOf A) (A .lies .1 .1 .1) P) .1 in
-      parts-agree d sp b s (S .kept .form) w (fillers sp π) (rowAt π) H A j (head-small π (Pr.inner i p) v A) (I .before P) (omega (arith, n))
+      parts-agree d sp b s (S .kept .form) w (fillers sp π) (rowAt π) H A j (head-small π (Pr.inner i p) v S A) (I .before P) (omega (arith, n))

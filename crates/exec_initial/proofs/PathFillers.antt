@@ -17,6 +17,7 @@ use Rattle.plan_machine.specs.MachineWords.{Path, start, loopP, inP, pastP, Val
 use Rattle.plan_machine.specs.AnswerText.{parts, among, headParts, collects, width, writes}
 use Rattle.plan_links.specs.Spots.{Spots, end, loop, inner, loopCode, compOf}
 use Rattle.plan_links.specs.SpotWords.{fuel, EndAt}
+use Rattle.exec_terms.specs.PlanColumns.{planDeclared}
 use Rattle.exec_terms.proofs.PartsBefore.{PartAt}
 use Rattle.exec_terms.proofs.FormAgreement.{head-node}
 use Rattle.exec_simulation.specs.PathPlaces.{behindFirst, inside, loopNode, spotsAt, backAt}
@@ -90,7 +91,7 @@ module _ {d : Bytes} (Q : Question d) (H : Fills (Q .base) [] (Q .spots)) where
       subst (λ c. InnerFilled s (fillers sp π) c (compOf (inside (spotsAt sp π)))) (sym (ap compOf e)) (subst (Fills s (fillers sp π)) e (fills-at π (Pr.inner i p) v) .0)
 
   -- An inner comprehension that is written is a part of the head around it.
-  module _ (small : (π : Path) (x : Program) → Valid (Q .program) π x → Smalls s (compOf (spotsAt sp π))) where
+  module _ (small : (π : Path) (x : Program) → Valid (Q .program) π x → Smalls (planDeclared d s) s (compOf (spotsAt sp π))) where
     pub head-term : (π : Path) (x : Program) → Valid (Q .program) π x → (A : CompAt s (compOf (spotsAt sp π))) → endOf x .head ≡ termIn fuel s (headOf A)
     head-term π x v A = end-at s (backAt sp π) x (spotsAt sp π) (wired-at Q π x v) .head ∙ small π x v .term ∙ ap (termIn fuel s) (head-place A)
 

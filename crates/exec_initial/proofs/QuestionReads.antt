@@ -28,6 +28,7 @@ use Rattle.plan_links.specs.SpotWords.{fuel}
 use Rattle.plan_links.specs.Contract.{Term}
 use Rattle.form_env.specs.Environment.{tablesIn}
 use Rattle.form_arith.specs.WordSorts.{sortOf, wordBound, mergeBound}
+use Rattle.exec_terms.specs.PlanColumns.{planDeclared}
 use Rattle.exec_terms.specs.PartsWalk.{AgreesP}
 use Rattle.base_signed.specs.Limit.{numberLimit}
 use Rattle.exec_simulation.specs.PathPlaces.{inside, loopNode, spotsAt}
@@ -62,8 +63,8 @@ module _ {d : Bytes} (a : Accepted) (s s₁ s₂ : List ℕ) (r : ℕ) (A : Prep
       form-fills f s₂ (W .lies) (W .few) (steps s s₂ (W .nexts) (asForm f) 0 (omega (arith, W .few)) (laid a s s₁ s₂ r A Q L .held)) (W .marked) in-scope fitting
 
   pub question-own : (π : Path) (i p : Program) → Valid (programOf f) π (Pr.inner i p)
-      → mergeBound (endOf i .monoid) (takesOf (tablesIn d) i) (boundAt s₂ sp (pos π + before i)) ≤ wordBound (sortOf (endOf i .monoid)) (formTree fuel s₂ (compOf (inside (spotsAt sp π))))
-  question-own = own-at s₂ (tablesIn d) (programOf f) sp (wired a s s₁ s₂ r A Q L) (fit a s s₁ s₂ r A Q L)
+      → mergeBound (endOf i .monoid) (takesOf (tablesIn d) i) (boundAt (planDeclared d s₂) s₂ sp (pos π + before i)) ≤ wordBound (planDeclared d s₂) (sortOf (endOf i .monoid)) (formTree fuel s₂ (compOf (inside (spotsAt sp π))))
+  question-own = own-at (planDeclared d s₂) s₂ (tablesIn d) (programOf f) sp (wired a s s₁ s₂ r A Q L) (fit a s s₁ s₂ r A Q L)
 
   module _ (lent : List ℤ) (short : length lent ≤ numberLimit) where
     abbrev asked : Question d

@@ -52,7 +52,7 @@ module _ (d : Bytes) (p : Spots) (b s : List ℕ) (same : (i : ℕ) → wordAt s
       let v : Value = heldAt (markAt s i) r in
       let x : monoidBy (nodeAt s i) ≡ m = ap monoidBy (node-same s b same i ∙ L .0) ∙ monoid-back m in
       let t : formTree fuel s i ≡ comp m q u = form-same s b same fuel i ∙ tree-is b (comp m q u) i fuel L n (omega arith) in
-      subst (λ (y : Form). Kept s i m y v) t (subst (λ (y : Monoid). Kept s i y (formTree fuel s i) v) x (end-held i N .kept (ap collects x ∙ e)))
+      subst (λ (y : Form). Kept d s i m y v) t (subst (λ (y : Monoid). Kept d s i y (formTree fuel s i) v) x (end-held i N .kept (ap collects x ∙ e)))
 
   -- ---- terms of one word
   mutual

@@ -17,6 +17,7 @@ use Rattle.spec_calculus.specs.Monoid.{finish}
 use Rattle.base_syntax.specs.MonoidWord.{finishWord}
 use Rattle.spec_encoding.specs.Record.{Bytes}
 use Rattle.spec_normal_form.specs.Form.{Form}
+use Rattle.spec_normal_form.specs.Bound.{Declared}
 use Rattle.form_words.specs.declared.FormNode.the-variants as N
 use Rattle.form_words.specs.declared.Clause.the-variants as Cl
 use Rattle.form_words.specs.NodeWord.{nodeAt}
@@ -43,6 +44,7 @@ use Rattle.form_env.proofs.SameForm.{node-same, form-same}
 use Rattle.form_arith.specs.WordSorts.{asWord, sortOf, wordBound, mergeBound}
 use Rattle.form_arith.proofs.ValueWords.{small-fits, finish-word}
 use Rattle.exec_terms.specs.KeptWord.{accOf}
+use Rattle.exec_terms.specs.PlanColumns.{planDeclared}
 use Rattle.exec_terms.specs.Agreement as Ag
 use Rattle.base_signed.specs.Limit.{numberLimit}
 use Rattle.exec_state.specs.StateWords.{Total, offeredAt, totalIn}
@@ -51,6 +53,7 @@ use Rattle.exec_simulation.specs.AccumulatorRoom.{takesOf, Room, compAt}
 use Rattle.exec_simulation.specs.SimulationRelation.{Question, SaysEnd, SaysRow, SaysAt, Stands}
 use Rattle.exec_simulation.specs.WiredProgram.{Id, loopI, endI, ids, idAt}
 use Rattle.exec_simulation.proofs.TakeMoves.{kept-total}
+use Rattle.exec_simulation.proofs.OperatorWrites.{declared-kept}
 use Rattle.exec_simulation.proofs.PathWords.{as-loop, wired-at, number-low, loop-id, end-id, comp-node}
 use Rattle.exec_initial.specs.PlaceFillers.{fillers, fillerAt}
 use Rattle.exec_initial.specs.PlaceContents.{HoldsBy, Holding}
@@ -132,7 +135,7 @@ module _ {d : Bytes} (Q : Question d) (s : List ℕ) (w : Words) (r : Spans) (S 
 
   -- own: what can come to an inner comprehension is within its bound
   module _ (own : (π : Path) (i p : Program) → Valid (Q .program) π (Pr.inner i p)
-      → mergeBound (endOf i .monoid) (takesOf T i) (Q .bound (pos π + before i)) ≤ wordBound (sortOf (endOf i .monoid)) (formTree fuel (Q .base) (compOf (inside (spotsAt sp π))))) where
+      → mergeBound (endOf i .monoid) (takesOf T i) (Q .bound (pos π + before i)) ≤ wordBound (planDeclared d (Q .base)) (sortOf (endOf i .monoid)) (formTree fuel (Q .base) (compOf (inside (spotsAt sp π))))) where
     module _ (π : Path) (i p : Program) (v : Valid (Q .program) π (Pr.inner i p)) (room : natAbs (asWord (sortOf (endOf i .monoid)) (w .acc (pos π + before i))) ≤ mergeBound (endOf i .monoid) (takesOf T i) (Q .bound (pos π + before i))) where
       abbrev c : ℕ
       c = compOf (inside (spotsAt sp π))
@@ -155,23 +158,24 @@ module _ {d : Bytes} (Q : Question d) (s : List ℕ) (w : Words) (r : Spans) (S 
       nest-says : SaysEnd (monoidBy (nodeAt s c)) s w r o c
       nest-says = subst (SaysAt s w r o) nest-id (S .says o nest-low)
 
-      nest-bound : natAbs (asWord (sortOf (monoidBy (nodeAt s c))) (w .acc o)) ≤ wordBound (sortOf (monoidBy (nodeAt s c))) (formTree fuel s c)
-      nest-bound = subst (λ (m : Monoid). natAbs (asWord (sortOf m) (w .acc o)) ≤ wordBound (sortOf m) (formTree fuel s c)) (sym monoid-is)
-          (subst (λ (t : Form). natAbs (asWord (sortOf (endOf i .monoid)) (w .acc o)) ≤ wordBound (sortOf (endOf i .monoid)) t) (sym (form-same s (Q .base) (S .kept .form) fuel c)) (le-trans room (own π i p v)))
+      nest-bound : natAbs (asWord (sortOf (monoidBy (nodeAt s c))) (w .acc o)) ≤ wordBound (planDeclared d s) (sortOf (monoidBy (nodeAt s c))) (formTree fuel s c)
+      nest-bound = subst (λ (m : Monoid). natAbs (asWord (sortOf m) (w .acc o)) ≤ wordBound (planDeclared d s) (sortOf m) (formTree fuel s c)) (sym monoid-is)
+          (subst (λ (t : Form). natAbs (asWord (sortOf (endOf i .monoid)) (w .acc o)) ≤ wordBound (planDeclared d s) (sortOf (endOf i .monoid)) t) (sym (form-same s (Q .base) (S .kept .form) fuel c))
+          (subst (λ (C : Declared). natAbs (asWord (sortOf (endOf i .monoid)) (w .acc o)) ≤ wordBound C (sortOf (endOf i .monoid)) (formTree fuel (Q .base) c)) (sym (declared-kept Q (S .kept))) (le-trans room (own π i p v))))
 
       -- within 2^62 too
       nest-small : natAbs (asWord (sortOf (monoidBy (nodeAt s c))) (w .acc o)) ≤ numberLimit
       unfolding compAt last
       nest-small = subst (λ (m : Monoid). natAbs (asWord (sortOf m) (w .acc o)) ≤ numberLimit) (sym monoid-is) (le-trans room (Q .fits (inP π i p) i (refl, v)))
 
-      nest-kept : collects (monoidBy (nodeAt s c)) ≡ false → Ag.Kept s c (monoidBy (nodeAt s c)) (formTree fuel s c) (finish (monoidBy (nodeAt s c)) (w .acc o))
+      nest-kept : collects (monoidBy (nodeAt s c)) ≡ false → Ag.Kept d s c (monoidBy (nodeAt s c)) (formTree fuel s c) (finish (monoidBy (nodeAt s c)) (w .acc o))
       nest-kept e =
           let m = monoidBy (nodeAt s c) in
           let z = nest-says .0 e .1 ∙ total-is m s c e in
           record {
             made = nest-says .0 e .0;
             is = sym (finish-word m (w .acc o) (small-fits m (w .acc o) nest-small)) ∙ ap (finishWord m) z;
-            small = subst (λ (x : ℤ). natAbs x ≤ wordBound (sortOf m) (formTree fuel s c)) (sym (finish-reads m (w .acc o))) nest-bound;
+            small = subst (λ (x : ℤ). natAbs x ≤ wordBound (planDeclared d s) (sortOf m) (formTree fuel s c)) (sym (finish-reads m (w .acc o))) nest-bound;
             so-far = subst Total z (kept-total m (w .acc o) nest-small);
           }
 

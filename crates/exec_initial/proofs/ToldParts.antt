@@ -28,6 +28,7 @@ use Rattle.plan_links.specs.SpotWords.{fuel}
 use Rattle.plan_links.proofs.SameNodes.{term-again}
 use Rattle.form_env.specs.Environment.{tablesIn}
 use Rattle.form_env.proofs.SameForm.{node-same, next-same}
+use Rattle.exec_terms.specs.PlanColumns.{planDeclared}
 use Rattle.exec_terms.specs.PartsWalk.{walk}
 use Rattle.exec_terms.proofs.PartsText.{partsIn}
 use Rattle.exec_terms.proofs.HeadParts.{head-parts}
@@ -60,7 +61,7 @@ Tells {d} Q s o limit w π b more =
     let n = length (textInto numberLimit (tablesIn d) (Q .program) w π) in
     walk fuel limit s r (headAt s c) b (pt o (endIn s c)) ≡ pt (puts limit n (said numberLimit r more) o) (min (n + length (said numberLimit r more)) numberLimit)
 
-module _ {d : Bytes} (Q : Question d) (H : Fills (Q .base) [] (Q .spots)) (small : (π : Path) (x : Program) → Valid (Q .program) π x → Smalls (Q .base) (compOf (spotsAt (Q .spots) π)))
+module _ {d : Bytes} (Q : Question d) (H : Fills (Q .base) [] (Q .spots)) (small : (π : Path) (x : Program) → Valid (Q .program) π x → Smalls (planDeclared d (Q .base)) (Q .base) (compOf (spotsAt (Q .spots) π)))
     {s : List ℕ} {o : List ℤ} {limit : ℕ} {w : Words} {r : Spans} (B : Based s 0 0 (Q .spots)) (S : Stands Q s w r) where
   -- at a path, in a comprehension that is written
   module _ (π : Path) (x : Program) (v : Valid (Q .program) π x) (wr : writes (Q .program) π ≡ true) (W : Written limit (Q .lent) o (textInto numberLimit (tablesIn d) (Q .program) w π))

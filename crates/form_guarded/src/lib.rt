@@ -7,6 +7,7 @@ ghost use Rattle.base_syntax.specs.MonoidWord.{monoidOf};
 ghost use Rattle.base_syntax.specs.Numbers.{binOf};
 ghost use Rattle.form_arith.specs.WordSorts.{operateBound};
 ghost use Rattle.form_guarded.specs.GuardedWords.{mergeRoom, OperatePost, MergePost};
+use base_signed::CELL_LIMIT;
 use base_signed::NUMBER_LIMIT;
 use base_signed::magnitude;
 use base_syntax::Monoid;
@@ -25,8 +26,8 @@ fn sum_fits(x: u64, y: u64) -> bool
 fn product_fits(x: u64, y: u64) -> bool
     ensures { λ r. ⌜ r ≡ leb (x * y) (2 ^ 62) ⌝ }
 {
-    if x <= 2147483648 {
-        if y <= 2147483648 {
+    if x <= CELL_LIMIT {
+        if y <= CELL_LIMIT {
             return true;
         }
     }

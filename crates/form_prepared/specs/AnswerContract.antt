@@ -9,7 +9,7 @@ use Rattle.spec_encoding.specs.Record.{Bytes, got}
 use Rattle.spec_encoding.specs.Reader.{readQuestion}
 use Rattle.spec_outcome.specs.Acceptance.{Accepted}
 use Rattle.spec_outcome.specs.Outcome.{written}
-use Rattle.base_scratch.specs.Map.{unusedAt}
+use Rattle.base_scratch.specs.Map.{scratchSize}
 use Rattle.form_prepared.specs.PreparedQuestion.{Prepared}
 use Rattle.spec_outcome.specs.Gives.{Settles}
 use Rattle.form_prepared.specs.declared.Answer.{Answer}
@@ -35,4 +35,4 @@ lengthOf (Length n) = n
 pub record Answers (value : Accepted → Value) (d : Bytes) (s : List ℕ) (o : List ℤ) (s′ : List ℕ) (o′ : List ℤ) (r : Answer) : Type 0 where
   pub is : (l : Bytes) (a : Accepted) → readQuestion l ≡ got (a .question) → Prepared d a s → Settles (written value o a) o (numberOf r) (lengthOf r) o′
   pub long : length s′ ≡ length s
-  pub above : (j : ℕ) → unusedAt ≤ j → getD s′ j 0 ≡ getD s j 0
+  pub above : (j : ℕ) → scratchSize ≤ j → getD s′ j 0 ≡ getD s j 0

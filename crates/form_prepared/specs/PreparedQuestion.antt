@@ -1,14 +1,15 @@
--- An accepted question in scratch, as answering and planning find it: the tables' descriptions, each generator's table in its slot,
--- the words of the normal form, and nothing else below them.
+-- An accepted question in scratch, as answering and planning find it: the tables' descriptions and their columns' checkpoints, each generator's table
+-- in its slot, the words of the normal form, and nothing else below them.
 use mathlib.Core.Path.{_≡_}
 use mathlib.Core.List.{List}
-use Prim.Native.Nat.{ℕ, _+_, _≤_, _<_}
+use Prim.Native.Nat.{ℕ, _≤_, _<_}
 use lib.ListN.{length, getD}
 use Rattle.spec_encoding.specs.Record.{Bytes, got}
 use Rattle.spec_encoding.specs.Data.{readData}
 use Rattle.spec_normal_form.specs.Form.{asForm}
 use Rattle.spec_outcome.specs.Acceptance.{Accepted, judge}
 use Rattle.base_tables.specs.DataReader.{Stored}
+use Rattle.base_checkpoints.specs.Checkpoints.{Checkpointed}
 use Rattle.base_scratch.specs.Map.{formAt, formWords, totalsAt, scratchSize}
 use Rattle.form_words.specs.FormWords.{Fits, Holds, flat}
 use Rattle.form_env.specs.Environment.{slotOf}
@@ -18,7 +19,8 @@ use Rattle.form_env.specs.NamedTables.{Rowless, tableOf, Named}
 pub record Prepared (d : Bytes) (a : Accepted) (s : List ℕ) : Type 0 where
   pub tables : readData d ≡ got (a .tables)
   pub judged : judge (a .tables) (a .question) ≡ got a
-  pub stored : Stored d (a .tables) s
+  pub stored : Stored d s
+  pub checkpointed : Checkpointed d s
   pub fits : Fits (asForm (a .form))
   pub few : length (flat (asForm (a .form))) ≤ formWords
   pub held : Holds s 0 (flat (asForm (a .form)))

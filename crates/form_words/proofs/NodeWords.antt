@@ -18,7 +18,7 @@ use Rattle.base_syntax.specs.declared.Monoid.{Monoid}
 use Rattle.base_signed.proofs.SignedWords.{fits, up, mag-sub}
 use Rattle.base_syntax.specs.declared.Op.{Op}
 use Rattle.base_syntax.specs.declared.Fun.{Fun}
-use Rattle.base_syntax.specs.Numbers.{opAt, funAt, monoidAt}
+use Rattle.base_syntax.specs.Numbers.{opAt, funAt, monoidAt, constantOf}
 use Rattle.form_words.specs.declared.FormNode.{FormNode}
 use Rattle.form_words.specs.declared.FormNode.the-variants.{Number, Truth, Row, Cell, Record, Binary, Negation, Operator, Comprehension, Generator, Condition, Nothing}
 use Rattle.form_words.specs.declared.Leaf.{Leaf}
@@ -26,7 +26,7 @@ use Rattle.form_words.specs.declared.Leaf.the-variants as Le
 use Rattle.form_words.specs.declared.MonoidRead.the-variants as Mr
 use Rattle.form_words.specs.declared.Clause.{Clause}
 use Rattle.form_words.specs.declared.Clause.the-variants as Cl
-use Rattle.form_words.specs.NodeWord.{wordAt, kindOf, belowOf, argOf, pack, next, numberOf, kinds, nodeOf, nodeAt}
+use Rattle.form_words.specs.NodeWord.{wordAt, kindOf, belowOf, argOf, pack, next, kinds, nodeOf, nodeAt}
 use Rattle.base_scratch.specs.Map.{formWords}
 use Rattle.form_words.specs.FormTree.{formBy, clauseOf, clausesBy, headBy, formTree, formsTree, clausesTree, headTree}
 use Rattle.form_words.specs.HeadPlace as Hd
@@ -67,7 +67,7 @@ module _ (s : List ℕ) (i : ℕ) where
     next-cut p = omega (arith, b .0, ap belowOf e)
 
 -- ---- arguments
-distance : (a : ℕ) → pos a -ℤ pos 0x80000000 ≡ numberOf a
+distance : (a : ℕ) → pos a -ℤ pos 0x80000000 ≡ constantOf a
 distance a = go (ltb a 0x80000000)
   where
     go : (t : Bool) → cond t (negsuc (0x80000000 - suc a)) (pos (a - 0x80000000)) ≡ elim t [ true ↦ negsuc (0x7fffffff - a) | false ↦ pos (a - 0x80000000) ]
@@ -78,10 +78,10 @@ module _ {a : ℕ} (p : a < 2 ^ 50) where
   pub number-ok : SFits w64 (toZ w64 a -ℤ pos 0x80000000)
   number-ok = rw (up {x = a} (omega arith)) (fits (omega (arith, mag-sub (pos a) (pos 0x80000000))))
 
-  pub number-is : toZ w64 (ofZ w64 (toZ w64 a -ℤ pos 0x80000000)) ≡ numberOf a
+  pub number-is : toZ w64 (ofZ w64 (toZ w64 a -ℤ pos 0x80000000)) ≡ constantOf a
   number-is = toZ-ofZ number-ok ∙ ap (λ (z : ℤ). z -ℤ pos 0x80000000) (up {x = a} (omega arith)) ∙ distance a
 
-  number-small : natAbs (numberOf a) < 2 ^ 50
+  number-small : natAbs (constantOf a) < 2 ^ 50
   number-small = go (ltb a 0x80000000)
     where
       go : (t : Bool) → natAbs (elim t [ true ↦ negsuc (0x7fffffff - a) | false ↦ pos (a - 0x80000000) ]) < 2 ^ 50
@@ -101,7 +101,7 @@ each-at P (n ∷ l) k (suc i) j e z h = each-at P l k i (suc j) (omega arith) z 
 
 -- what holds of nothing, and of the node of each of the eleven kinds that the word w at a place may have
 pub node-by : (P : FormNode → Type 0) (s : List ℕ) (i : ℕ) {w : ℕ} → w ≡ wordAt s i → P Nothing →
-    (kindOf w ≡ 1 → P (Number (numberOf (argOf w)))) → (kindOf w ≡ 2 → P (Truth (eqb (argOf w) 1))) → (kindOf w ≡ 3 → P (Row (argOf w % 1024))) →
+    (kindOf w ≡ 1 → P (Number (constantOf (argOf w)))) → (kindOf w ≡ 2 → P (Truth (eqb (argOf w) 1))) → (kindOf w ≡ 3 → P (Row (argOf w % 1024))) →
     (kindOf w ≡ 4 → P (Cell (argOf w / 1024 % 1024) (argOf w % 1024))) → (kindOf w ≡ 5 → P (Record (next s i))) →
     (kindOf w ≡ 6 → P (Binary (opAt (argOf w)) (next s (i + 1)))) → (kindOf w ≡ 7 → P Negation) →
     (kindOf w ≡ 8 → P (Comprehension (monoidAt (argOf w % 8)))) → (kindOf w ≡ 9 → P (Generator (argOf w / 1024 % 1024) (argOf w % 1024))) →
@@ -123,7 +123,7 @@ module _ {s : List ℕ} {i w a k : ℕ} (p : i < formWords) (e : w ≡ wordAt s 
   unfolding nodeAt pick
   look-by q h = record { is = rw (lt-leb formWords i p) (h ∙ ap₂ (nodeOf s i) K (A .0) ∙ ap (λ x. nodeOf s i (kindOf x) (argOf x)) e); inside = q }
 
-  pub look-number : {z : ℤ} → k ≡ 1 → z ≡ numberOf (a) → Looks s i (Number z)
+  pub look-number : {z : ℤ} → k ≡ 1 → z ≡ constantOf (a) → Looks s i (Number z)
   unfolding nodeOf
   look-number l q = look-by (rw q (number-small (A .1))) (rw (l, q))
 
@@ -185,7 +185,7 @@ pub leaf-out : {s : List ℕ} {i : ℕ} → formWords ≤ i → LeafAtPost s i L
 leaf-out p = record { is = ap leafOf (look-out p .is) }
 
 module _ {s : List ℕ} {i w a k : ℕ} (p : i < formWords) (e : w ≡ wordAt s i) (A : (a ≡ argOf w) × (a < 2 ^ 50)) (K : k ≡ kindOf w) where
-  pub leaf-number : {z : ℤ} → k ≡ 1 → z ≡ numberOf a → LeafAtPost s i (Le.Number z)
+  pub leaf-number : {z : ℤ} → k ≡ 1 → z ≡ constantOf a → LeafAtPost s i (Le.Number z)
   leaf-number l q = record { is = ap leafOf (look-number p e A K l q .is) }
 
   pub leaf-cell : {c g : ℕ} → k ≡ 4 → (c ≡ a / 1024 % 1024) × (c < 1024) → (g ≡ a % 1024) × (g < 1024) → LeafAtPost s i (Le.Cell c g)

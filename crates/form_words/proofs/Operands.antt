@@ -1,6 +1,6 @@
 -- The operands of an operator, by their places: the form of each, and nothing where there is none.
 use mathlib.Core.Path.{_≡_, refl, sym, ap, subst, _∙_}
-use mathlib.Core.Bool.{Bool, true, false, _&&_, and-eq-true-iff}
+use mathlib.Core.Bool.{Bool, true, false, and-eq-true-iff}
 use mathlib.Core.List.{List}
 use Prim.Native.Nat.{ℕ, zero, suc, _+_, _≤_, _<_}
 use native.Mathlib.Omega.{arith}
@@ -12,7 +12,8 @@ use Rattle.spec_calculus.specs.Value.{Tables, nth}
 use Rattle.spec_calculus.specs.Monoid.{Fold}
 use Rattle.spec_calculus.specs.Meaning.{Env}
 use Rattle.spec_normal_form.specs.Form.{Form, Forms, num, fnil, fcons, value, values}
-use Rattle.spec_normal_form.specs.Bound.{bound, within, withinF}
+use Rattle.spec_normal_form.specs.Bound.{Declared, bound, within, withinF}
+use Rattle.spec_normal_form.proofs.GeneratorTables.{Named, NamedF}
 use Rattle.base_signed.proofs.SignedWords.{by-test}
 use Rattle.base_scratch.specs.Map.{formWords}
 use Rattle.form_words.specs.NodeWord.{next, uptoPlace, branchPlace}
@@ -34,11 +35,17 @@ nth-form F T k fnil ρ = refl
 nth-form F T zero (fcons t ts) ρ = refl
 nth-form F T (suc k) (fcons t ts) ρ = nth-form F T k ts ρ
 
-pub within-nth : (k : ℕ) (ts : Forms) → withinF ts ≡ true → within (formNth k ts) ≡ true
+pub within-nth : (C : Declared) (k : ℕ) (ts : Forms) → withinF C ts ≡ true → within C (formNth k ts) ≡ true
 unfolding within bound formNth
-within-nth k fnil h = refl
-within-nth zero (fcons t ts) h = and-eq-true-iff (within t) (withinF ts) .0 h .0
-within-nth (suc k) (fcons t ts) h = within-nth k ts (and-eq-true-iff (within t) (withinF ts) .0 h .1)
+within-nth C k fnil h = refl
+within-nth C zero (fcons t ts) h = and-eq-true-iff (within C t) (withinF C ts) .0 h .0
+within-nth C (suc k) (fcons t ts) h = within-nth C k ts (and-eq-true-iff (within C t) (withinF C ts) .0 h .1)
+
+pub named-nth : {A : Type 0} (C D : ℕ → A) (k : ℕ) (ts : Forms) → NamedF C D ts → Named C D (formNth k ts)
+unfolding formNth
+named-nth C D k fnil N = tt
+named-nth C D zero (fcons t ts) N = N .0
+named-nth C D (suc k) (fcons t ts) N = named-nth C D k ts (N .1)
 
 -- the place of operand k of those from i on
 abbrev pub skip : List ℕ → ℕ → ℕ → ℕ

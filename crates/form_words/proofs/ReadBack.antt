@@ -11,16 +11,15 @@ use lib.ListN.{length, length-append}
 use lib.IntN.{ℤ, pos, negsuc}
 use lib.Signed.{mag}
 use Rattle.spec_calculus.specs.Lists.{pick}
-use Rattle.spec_calculus.specs.Syntax as Sy
-use Rattle.spec_calculus.specs.Syntax.{list, bag, set, Monoid, of, sum, max, some, all, Bin, plus, minus, times, equal, less, and, or, Fun}
+use Rattle.spec_calculus.specs.Syntax.{Monoid, Bin, Fun}
 use Rattle.spec_normal_form.specs.Form.{Form, Forms, Clauses, num, truth, row, cell, rec, bin, negate, app, comp, fnil, fcons, done, gen, cond}
 use Rattle.spec_normal_form.specs.Size.{nodes, nodesF, nodesC}
 use Rattle.base_syntax.proofs.Numbers.{op-back, fun-back, monoid-back}
-use Rattle.base_syntax.specs.Numbers.{binOf, opArg, opAt, funArg, funAt, monoidArg, monoidAt}
+use Rattle.base_syntax.specs.Numbers.{opArg, opAt, funArg, funAt, monoidArg, monoidAt, constantOf}
 use Rattle.form_words.specs.declared.FormNode.{FormNode}
 use Rattle.form_words.specs.declared.FormNode.the-variants.{Number, Truth, Row, Cell, Record, Binary, Negation, Operator, Comprehension, Generator, Condition}
 use Rattle.form_words.specs.declared.Clause.the-variants as Cl
-use Rattle.form_words.specs.NodeWord.{wordAt, kindOf, belowOf, argOf, pack, next, numberOf, nodeOf, nodeAt}
+use Rattle.form_words.specs.NodeWord.{wordAt, kindOf, belowOf, argOf, pack, next, nodeOf, nodeAt}
 use Rattle.form_words.specs.FormTree.{clauseOf, formTree, formsTree, clausesTree, headTree, left}
 use Rattle.form_words.specs.FormWords.{size, sizeF, sizeC, numberArg, flat, flatF, flatC, Fits, FitsF, FitsC, Holds}
 use Rattle.base_scratch.specs.Map.{formWords}
@@ -99,19 +98,15 @@ module _ (s : List ℕ) where
   holds-second [] b i j e h = subst (λ x. Holds s x b) (omega arith) h
   holds-second (w ∷ a) b i j e h = holds-second a b (i + 1) j (omega arith) (h .1)
 
-  pub holds-both : (a b : List ℕ) (i : ℕ) → Holds s i a → Holds s (i + length a) b → Holds s i (a ++ b)
-  holds-both [] b i h k = subst (λ x. Holds s x b) (omega arith) k
-  holds-both (w ∷ a) b i h k = (h .0, holds-both a b (i + 1) (h .1) (subst (λ x. Holds s x b) (omega arith) k))
-
   -- words that stay as they are
   pub holds-kept : (r : List ℕ) (l : List ℕ) (i : ℕ) → ((j : ℕ) → i ≤ j → j < i + length l → wordAt r j ≡ wordAt s j) → Holds s i l → Holds r i l
   holds-kept r [] i k h = tt
   holds-kept r (w ∷ l) i k h = (k i (omega arith) (omega arith) ∙ h .0, holds-kept r l (i + 1) (λ j p q. k j (omega arith) (omega arith)) (h .1))
 
 -- ---- arguments read back
-number-back : (z : ℤ) → mag z < 2 ^ 31 → numberOf (numberArg z) ≡ z
-number-back (pos n) p = simp (le-ltb (0x80000000 + n) 0x80000000 (omega arith), numberOf) (ap pos (omega arith))
-number-back (negsuc n) p = simp (lt-ltb (0x7fffffff - n) 0x80000000 (omega arith), numberOf) (ap negsuc (omega arith))
+number-back : (z : ℤ) → mag z < 2 ^ 31 → constantOf (numberArg z) ≡ z
+number-back (pos n) p = simp (le-ltb (0x80000000 + n) 0x80000000 (omega arith), constantOf) (ap pos (omega arith))
+number-back (negsuc n) p = simp (lt-ltb (0x7fffffff - n) 0x80000000 (omega arith), constantOf) (ap negsuc (omega arith))
 
 truth-back : (b : Bool) → eqb (pick b 1 0) 1 ≡ b
 unfolding pick

@@ -2,13 +2,12 @@
 -- pre-order: a node's first child is the word behind it. Every word is read as some node, and places are cut at 512, the
 -- end of the words, so reading is total.
 use mathlib.Core.List.{List, [], _∷_}
-use mathlib.Core.Bool.{Bool, true, false}
-use Prim.Native.Nat.{ℕ, _+_, _-_, _*_, _/_, _%_, min}
+use mathlib.Core.Bool.{Bool}
+use Prim.Native.Nat.{ℕ, _+_, _*_, _/_, _%_, min}
 use lib.Dec.{ltb, leb, eqb}
 use lib.ListN.{getD}
-use lib.IntN.{ℤ, pos, negsuc}
 use Rattle.spec_calculus.specs.Lists.{pick}
-use Rattle.base_syntax.specs.Numbers.{opAt, funAt, monoidAt}
+use Rattle.base_syntax.specs.Numbers.{opAt, funAt, monoidAt, constantOf}
 use Rattle.base_scratch.specs.Map.{formAt, formWords}
 use Rattle.form_words.specs.declared.FormNode.{FormNode}
 use Rattle.form_words.specs.declared.FormNode.the-variants.{Number, Truth, Row, Cell, Record, Binary, Negation, Operator, Comprehension, Generator, Condition, Nothing}
@@ -39,16 +38,12 @@ uptoPlace i e = pick (ltb i e) i formWords
 abbrev pub branchPlace : List ℕ → ℕ → ℕ → Bool → ℕ
 branchPlace s i e other = pick other (uptoPlace (next s (next s i)) e) (uptoPlace (next s i) e)
 
--- a number is kept as its distance from -2^31
-abbrev pub numberOf : ℕ → ℤ
-numberOf a = elim (ltb a 0x80000000) [ true ↦ negsuc (0x7fffffff - a) | false ↦ pos (a - 0x80000000) ]
-
 -- The node with argument a at place i, for each kind from 0 on. The places in it are behind the record, of the second
 -- operand, behind the condition, behind the operator. A cell is column and generator, a generator its number and its table, all below 1,024. The
 -- bits of rows, cells, comprehensions, generators and conditions that are not read here are free: a plan is kept there.
 abbrev pub kinds : List ℕ → ℕ → ℕ → List FormNode
 kinds s i a =
-    Nothing ∷ Number (numberOf a) ∷ Truth (eqb a 1) ∷ Row (a % 1024) ∷ Cell (a / 1024 % 1024) (a % 1024) ∷ Record (next s i)
+    Nothing ∷ Number (constantOf a) ∷ Truth (eqb a 1) ∷ Row (a % 1024) ∷ Cell (a / 1024 % 1024) (a % 1024) ∷ Record (next s i)
     ∷ Binary (opAt a) (next s (i + 1)) ∷ Negation ∷ Comprehension (monoidAt (a % 8)) ∷ Generator (a / 1024 % 1024) (a % 1024)
     ∷ Condition (next s i) ∷ Operator (funAt a) (next s i) ∷ []
 

@@ -3,7 +3,8 @@
 ghost use mathlib.Core.Path.{_≡_};
 ghost use Prim.Native.Nat.{_+_, _%_, _<_, _^_};
 ghost use lib.ListN.{set};
-ghost use Rattle.form_words.specs.NodeWord.{wordAt, kindOf, belowOf, argOf, pack, next, uptoPlace, branchPlace, numberOf};
+ghost use Rattle.form_words.specs.NodeWord.{wordAt, kindOf, belowOf, argOf, pack, next, uptoPlace, branchPlace};
+ghost use Rattle.base_syntax.specs.Numbers.{constantOf};
 ghost use Rattle.base_scratch.specs.Map.{formAt};
 ghost use Rattle.form_words.specs.Look.{Looks, LeafAtPost, MonoidOfPost, LooksC};
 use base_scratch::FORM;
@@ -150,7 +151,7 @@ pub fn branch(s: &[u64], i: usize, e: usize, other: bool) -> usize
 
 pub fn number(a: u64) -> i64
     requires { ⌜ a < 2 ^ 50 ⌝ }
-    ensures { λ r. ⌜ r ≡ numberOf a ⌝ }
+    ensures { λ r. ⌜ r ≡ constantOf a ⌝ }
 {
     a as i64 - OFFSET
 }

@@ -15,7 +15,9 @@ use Rattle.spec_calculus.specs.Lists.{pick}
 use Rattle.spec_calculus.specs.Syntax.{of, sum, max, some, all, Bin, plus, minus, times, equal, less, and, or, choice}
 use Rattle.spec_calculus.specs.Syntax as Sy
 use Rattle.spec_normal_form.specs.Form.{Form, Forms, Clauses, app, fnil, fcons, NormalForm, asForm}
-use Rattle.spec_normal_form.specs.Bound.{ownGens, binBound, larger, appBound, compBound, bound, bounds, small, within, withinF, withinC, numbersFit}
+use Rattle.spec_normal_form.specs.Bound.{ownGens, binBound, larger, appBound, compBound, Declared, bound, bounds, small, within, withinF, withinC, numbersFit}
+use Rattle.spec_normal_form.proofs.GeneratorNumbers.{Numbered}
+use Rattle.spec_normal_form.proofs.GeneratorTables.{Named, numbers-fit-as}
 use Rattle.base_signed.proofs.SignedWords.{by-test}
 use Rattle.base_syntax.specs.declared.Monoid.{Monoid}
 use Rattle.base_syntax.specs.MonoidWord.{monoidOf}
@@ -142,120 +144,120 @@ module _ {m : Sy.Monoid} {n a k b : ℕ} (I : Repeating m n a k b) where
   repeating-last h = ap (λ (x : ℕ). perGenerators m x b) {x = 0} {y = k} (omega arith) ∙ I .is
 
 -- ---- the size of a form, by its node
--- a number's own bound is looked at besides what is in it
-checked-size : {b : ℕ} {u : Bool} {r : Size} (t : Form) → CheckedPost b u r → b ≡ cut (bound t) → within t ≡ (small t && u) → SizeOf t r
-checked-size {u = u} t C e w = record {
+-- a number's own bound D is looked at besides what is in it
+checked-size : {D : Declared} {b : ℕ} {u : Bool} {r : Size} (t : Form) → CheckedPost b u r → b ≡ cut (bound D t) → within D t ≡ (small D t && u) → SizeOf D t r
+checked-size {D} {u = u} t C e w = record {
   bound-is = C .bound-is ∙ e;
-  fits-is = C .fits-is ∙ ap (λ x. leb x (2 ^ 62) && u) e ∙ ap (λ x. x && u) (small-cut (bound t)) ∙ sym w;
+  fits-is = C .fits-is ∙ ap (λ x. leb x (2 ^ 62) && u) e ∙ ap (λ x. x && u) (small-cut (bound D t)) ∙ sym w;
 }
 
-sized : {s : List ℕ} {i : ℕ} {n : FormNode} {r : Size} → Looks s i n → ((f : ℕ) → left i < suc f → SizeOf (formNode f s i n) r) → FormSizePost s i r
-sized {r = r} H h = record { is = elim [ zero ↦ λ l. absurd (omega arith) | suc f ↦ λ l. subst (λ (t : Form). SizeOf t r) (sym (form-is H f)) (h f l) ] }
+sized : {D : Declared} {s : List ℕ} {i : ℕ} {n : FormNode} {r : Size} → Looks s i n → ((f : ℕ) → left i < suc f → SizeOf D (formNode f s i n) r) → FormSizePost D s i r
+sized {D} {r = r} H h = record { is = elim [ zero ↦ λ l. absurd (omega arith) | suc f ↦ λ l. subst (λ (t : Form). SizeOf D t r) (sym (form-is H f)) (h f l) ] }
 
-sizedC : {s : List ℕ} {i : ℕ} {n : Clause} {m : Monoid} {r : Size} → LooksC s i n → ((f : ℕ) → left i + 1 < suc f → SizeOfC (monoidOf m) (clausesNode f s i n) (headNode f s i n) r) → ClausesSizePost s i m r
-sizedC {s} {i} {n} {m} {r} H h = record {
+sizedC : {D : Declared} {s : List ℕ} {i : ℕ} {n : Clause} {m : Monoid} {r : Size} → LooksC s i n → ((f : ℕ) → left i + 1 < suc f → SizeOfC D (monoidOf m) (clausesNode f s i n) (headNode f s i n) r) → ClausesSizePost D s i m r
+sizedC {D} {s} {i} {n} {m} {r} H h = record {
   is = elim [
     | zero ↦ λ l. absurd (omega arith)
     | suc f ↦ λ l.
-        subst (λ (q : Clauses). SizeOfC (monoidOf m) q (headTree (suc f) s i) r) (sym (clauses-is H f)) (subst (λ (t : Form). SizeOfC (monoidOf m) (clausesNode f s i n) t r) (sym (head-is H f)) (h f l))
+        subst (λ (q : Clauses). SizeOfC D (monoidOf m) q (headTree (suc f) s i) r) (sym (clauses-is H f)) (subst (λ (t : Form). SizeOfC D (monoidOf m) (clausesNode f s i n) t r) (sym (head-is H f)) (h f l))
   ];
 }
 
-module _ {s : List ℕ} {i : ℕ} {r : Size} where
-  pub size-number : {z z′ : ℤ} {b : ℕ} → Looks s i (Number z) → z′ ≡ z → b ≡ natAbs z′ → CheckedPost b true r → FormSizePost s i r
+module _ {D : Declared} {s : List ℕ} {i : ℕ} {r : Size} where
+  pub size-number : {z z′ : ℤ} {b : ℕ} → Looks s i (Number z) → z′ ≡ z → b ≡ natAbs z′ → CheckedPost b true r → FormSizePost D s i r
   unfolding bound within
   size-number {z} H e q C = sized H (λ f l. checked-size (formNode f s i (Number z)) C (q ∙ ap natAbs e ∙ omega (arith, H .inside)) (sym (and-true (leb (natAbs z) (2 ^ 62)))))
 
   -- what is no number, and holds none
   module _ (U : UnboundedPost true r) where
-    pub size-truth : {b : Bool} → Looks s i (Truth b) → FormSizePost s i r
+    pub size-truth : {b : Bool} → Looks s i (Truth b) → FormSizePost D s i r
     unfolding bound within
     size-truth H = sized H (λ f l. record { bound-is = U .bound-is; fits-is = U .fits-is })
 
-    pub size-row : {g : ℕ} → Looks s i (Row g) → FormSizePost s i r
+    pub size-row : {g : ℕ} → Looks s i (Row g) → FormSizePost D s i r
     unfolding bound within
     size-row H = sized H (λ f l. record { bound-is = U .bound-is; fits-is = U .fits-is })
 
-    pub size-generator : {g k : ℕ} → Looks s i (Generator g k) → FormSizePost s i r
+    pub size-generator : {g k : ℕ} → Looks s i (Generator g k) → FormSizePost D s i r
     unfolding bound within
     size-generator H = sized H (λ f l. record { bound-is = U .bound-is; fits-is = U .fits-is })
 
-    pub size-condition : {j : ℕ} → Looks s i (Condition j) → FormSizePost s i r
+    pub size-condition : {j : ℕ} → Looks s i (Condition j) → FormSizePost D s i r
     unfolding bound within
     size-condition H = sized H (λ f l. record { bound-is = U .bound-is; fits-is = U .fits-is })
 
-    pub size-nothing : Looks s i Nothing → FormSizePost s i r
+    pub size-nothing : Looks s i Nothing → FormSizePost D s i r
     unfolding bound within
     size-nothing H = sized H (λ f l. record { bound-is = U .bound-is; fits-is = U .fits-is })
 
-  pub size-cell : {c g : ℕ} → Looks s i (Cell c g) → CheckedPost (2 ^ 31) true r → FormSizePost s i r
+  pub size-cell : {c g b : ℕ} → Looks s i (Cell c g) → b ≡ D g c → b < 2 ^ 32 → CheckedPost b true r → FormSizePost D s i r
   unfolding bound within
-  size-cell {c} {g} H C = sized H (λ f l. checked-size (formNode f s i (Cell c g)) C (omega arith) refl)
+  size-cell {c} {g} H e p C = sized H (λ f l. checked-size (formNode f s i (Cell c g)) C (omega (arith, e, p)) (sym (and-true (leb (D g c) (2 ^ 62)))))
 
-  pub size-record : {e : ℕ} {w : Bool} → Looks s i (Record e) → RecordFitsPost s (i + 1) e w → UnboundedPost w r → FormSizePost s i r
+  pub size-record : {e : ℕ} {w : Bool} → Looks s i (Record e) → RecordFitsPost D s (i + 1) e w → UnboundedPost w r → FormSizePost D s i r
   unfolding bound within
   size-record H W U = sized H (λ f l. record { bound-is = U .bound-is; fits-is = U .fits-is ∙ W .is f (omega (arith, H .inside .0, H .inside .1)) })
 
-  pub size-binary : {o : Op} {j b : ℕ} {u : Bool} {x y : Size} → Looks s i (Binary o j) → FormSizePost s (i + 1) x → FormSizePost s j y →
-      b ≡ cut (binBound (binOf o) (x .bound) (y .bound)) → u ≡ (x .fits && y .fits) → CheckedPost b u r → FormSizePost s i r
+  pub size-binary : {o : Op} {j b : ℕ} {u : Bool} {x y : Size} → Looks s i (Binary o j) → FormSizePost D s (i + 1) x → FormSizePost D s j y →
+      b ≡ cut (binBound (binOf o) (x .bound) (y .bound)) → u ≡ (x .fits && y .fits) → CheckedPost b u r → FormSizePost D s i r
   unfolding bound within
   size-binary {o} {j} H X Y p q C = sized H (λ f l.
       let A = X .is f (omega (arith, H .inside .0, H .inside .1)) in
       let B = Y .is f (omega (arith, H .inside .0, H .inside .1)) in
       checked-size (formNode f s i (Binary o j)) C
-      (p ∙ ap₂ (λ a b. cut (binBound (binOf o) a b)) (A .bound-is) (B .bound-is) ∙ cut-bin (binOf o) (bound (formTree f s (i + 1))) (bound (formTree f s j)))
-      (ap (λ v. small (formNode f s i (Binary o j)) && v) (sym (q ∙ ap₂ _&&_ (A .fits-is) (B .fits-is)))))
+      (p ∙ ap₂ (λ a b. cut (binBound (binOf o) a b)) (A .bound-is) (B .bound-is) ∙ cut-bin (binOf o) (bound D (formTree f s (i + 1))) (bound D (formTree f s j)))
+      (ap (λ v. small D (formNode f s i (Binary o j)) && v) (sym (q ∙ ap₂ _&&_ (A .fits-is) (B .fits-is)))))
 
-  pub size-negation : {x : Size} → Looks s i Negation → FormSizePost s (i + 1) x → UnboundedPost (x .fits) r → FormSizePost s i r
+  pub size-negation : {x : Size} → Looks s i Negation → FormSizePost D s (i + 1) x → UnboundedPost (x .fits) r → FormSizePost D s i r
   unfolding bound within
   size-negation H X U = sized H (λ f l. record { bound-is = U .bound-is; fits-is = U .fits-is ∙ X .is f (omega (arith, H .inside)) .fits-is })
 
-  pub size-comprehension : {m : Monoid} {x : Size} → Looks s i (Comprehension m) → ClausesSizePost s (i + 1) m x → CheckedPost (x .bound) (x .fits) r → FormSizePost s i r
+  pub size-comprehension : {m : Monoid} {x : Size} → Looks s i (Comprehension m) → ClausesSizePost D s (i + 1) m x → CheckedPost (x .bound) (x .fits) r → FormSizePost D s i r
   unfolding bound within
   size-comprehension {m} H X C = sized H (λ f l.
       let A = X .is f (omega (arith, H .inside)) in
-      checked-size (formNode f s i (Comprehension m)) C (A .bound-is) (ap (λ v. small (formNode f s i (Comprehension m)) && v) (sym (A .fits-is))))
+      checked-size (formNode f s i (Comprehension m)) C (A .bound-is) (ap (λ v. small D (formNode f s i (Comprehension m)) && v) (sym (A .fits-is))))
 
-  pub size-operator : {o : Fun} {e : ℕ} → Looks s i (Operator o e) → OperatorSizePost s (i + 1) e o r → FormSizePost s i r
+  pub size-operator : {o : Fun} {e : ℕ} → Looks s i (Operator o e) → OperatorSizePost D s (i + 1) e o r → FormSizePost D s i r
   size-operator H O = sized H (λ f l. O .is f (omega (arith, H .inside .0, H .inside .1)))
 
   -- clauses
   module _ {m : Monoid} where
-    clauses-generator : {g k : ℕ} {x : Size} → LooksC s i (Cl.Generator g k) → ClausesSizePost s (i + 1) m x →
-        r .bound ≡ perGenerator (monoidOf m) (x .bound) → r .fits ≡ x .fits → ClausesSizePost s i m r
+    clauses-generator : {g k : ℕ} {x : Size} → LooksC s i (Cl.Generator g k) → ClausesSizePost D s (i + 1) m x →
+        r .bound ≡ perGenerator (monoidOf m) (x .bound) → r .fits ≡ x .fits → ClausesSizePost D s i m r
     unfolding ownGens within
     clauses-generator H X p q = sizedC H (λ f l.
         let A = X .is f (omega (arith, H .inside .0)) in
         record {
-          bound-is = p ∙ ap (perGenerator (monoidOf m)) (A .bound-is) ∙ generator-bound (monoidOf m) (ownGens (clausesTree f s (i + 1))) (bound (headTree f s (i + 1)));
+          bound-is = p ∙ ap (perGenerator (monoidOf m)) (A .bound-is) ∙ generator-bound (monoidOf m) (ownGens (clausesTree f s (i + 1))) (bound D (headTree f s (i + 1)));
           fits-is = q ∙ A .fits-is;
         })
 
-    clauses-condition : {j : ℕ} {t x : Size} → LooksC s i (Cl.Condition j) → FormSizePost s (i + 1) t → ClausesSizePost s j m x →
-        r .bound ≡ x .bound → r .fits ≡ (t .fits && x .fits) → ClausesSizePost s i m r
+    clauses-condition : {j : ℕ} {t x : Size} → LooksC s i (Cl.Condition j) → FormSizePost D s (i + 1) t → ClausesSizePost D s j m x →
+        r .bound ≡ x .bound → r .fits ≡ (t .fits && x .fits) → ClausesSizePost D s i m r
     unfolding ownGens within
     clauses-condition {j} H T X p q = sizedC H (λ f l.
         let A = X .is f (omega (arith, H .inside .0, H .inside .1)) in
         let B = T .is f (omega (arith, H .inside .0, H .inside .1)) in
         record {
           bound-is = p ∙ A .bound-is;
-          fits-is = q ∙ ap₂ _&&_ (B .fits-is) (A .fits-is) ∙ sym (and-assoc (within (formTree f s (i + 1))) (withinC (clausesTree f s j)) (within (headTree f s j)));
+          fits-is = q ∙ ap₂ _&&_ (B .fits-is) (A .fits-is) ∙ sym (and-assoc (within D (formTree f s (i + 1))) (withinC D (clausesTree f s j)) (within D (headTree f s j)));
         })
 
-    clauses-head : {x : Size} → LooksC s i Cl.Head → FormSizePost s i x → r .bound ≡ perHead (monoidOf m) (x .bound) → r .fits ≡ x .fits → ClausesSizePost s i m r
+    clauses-head : {x : Size} → LooksC s i Cl.Head → FormSizePost D s i x → r .bound ≡ perHead (monoidOf m) (x .bound) → r .fits ≡ x .fits → ClausesSizePost D s i m r
     unfolding ownGens within
     clauses-head H X p q = sizedC H (λ f l.
         let A = X .is f (omega arith) in
-        record { bound-is = p ∙ ap (perHead (monoidOf m)) (A .bound-is) ∙ head-bound (monoidOf m) (bound (formTree f s i)); fits-is = q ∙ A .fits-is })
+        record { bound-is = p ∙ ap (perHead (monoidOf m)) (A .bound-is) ∙ head-bound (monoidOf m) (bound D (formTree f s i)); fits-is = q ∙ A .fits-is })
 
 -- at the clause at j, behind n generators and conditions of which t says whether the numbers in them fit: what the clauses from
 -- there on come to says what those from i on come to
-pub record Sizing (s : List ℕ) (i : ℕ) (m : Monoid) (j n : ℕ) (t : Bool) : Type 0 where
+pub record Sizing (D : Declared) (s : List ℕ) (i : ℕ) (m : Monoid) (j n : ℕ) (t : Bool) : Type 0 where
   pub low : left j ≤ left i
   pub few : n ≤ j
-  pub back : (r a : Size) → ClausesSizePost s j m a → r .bound ≡ perGenerators (monoidOf m) n (a .bound) → r .fits ≡ (t && a .fits) → ClausesSizePost s i m r
+  pub back : (r a : Size) → ClausesSizePost D s j m a → r .bound ≡ perGenerators (monoidOf m) n (a .bound) → r .fits ≡ (t && a .fits) → ClausesSizePost D s i m r
 
-pub sizing-first : {s : List ℕ} {i : ℕ} {m : Monoid} → Sizing s i m i 0 true
+pub sizing-first : {D : Declared} {s : List ℕ} {i : ℕ} {m : Monoid} → Sizing D s i m i 0 true
 unfolding perGenerators
 sizing-first = record {
   low = omega arith;
@@ -263,57 +265,57 @@ sizing-first = record {
   back = λ r a C p q. record { is = λ f l. record { bound-is = p ∙ C .is f l .bound-is; fits-is = q ∙ C .is f l .fits-is } };
 }
 
-module _ {s : List ℕ} {i : ℕ} {m : Monoid} {j n : ℕ} {t : Bool} (I : Sizing s i m j n t) where
-  pub sizing-generator : {g k : ℕ} → LooksC s j (Cl.Generator g k) → Sizing s i m (j + 1) (n + 1) t
+module _ {D : Declared} {s : List ℕ} {i : ℕ} {m : Monoid} {j n : ℕ} {t : Bool} (I : Sizing D s i m j n t) where
+  pub sizing-generator : {g k : ℕ} → LooksC s j (Cl.Generator g k) → Sizing D s i m (j + 1) (n + 1) t
   sizing-generator H = record {
     low = omega (arith, I .low);
     few = omega (arith, I .few);
     back = λ r a C p q. I .back r (record { bound = perGenerator (monoidOf m) (a .bound); fits = a .fits }) (clauses-generator H C refl refl) (p ∙ generators-more (monoidOf m) (n + 1) n (a .bound) (omega arith)) q;
   }
 
-  pub sizing-condition : {e : ℕ} {x : Size} {u : Bool} → LooksC s j (Cl.Condition e) → FormSizePost s (j + 1) x → u ≡ (t && x .fits) → Sizing s i m e n u
+  pub sizing-condition : {e : ℕ} {x : Size} {u : Bool} → LooksC s j (Cl.Condition e) → FormSizePost D s (j + 1) x → u ≡ (t && x .fits) → Sizing D s i m e n u
   sizing-condition {x = x} H X w = record {
     low = omega (arith, I .low, H .inside .0);
     few = omega (arith, I .few, H .inside .0);
     back = λ r a C p q. I .back r (record { bound = a .bound; fits = x .fits && a .fits }) (clauses-condition H X C refl refl) p (q ∙ ap (λ y. y && a .fits) w ∙ and-assoc t (x .fits) (a .fits));
   }
 
-  pub sizing-head : {x r : Size} {b : ℕ} → LooksC s j Cl.Head → FormSizePost s j x → b ≡ perHead (monoidOf m) (x .bound) → r .bound ≡ perGenerators (monoidOf m) n b → r .fits ≡ (t && x .fits) →
-      ClausesSizePost s i m r
+  pub sizing-head : {x r : Size} {b : ℕ} → LooksC s j Cl.Head → FormSizePost D s j x → b ≡ perHead (monoidOf m) (x .bound) → r .bound ≡ perGenerators (monoidOf m) n b → r .fits ≡ (t && x .fits) →
+      ClausesSizePost D s i m r
   sizing-head {x} {r} {b} H X p q w = I .back r (record { bound = b; fits = x .fits }) (clauses-head H X p refl) q w
 
 -- ---- fields of a record
-fields-end : {s : List ℕ} {i e : ℕ} → e ≤ i → RecordFitsPost s i e true
+fields-end : {D : Declared} {s : List ℕ} {i e : ℕ} → e ≤ i → RecordFitsPost D s i e true
 unfolding within
-fields-end {s} {i} {e} p = record { is = elim [ zero ↦ λ l. absurd (omega arith) | suc f ↦ λ l. sym (ap withinF (forms-end f s i e p)) ] }
+fields-end {D} {s} {i} {e} p = record { is = elim [ zero ↦ λ l. absurd (omega arith) | suc f ↦ λ l. sym (ap (withinF D) (forms-end f s i e p)) ] }
 
-fields-more : {s : List ℕ} {i e n : ℕ} {a : Size} {b r : Bool} → i < e → e ≤ formWords → FormSizePost s i a → n ≡ next s i → RecordFitsPost s n e b → r ≡ (a .fits && b) → RecordFitsPost s i e r
+fields-more : {D : Declared} {s : List ℕ} {i e n : ℕ} {a : Size} {b r : Bool} → i < e → e ≤ formWords → FormSizePost D s i a → n ≡ next s i → RecordFitsPost D s n e b → r ≡ (a .fits && b) → RecordFitsPost D s i e r
 unfolding within
-fields-more {s} {i} {e} {n} p t A q B w = record {
+fields-more {D} {s} {i} {e} {n} p t A q B w = record {
   is = elim [
     | zero ↦ λ l. absurd (omega arith)
     | suc f ↦ λ l.
-        w ∙ ap₂ _&&_ (A .is f (omega arith) .fits-is) (B .is f (omega (arith, q, next-past s i (omega arith))) ∙ ap (λ x. withinF (formsTree f s x e)) q)
-        ∙ sym (ap withinF (forms-more f s i e p))
+        w ∙ ap₂ _&&_ (A .is f (omega arith) .fits-is) (B .is f (omega (arith, q, next-past s i (omega arith))) ∙ ap (λ x. withinF D (formsTree f s x e)) q)
+        ∙ sym (ap (withinF D) (forms-more f s i e p))
   ];
 }
 
 -- at the field at j, behind fields of which t says whether the numbers in them fit
-pub record Fitting (s : List ℕ) (i e j : ℕ) (t : Bool) : Type 0 where
+pub record Fitting (D : Declared) (s : List ℕ) (i e j : ℕ) (t : Bool) : Type 0 where
   pub low : left j ≤ left i
-  pub back : (r b : Bool) → RecordFitsPost s j e b → r ≡ (t && b) → RecordFitsPost s i e r
+  pub back : (r b : Bool) → RecordFitsPost D s j e b → r ≡ (t && b) → RecordFitsPost D s i e r
 
-pub fitting-first : {s : List ℕ} {i e : ℕ} → Fitting s i e i true
+pub fitting-first : {D : Declared} {s : List ℕ} {i e : ℕ} → Fitting D s i e i true
 fitting-first = record { low = omega arith; back = λ r b B q. record { is = λ f l. q ∙ B .is f l } }
 
-module _ {s : List ℕ} {i e j : ℕ} {t : Bool} (I : Fitting s i e j t) where
-  pub fitting-again : {n : ℕ} {a : Size} {u : Bool} → j < e → e ≤ formWords → FormSizePost s j a → u ≡ (t && a .fits) → n ≡ next s j → Fitting s i e n u
+module _ {D : Declared} {s : List ℕ} {i e j : ℕ} {t : Bool} (I : Fitting D s i e j t) where
+  pub fitting-again : {n : ℕ} {a : Size} {u : Bool} → j < e → e ≤ formWords → FormSizePost D s j a → u ≡ (t && a .fits) → n ≡ next s j → Fitting D s i e n u
   fitting-again {a = a} p h A w q = record {
     low = omega (arith, I .low, q, next-past s j (omega arith));
     back = λ r b B y. I .back r (a .fits && b) (fields-more p h A q B refl) (y ∙ ap (λ z. z && b) w ∙ and-assoc t (a .fits) b);
   }
 
-  pub fitting-last : e ≤ j → RecordFitsPost s i e t
+  pub fitting-last : e ≤ j → RecordFitsPost D s i e t
   fitting-last h = I .back t true (fields-end h) (sym (and-true t))
 
 -- ---- the terms of an operator
@@ -321,20 +323,20 @@ rest : Forms → Forms
 rest fnil = fnil
 rest (fcons t ts) = ts
 
-first-bound : (ts : Forms) (r : Size) → FirstOf ts r → r .bound ≡ cut (getD (bounds ts) 0 0)
+first-bound : (D : Declared) (ts : Forms) (r : Size) → FirstOf D ts r → r .bound ≡ cut (getD (bounds D ts) 0 0)
 unfolding bounds
-first-bound fnil r h = h .0
-first-bound (fcons t ts) r h = h .bound-is
+first-bound D fnil r h = h .0
+first-bound D (fcons t ts) r h = h .bound-is
 
-later-bound : (ts : Forms) (n : ℕ) → getD (bounds (rest ts)) n 0 ≡ getD (bounds ts) (suc n) 0
+later-bound : (D : Declared) (ts : Forms) (n : ℕ) → getD (bounds D (rest ts)) n 0 ≡ getD (bounds D ts) (suc n) 0
 unfolding bounds rest
-later-bound fnil n = refl
-later-bound (fcons t ts) n = refl
+later-bound D fnil n = refl
+later-bound D (fcons t ts) n = refl
 
-first-within : (ts : Forms) (r : Size) → FirstOf ts r → (r .fits && withinF (rest ts)) ≡ withinF ts
+first-within : (D : Declared) (ts : Forms) (r : Size) → FirstOf D ts r → (r .fits && withinF D (rest ts)) ≡ withinF D ts
 unfolding within rest
-first-within fnil r h = ap (λ b. b && true) (h .1)
-first-within (fcons t ts) r h = ap (λ b. b && withinF ts) (h .fits-is)
+first-within D fnil r h = ap (λ b. b && true) (h .1)
+first-within D (fcons t ts) r h = ap (λ b. b && withinF D ts) (h .fits-is)
 
 no-forms : (f : ℕ) (s : List ℕ) (i e : ℕ) → e ≤ i → formsTree f s i e ≡ fnil
 unfolding formTree
@@ -358,16 +360,16 @@ rest-tree f s i e h = by-test (leb e i)
     (λ p. let l = leb-true e i p in ap rest (forms-end f s i e l) ∙ sym (no-forms f s (next s i) e (no-behind s i e h l)))
     (λ p. ap rest (forms-more f s i e (leb-false e i p)))
 
-pub term-none : {s : List ℕ} {i e : ℕ} {r : Size} → e ≤ i → UnboundedPost true r → TermSizePost s i e r
-term-none {s} {i} {e} {r} h U = record { is = λ f l. subst (λ ts. FirstOf ts r) (sym (no-forms f s i e h)) (U .bound-is, U .fits-is) }
+pub term-none : {D : Declared} {s : List ℕ} {i e : ℕ} {r : Size} → e ≤ i → UnboundedPost true r → TermSizePost D s i e r
+term-none {D} {s} {i} {e} {r} h U = record { is = λ f l. subst (λ ts. FirstOf D ts r) (sym (no-forms f s i e h)) (U .bound-is, U .fits-is) }
 
-pub term-some : {s : List ℕ} {i e : ℕ} {r : Size} → i < e → FormSizePost s i r → TermSizePost s i e r
-term-some {s} {i} {e} {r} h A = record {
-  is = elim [ zero ↦ λ l. absurd (omega arith) | suc f ↦ λ l. subst (λ ts. FirstOf ts r) (sym (forms-more f s i e h)) (A .is f (omega arith)) ];
+pub term-some : {D : Declared} {s : List ℕ} {i e : ℕ} {r : Size} → i < e → FormSizePost D s i r → TermSizePost D s i e r
+term-some {D} {s} {i} {e} {r} h A = record {
+  is = elim [ zero ↦ λ l. absurd (omega arith) | suc f ↦ λ l. subst (λ ts. FirstOf D ts r) (sym (forms-more f s i e h)) (A .is f (omega arith)) ];
 }
 
-module _ (o : Fun) {s : List ℕ} {i e j k n w : ℕ} {a b c x : Size} {r t u v : Bool} (h : e ≤ formWords) (A : TermSizePost s i e a) (pj : j ≡ next s i) (B : TermSizePost s j e b) (pk : k ≡ next s j)
-    (C : TermSizePost s k e c) (pn : n ≡ next s k) (R : RecordFitsPost s n e r) (pw : w ≡ appBound (funOf o) (a .bound ∷ b .bound ∷ c .bound ∷ [])) (pt : t ≡ (c .fits && r)) (pu : u ≡ (b .fits && t))
+module _ (o : Fun) {D : Declared} {s : List ℕ} {i e j k n w : ℕ} {a b c x : Size} {r t u v : Bool} (h : e ≤ formWords) (A : TermSizePost D s i e a) (pj : j ≡ next s i) (B : TermSizePost D s j e b) (pk : k ≡ next s j)
+    (C : TermSizePost D s k e c) (pn : n ≡ next s k) (R : RecordFitsPost D s n e r) (pw : w ≡ appBound (funOf o) (a .bound ∷ b .bound ∷ c .bound ∷ [])) (pt : t ≡ (c .fits && r)) (pu : u ≡ (b .fits && t))
     (pv : v ≡ (a .fits && u)) (X : CheckedPost w v x) where
   -- the terms from the first, the second, the third on, and those behind it
   module _ (g : ℕ) (lj : left j + 1 < suc (suc g)) (li : left i + 1 < suc (suc (suc g))) (lk : left k + 1 < suc g) (ln : left n + 1 < g) where
@@ -383,30 +385,30 @@ module _ (o : Fun) {s : List ℕ} {i e j k n w : ℕ} {a b c x : Size} {r t u v 
     behind : rest (rest (rest given)) ≡ formsTree g s n e
     behind = ap rest third ∙ rest-tree g s k e h ∙ ap (λ p. formsTree g s p e) (sym pn)
 
-    at-second : FirstOf (rest given) b
-    at-second = subst (λ ts. FirstOf ts b) (sym second) (B .is (suc (suc g)) lj)
+    at-second : FirstOf D (rest given) b
+    at-second = subst (λ ts. FirstOf D ts b) (sym second) (B .is (suc (suc g)) lj)
 
-    at-third : FirstOf (rest (rest given)) c
-    at-third = subst (λ ts. FirstOf ts c) (sym third) (C .is (suc g) lk)
+    at-third : FirstOf D (rest (rest given)) c
+    at-third = subst (λ ts. FirstOf D ts c) (sym third) (C .is (suc g) lk)
 
-    three-bounds : appBound (funOf o) (a .bound ∷ b .bound ∷ c .bound ∷ []) ≡ cut (appBound (funOf o) (bounds given))
+    three-bounds : appBound (funOf o) (a .bound ∷ b .bound ∷ c .bound ∷ []) ≡ cut (appBound (funOf o) (bounds D given))
     three-bounds =
-        rw (first-bound given a (A .is (suc (suc (suc g))) li), first-bound (rest given) b at-second ∙ ap cut (later-bound given 0), first-bound (rest (rest given)) c at-third ∙ ap cut (later-bound (rest given) 0 ∙ later-bound given 1))
-        (cut-app (funOf o) (bounds given))
+        rw (first-bound D given a (A .is (suc (suc (suc g))) li), first-bound D (rest given) b at-second ∙ ap cut (later-bound D given 0), first-bound D (rest (rest given)) c at-third ∙ ap cut (later-bound D (rest given) 0 ∙ later-bound D given 1))
+        (cut-app (funOf o) (bounds D given))
 
-    all-within : v ≡ withinF given
+    all-within : v ≡ withinF D given
     all-within =
-        pv ∙ ap (λ y. a .fits && y) (pu ∙ ap (λ y. b .fits && y) (pt ∙ ap (λ y. c .fits && y) (R .is g ln ∙ sym (ap withinF behind)) ∙ first-within (rest (rest given)) c at-third) ∙ first-within (rest given) b at-second)
-        ∙ first-within given a (A .is (suc (suc (suc g))) li)
+        pv ∙ ap (λ y. a .fits && y) (pu ∙ ap (λ y. b .fits && y) (pt ∙ ap (λ y. c .fits && y) (R .is g ln ∙ sym (ap (withinF D) behind)) ∙ first-within D (rest (rest given)) c at-third) ∙ first-within D (rest given) b at-second)
+        ∙ first-within D given a (A .is (suc (suc (suc g))) li)
 
-    three-terms : SizeOf (app (funOf o) given) x
+    three-terms : SizeOf D (app (funOf o) given) x
     unfolding bound within
-    three-terms = checked-size (app (funOf o) given) X (pw ∙ three-bounds) (ap (λ y. small (app (funOf o) given) && y) (sym all-within))
+    three-terms = checked-size (app (funOf o) given) X (pw ∙ three-bounds) (ap (λ y. small D (app (funOf o) given) && y) (sym all-within))
 
-  pub operator-terms : OperatorSizePost s i e o x
+  pub operator-terms : OperatorSizePost D s i e o x
   operator-terms = record { is = go }
     where
-      go : (f : ℕ) → left i + 2 < f → SizeOf (app (funOf o) (formsTree f s i e)) x
+      go : (f : ℕ) → left i + 2 < f → SizeOf D (app (funOf o) (formsTree f s i e)) x
       go zero l = absurd (omega arith)
       go (suc zero) l = absurd (omega arith)
       go (suc (suc zero)) l = absurd (omega arith)
@@ -414,17 +416,16 @@ module _ (o : Fun) {s : List ℕ} {i e j k n w : ℕ} {a b c x : Size} {r t u v 
           (λ p.
           let q = leb-true e i p in
           let m = left i + left j + left k + left n + 2 in
-          subst (λ ts. SizeOf (app (funOf o) ts) x) (no-forms (suc (suc (suc m))) s i e q ∙ sym (no-forms (suc (suc (suc g))) s i e q))
+          subst (λ ts. SizeOf D (app (funOf o) ts) x) (no-forms (suc (suc (suc m))) s i e q ∙ sym (no-forms (suc (suc (suc g))) s i e q))
           (three-terms m (omega arith) (omega arith) (omega arith) (omega arith)))
           (λ p.
           let q = leb-false e i p in
           let y = next-past s i (omega arith) in
           three-terms g (omega (arith, l, q, h, y, pj)) (omega (arith, l)) (omega (arith, l, q, h, y, pj, pk, left-next s j)) (omega (arith, l, q, h, y, pj, pk, pn, left-next s j, left-next s k)))
 
-pub verdict : {s : List ℕ} {a : Size} → FormSizePost s 0 a → BoundFitsPost s (a .fits)
+pub verdict : {D : Declared} {s : List ℕ} {a : Size} → FormSizePost D s 0 a → BoundFitsPost D s (a .fits)
 verdict A = record { is = λ f l. A .is f l .fits-is }
 
--- Where scratch holds the words of a normal form, the answer is whether its numbers fit.
-pub verdict-is : {s : List ℕ} {r : Bool} → BoundFitsPost s r → (n : NormalForm) → Fl.Fits (asForm n) → length (flat (asForm n)) ≤ formWords → Holds s 0 (flat (asForm n)) → r ≡ numbersFit n
-unfolding numbersFit
-verdict-is {s} A n w l h = A .is (left 0 + 1) (omega arith) ∙ ap within (read-back (asForm n) s 0 w (omega arith) h (left 0 + 1) (omega arith))
+-- Where scratch holds the words of a normal form, and D says of each generator what its table's columns declare, the answer is whether its numbers fit.
+pub verdict-is : {D : Declared} {s : List ℕ} {r : Bool} → BoundFitsPost D s r → (B : Declared) (n : NormalForm) → Numbered (asForm n) 0 → Named D B (asForm n) → Fl.Fits (asForm n) → length (flat (asForm n)) ≤ formWords → Holds s 0 (flat (asForm n)) → r ≡ numbersFit B n
+verdict-is {D} {s} A B n u v w l h = A .is (left 0 + 1) (omega arith) ∙ ap (within D) (read-back (asForm n) s 0 w (omega arith) h (left 0 + 1) (omega arith)) ∙ numbers-fit-as B D n u v

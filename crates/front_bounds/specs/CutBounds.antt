@@ -7,7 +7,7 @@ use lib.Dec.{leb}
 use Rattle.spec_calculus.specs.Syntax.{of, sum, max, some, all}
 use Rattle.spec_calculus.specs.Syntax as Sy
 use Rattle.spec_normal_form.specs.Form.{Form, Forms, Clauses, app, fnil, fcons}
-use Rattle.spec_normal_form.specs.Bound.{ownGens, compBound, bound, within, withinF, withinC}
+use Rattle.spec_normal_form.specs.Bound.{ownGens, compBound, Declared, bound, within, withinF, withinC}
 use Rattle.base_syntax.specs.declared.Fun.{Fun}
 use Rattle.base_syntax.specs.declared.Monoid.{Monoid}
 use Rattle.base_syntax.specs.MonoidWord.{monoidOf}
@@ -50,36 +50,36 @@ pub record UnboundedPost (t : Bool) (r : Size) : Type 0 where
   pub bound-is : r .bound ≡ 0
   pub fits-is : r .fits ≡ t
 
--- the size of a form; of clauses and the head behind them, in a comprehension of m
-pub record SizeOf (t : Form) (r : Size) : Type 0 where
-  pub bound-is : r .bound ≡ cut (bound t)
-  pub fits-is : r .fits ≡ within t
+-- the size of a form, where D is what the generators' columns declare; of clauses and the head behind them, in a comprehension of m
+pub record SizeOf (D : Declared) (t : Form) (r : Size) : Type 0 where
+  pub bound-is : r .bound ≡ cut (bound D t)
+  pub fits-is : r .fits ≡ within D t
 
-pub record SizeOfC (m : Sy.Monoid) (q : Clauses) (h : Form) (r : Size) : Type 0 where
-  pub bound-is : r .bound ≡ cut (compBound m (ownGens q) (bound h))
-  pub fits-is : r .fits ≡ (withinC q && within h)
+pub record SizeOfC (D : Declared) (m : Sy.Monoid) (q : Clauses) (h : Form) (r : Size) : Type 0 where
+  pub bound-is : r .bound ≡ cut (compBound m (ownGens q) (bound D h))
+  pub fits-is : r .fits ≡ (withinC D q && within D h)
 
 -- of the first of some forms; where there is none, as what is no number
-abbrev pub FirstOf : Forms → Size → Type 0
-FirstOf fnil r = (r .bound ≡ 0) × (r .fits ≡ true)
-FirstOf (fcons t ts) r = SizeOf t r
+abbrev pub FirstOf : Declared → Forms → Size → Type 0
+FirstOf D fnil r = (r .bound ≡ 0) × (r .fits ≡ true)
+FirstOf D (fcons t ts) r = SizeOf D t r
 
 -- at every fuel that is enough
-pub record FormSizePost (s : List ℕ) (i : ℕ) (r : Size) : Type 0 where
-  pub is : (f : ℕ) → left i < f → SizeOf (formTree f s i) r
+pub record FormSizePost (D : Declared) (s : List ℕ) (i : ℕ) (r : Size) : Type 0 where
+  pub is : (f : ℕ) → left i < f → SizeOf D (formTree f s i) r
 
-pub record ClausesSizePost (s : List ℕ) (i : ℕ) (m : Monoid) (r : Size) : Type 0 where
-  pub is : (f : ℕ) → left i + 1 < f → SizeOfC (monoidOf m) (clausesTree f s i) (headTree f s i) r
+pub record ClausesSizePost (D : Declared) (s : List ℕ) (i : ℕ) (m : Monoid) (r : Size) : Type 0 where
+  pub is : (f : ℕ) → left i + 1 < f → SizeOfC D (monoidOf m) (clausesTree f s i) (headTree f s i) r
 
-pub record RecordFitsPost (s : List ℕ) (i e : ℕ) (r : Bool) : Type 0 where
-  pub is : (f : ℕ) → left i + 1 < f → r ≡ withinF (formsTree f s i e)
+pub record RecordFitsPost (D : Declared) (s : List ℕ) (i e : ℕ) (r : Bool) : Type 0 where
+  pub is : (f : ℕ) → left i + 1 < f → r ≡ withinF D (formsTree f s i e)
 
-pub record TermSizePost (s : List ℕ) (i e : ℕ) (r : Size) : Type 0 where
-  pub is : (f : ℕ) → left i + 1 < f → FirstOf (formsTree f s i e) r
+pub record TermSizePost (D : Declared) (s : List ℕ) (i e : ℕ) (r : Size) : Type 0 where
+  pub is : (f : ℕ) → left i + 1 < f → FirstOf D (formsTree f s i e) r
 
-pub record OperatorSizePost (s : List ℕ) (i e : ℕ) (o : Fun) (r : Size) : Type 0 where
-  pub is : (f : ℕ) → left i + 2 < f → SizeOf (app (funOf o) (formsTree f s i e)) r
+pub record OperatorSizePost (D : Declared) (s : List ℕ) (i e : ℕ) (o : Fun) (r : Size) : Type 0 where
+  pub is : (f : ℕ) → left i + 2 < f → SizeOf D (app (funOf o) (formsTree f s i e)) r
 
 -- whether 28 does not refuse the form at place 0
-pub record BoundFitsPost (s : List ℕ) (r : Bool) : Type 0 where
-  pub is : (f : ℕ) → left 0 < f → r ≡ within (formTree f s 0)
+pub record BoundFitsPost (D : Declared) (s : List ℕ) (r : Bool) : Type 0 where
+  pub is : (f : ℕ) → left 0 < f → r ≡ within D (formTree f s 0)

@@ -7,12 +7,14 @@ ghost use Rattle.spec_normal_form.specs.Bound.{binBound, appBound};
 ghost use Rattle.base_syntax.specs.MonoidWord.{monoidOf};
 ghost use Rattle.base_syntax.specs.Numbers.{binOf, funOf};
 ghost use Rattle.base_scratch.specs.Map.{formWords};
+ghost use Rattle.form_env.specs.Environment.{declaredIn};
 ghost use Rattle.front_bounds.specs.CutBounds.{cut, perGenerator, perGenerators, perHead, CheckedPost, UnboundedPost, FormSizePost, ClausesSizePost, RecordFitsPost, TermSizePost, OperatorSizePost, BoundFitsPost};
 use base_signed::NUMBER_LIMIT;
 use base_signed::magnitude;
 use base_syntax::Fun;
 use base_syntax::Monoid;
 use base_syntax::Op;
+use form_env::declared;
 use form_words::Clause;
 use form_words::FormNode;
 use form_words::look;
@@ -143,29 +145,30 @@ fn unbounded(inside: bool) -> Size
     }
 }
 
-pub fn form_size(s: &[u64], i: usize) -> Size
-    ensures { λ r. ⌜ FormSizePost (now (s .entry)) i r ⌝ }
+// A cell has the bound that its column of the generator's table declares: "the bound rule .. use[s] it for 2^31" (document 02, E5).
+pub fn form_size(s: &[u64], data: &[u8], i: usize) -> Size
+    ensures { λ r. ⌜ FormSizePost (declaredIn (now («data» .entry)) (now (s .entry))) (now (s .entry)) i r ⌝ }
 {
     match look(s, i) {
         FormNode::Number(z) => checked(magnitude(z), true),
         FormNode::Truth(b) => unbounded(true),
         FormNode::Row(g) => unbounded(true),
-        FormNode::Cell(c, g) => checked(2147483648, true),
-        FormNode::Record(e) => unbounded(record_fits(s, i + 1, e)),
+        FormNode::Cell(c, g) => checked(declared(s, data, g, c), true),
+        FormNode::Record(e) => unbounded(record_fits(s, data, i + 1, e)),
         FormNode::Binary(o, j) => {
-            let a = form_size(s, i + 1);
-            let b = form_size(s, j);
+            let a = form_size(s, data, i + 1);
+            let b = form_size(s, data, j);
             checked(binary_bound(o, a.bound, b.bound), both(a.fits, b.fits))
         }
         FormNode::Negation => {
-            let a = form_size(s, i + 1);
+            let a = form_size(s, data, i + 1);
             unbounded(a.fits)
         }
         FormNode::Comprehension(m) => {
-            let a = clauses_size(s, i + 1, m);
+            let a = clauses_size(s, data, i + 1, m);
             checked(a.bound, a.fits)
         }
-        FormNode::Operator(f, e) => operator_size(s, i + 1, e, f),
+        FormNode::Operator(f, e) => operator_size(s, data, i + 1, e, f),
         FormNode::Generator(g, k) => unbounded(true),
         FormNode::Condition(j) => unbounded(true),
         FormNode::Nothing => unbounded(true),
@@ -173,8 +176,8 @@ pub fn form_size(s: &[u64], i: usize) -> Size
 }
 
 // The clauses from i on and the head behind them, in a comprehension of m. A loop: a call for each would need stack for each.
-fn clauses_size(s: &[u64], i: usize, m: Monoid) -> Size
-    ensures { λ r. ⌜ ClausesSizePost (now (s .entry)) i m r ⌝ }
+fn clauses_size(s: &[u64], data: &[u8], i: usize, m: Monoid) -> Size
+    ensures { λ r. ⌜ ClausesSizePost (declaredIn (now («data» .entry)) (now (s .entry))) (now (s .entry)) i m r ⌝ }
 {
     let mut j = i;
     let mut n: usize = 0;
@@ -186,12 +189,12 @@ fn clauses_size(s: &[u64], i: usize, m: Monoid) -> Size
                 j += 1;
             }
             Clause::Condition(e) => {
-                let t = form_size(s, j + 1);
+                let t = form_size(s, data, j + 1);
                 fits = both(fits, t.fits);
                 j = e;
             }
             Clause::Head => {
-                let a = form_size(s, j);
+                let a = form_size(s, data, j);
                 return Size {
                     bound: generators_bound(m, n, per_head(m, a.bound)),
                     fits: both(fits, a.fits),
@@ -202,16 +205,16 @@ fn clauses_size(s: &[u64], i: usize, m: Monoid) -> Size
 }
 
 // The operator f over the terms from i to e: each is looked at once, the bounds of the first three are kept.
-fn operator_size(s: &[u64], i: usize, e: usize, f: Fun) -> Size
+fn operator_size(s: &[u64], data: &[u8], i: usize, e: usize, f: Fun) -> Size
     requires { ⌜ e ≤ formWords ⌝ }
-    ensures { λ r. ⌜ OperatorSizePost (now (s .entry)) i e f r ⌝ }
+    ensures { λ r. ⌜ OperatorSizePost (declaredIn (now («data» .entry)) (now (s .entry))) (now (s .entry)) i e f r ⌝ }
 {
-    let a = term_size(s, i, e);
+    let a = term_size(s, data, i, e);
     let j = next(s, i);
-    let b = term_size(s, j, e);
+    let b = term_size(s, data, j, e);
     let k = next(s, j);
-    let c = term_size(s, k, e);
-    let rest = both(c.fits, record_fits(s, next(s, k), e));
+    let c = term_size(s, data, k, e);
+    let rest = both(c.fits, record_fits(s, data, next(s, k), e));
     checked(
         operator_bound(f, a.bound, b.bound, c.bound),
         both(a.fits, both(b.fits, rest)),
@@ -219,33 +222,33 @@ fn operator_size(s: &[u64], i: usize, e: usize, f: Fun) -> Size
 }
 
 // The term at i, where one stands before e.
-fn term_size(s: &[u64], i: usize, e: usize) -> Size
-    ensures { λ r. ⌜ TermSizePost (now (s .entry)) i e r ⌝ }
+fn term_size(s: &[u64], data: &[u8], i: usize, e: usize) -> Size
+    ensures { λ r. ⌜ TermSizePost (declaredIn (now («data» .entry)) (now (s .entry))) (now (s .entry)) i e r ⌝ }
 {
     if e <= i {
         return unbounded(true);
     }
-    form_size(s, i)
+    form_size(s, data, i)
 }
 
 // The fields of a record, from i to e. A loop, as in `clauses_size`.
-fn record_fits(s: &[u64], i: usize, e: usize) -> bool
+fn record_fits(s: &[u64], data: &[u8], i: usize, e: usize) -> bool
     requires { ⌜ e ≤ formWords ⌝ }
-    ensures { λ r. ⌜ RecordFitsPost (now (s .entry)) i e r ⌝ }
+    ensures { λ r. ⌜ RecordFitsPost (declaredIn (now («data» .entry)) (now (s .entry))) (now (s .entry)) i e r ⌝ }
 {
     let mut j = i;
     let mut fits = true;
     while j < e {
-        let a = form_size(s, j);
+        let a = form_size(s, data, j);
         fits = both(fits, a.fits);
         j = next(s, j);
     }
     fits
 }
 
-pub fn bound_fits(s: &[u64]) -> bool
-    ensures { λ r. ⌜ BoundFitsPost (now (s .entry)) r ⌝ }
+pub fn bound_fits(s: &[u64], data: &[u8]) -> bool
+    ensures { λ r. ⌜ BoundFitsPost (declaredIn (now («data» .entry)) (now (s .entry))) (now (s .entry)) r ⌝ }
 {
-    let whole = form_size(s, 0);
+    let whole = form_size(s, data, 0);
     whole.fits
 }

@@ -3,7 +3,7 @@ use mathlib.Core.Path.{_≡_, refl, sym, ap, _∙_}
 use mathlib.Core.List.{List, [], _∷_}
 use Prim.Native.Nat.{ℕ, _+_, _<_, _≤_}
 use native.Mathlib.Omega.{arith}
-use lib.ListN.{length, getD, set, length-set}
+use lib.ListN.{length, getD, set}
 use lib.Seq.{getD-set-other, set-comm}
 use Rattle.front_theory.specs.FormWords.{Word, words}
 use Rattle.front_theory.specs.Writer.{State, state, puts}
@@ -15,11 +15,6 @@ pub puts-place : (l : List Word) (b : Buffer) → puts put l b .place ≡ b .pla
 unfolding puts put
 puts-place [] b = omega arith
 puts-place (x ∷ l) b = puts-place l (put x b) ∙ omega arith
-
-pub puts-long : (l : List Word) (b : Buffer) → length (puts put l b .words) ≡ length (b .words)
-unfolding puts put
-puts-long [] b = refl
-puts-long (x ∷ l) b = puts-long l (put x b) ∙ length-set (b .words) (formAt + b .place) (packed x)
 
 -- no other word changes
 pub puts-kept : (l : List Word) (b : Buffer) (j : ℕ) → (formAt + b .place ≤ j → j < formAt + b .place + length l → ⊥) → getD (puts put l b .words) j 0 ≡ getD (b .words) j 0

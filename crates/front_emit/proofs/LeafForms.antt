@@ -18,9 +18,9 @@ use Rattle.front_theory.specs.FormWords.{words}
 use Rattle.base_scratch.specs.Map.{formWords, mostNodes}
 use Rattle.form_words.specs.FormWords.{numberArg}
 use Rattle.front_words.specs.NodeWord.{argOf, nodeWord}
-use Rattle.front_words.specs.NodeTree.{numberOf, kindAt, argAt}
+use Rattle.front_words.specs.NodeTree.{kindAt, argAt}
+use Rattle.base_syntax.specs.Numbers.{constantOf, funOf, funArg}
 use Rattle.base_syntax.specs.declared.Fun.{Fun}
-use Rattle.base_syntax.specs.Numbers.{funOf, funArg}
 use Rattle.front_nodes.specs.NodeTable.{above, nameBy, nodeBy, nodesOf}
 use Rattle.front_nodes.proofs.PostOrder.{by-pick}
 use Rattle.front_resolve.specs.Place.{Place, FormAt}
@@ -36,7 +36,7 @@ use Rattle.front_emit.proofs.WriterExits.{leaf-num, leaf-truth, leaf-ro
 use Rattle.front_emit.proofs.TermCalls.{formS, some-word, headed-record, headed-operator}
 
 -- ---- a number's argument is that of its node
-number-kept : (a : ℕ) → a ≡ numberArg (numberOf a)
+number-kept : (a : ℕ) → a ≡ numberArg (constantOf a)
 number-kept a = go (ltb a 0x80000000) refl
   where
     go : (b : Bool) → ltb a 0x80000000 ≡ b → a ≡ numberArg (elim b [ true ↦ negsuc (0x7fffffff - a) | false ↦ pos (a - 0x80000000) ])

@@ -5,13 +5,11 @@ use mathlib.Core.Bool.{Bool, true, false}
 use Prim.Native.Nat.{ℕ, zero, suc, _≤_, _<_}
 use native.Mathlib.Omega.{arith}
 use lib.Dec.{eqb}
-use lib.ListN.{length}
-use borrow.Author.Tests.{ltb-true}
 use Rattle.spec_calculus.specs.Lists.{upd}
 use Rattle.spec_calculus.specs.Syntax.{Monoid, of, sum, max, some, all, Bin, plus, minus, times, equal, less, and, or, Fun, Term, Terms, Quals, num, name, field, rec, bin, negate, app, comp, table, tnil, tcons, qnil, gen, bind, cond, Question, asTerm}
 use Rattle.spec_calculus.specs.Syntax as Sy
 use Rattle.spec_calculus.specs.Value.{Tables, columnsOf}
-use Rattle.spec_calculus.proofs.WellFormed.{WellFormed, columns-at-most}
+use Rattle.spec_calculus.proofs.WellFormed.{WellFormed, columns-at-most, number-few}
 use Rattle.spec_encoding.specs.Record.{Bytes, got}
 use Rattle.spec_encoding.specs.Data.{readData}
 use Rattle.spec_encoding.specs.Reader.{readQuestion}
@@ -111,7 +109,7 @@ module _ {T : Tables} (W : WellFormed T) where
         (gathers-narrow m (h .1) τ (b .0) (h .4), (a .1, b .1))
     narrow (table k) Γ τ l e h =
         let a = cells-narrow (columnsOf T k) in
-        (subst Narrow (sym (h .1)) (omega (arith, a .0, columns-at-most W k), a .1), omega (arith, ltb-true k (length T) (h .0), W .tables-most))
+        (subst Narrow (sym (h .1)) (omega (arith, a .0, columns-at-most W k), a .1), omega (arith, number-few W k (h .0)))
 
     narrowL : (ts : Terms) (Γ : Context) (us : Tys) → LiteralL ts → NarrowE Γ → HasL T Γ ts us → (width us ≡ countL ts) × NarrowL us × InRangeL ts
     narrowL tnil Γ us l e h = (ap width h, subst NarrowL (sym h) tt, tt)

@@ -14,7 +14,8 @@ use Rattle.spec_encoding.proofs.Refusals.{Only, data-only, question-only}
 use Rattle.spec_outcome.proofs.CheckOrder.{data-refused, question-refused, judged-as, names-decide, types-decide, generators-decide, size-decides}
 use Rattle.base_scratch.specs.Map.{scratchSize}
 use Rattle.base_tables.specs.DataReader.{ReadDataPost}
-use Rattle.base_tables.proofs.ReadData.{tables-most, WellFormed, well-formed, not-well-formed, kept-word}
+use Rattle.base_tables.proofs.ReadData.{WellFormed, well-formed, not-well-formed}
+use Rattle.base_tables.proofs.TableWords.{stored-same}
 use Rattle.front_parser.specs.ReaderContracts.{Held, QuestionBy, ReadQuestionPost}
 use Rattle.front_parser.specs.declared.Read.{Read}
 use Rattle.front_parser.specs.declared.Read.the-variants as Answer
@@ -82,18 +83,22 @@ module _ {s : List ℕ} {n : ℕ} {a : Bool} (A : NamesHoldPost s n a) where
   }
 
 -- ---- the data, and the question
-data-low : (d : Bytes) {k : ℕ} → readData d ≡ refused k → k ≤ 27
-data-low d e = subst (Only (λ n. n ≤ 27)) e (data-only (λ n. n ≤ 27) (omega arith) (omega arith) (omega arith) d)
+-- They are refused by other numbers than 28.
+abbrev Other : ℕ → Type 0
+Other n = n ≡ 28 → ⊥
 
-question-low : (l : Bytes) {k : ℕ} → readQuestion l ≡ refused k → k ≤ 27
-question-low l e = subst (Only (λ n. n ≤ 27)) e (question-only (λ n. n ≤ 27) (omega arith) (omega arith) (omega arith) l)
+data-other : (d : Bytes) {k : ℕ} → readData d ≡ refused k → Other k
+data-other d e = subst (Only Other) e (data-only Other (λ h. omega arith) (λ h. omega arith) (λ h. omega arith) (λ h. omega arith) (λ h. omega arith) (λ h. omega arith) d)
+
+question-other : (l : Bytes) {k : ℕ} → readQuestion l ≡ refused k → Other k
+question-other l e = subst (Only Other) e (question-only Other (λ h. omega arith) (λ h. omega arith) (λ h. omega arith) l)
 
 module _ {d : Bytes} {s t : List ℕ} {z : ℕ} (D : ReadDataPost d s t z) where
   data-away : Apart s t
-  data-away = record { long = D .long; above = λ j h. kept-word D j (omega arith) }
+  data-away = record { long = D .long; above = λ j h. D .kept j (omega arith) }
 
   pub data-wrong : {l : Bytes} → (z ≡ 0 → ⊥) → FrontEndPost d l s t (FrontResult.Refused z)
-  data-wrong {l} h = record { is = (data-refused d l (not-well-formed D h), data-low d (not-well-formed D h)); away = data-away }
+  data-wrong {l} h = record { is = (data-refused d l (not-well-formed D h), data-other d (not-well-formed D h)); away = data-away }
 
   module _ (y : z ≡ 0) {l : Bytes} {u : List ℕ} {x : Read} (Q : ReadQuestionPost l t u x) where
     both-away : Apart s u
@@ -102,17 +107,15 @@ module _ {d : Bytes} {s t : List ℕ} {z : ℕ} (D : ReadDataPost d s t z) where
     pub question-wrong : {k : ℕ} → x ≡ Answer.Refused k → FrontEndPost d l s u (FrontResult.Refused k)
     question-wrong e =
         let k = subst (QuestionBy (readQuestion l) u) e (Q .is) in
-        record { is = (question-refused d l (well-formed D y .is) k, question-low l k); away = both-away }
+        record { is = (question-refused d l (well-formed D y .is) k, question-other l k); away = both-away }
 
     module _ (W : WellFormed d) {n : ℕ} (H : Held (readQuestion l) u n) where
       loaded : scratchSize ≤ length s → Loaded d (W .tables) (H .question) u n
       loaded room =
-          let m = tables-most d (W .is) in
-          let S = D .stored (W .tables) (W .is) (omega (arith, room)) in
           let G = question-given l (H .is) in
           record {
             tables = W .is;
-            stored = record { count = Q .kept .below 0 (omega arith) ∙ S .count; each = λ k h. Q .kept .below (1 + k) (omega arith) ∙ S .each k h };
+            stored = stored-same u (λ j h. Q .kept .below j (omega arith)) (D .stored (W .tables) (W .is));
             laid = H .laid;
             count = H .count;
             some = H .some;
@@ -123,7 +126,7 @@ module _ {d : Bytes} {s t : List ℕ} {z : ℕ} (D : ReadDataPost d s t z) where
           }
 
       carried : (v : List ℕ) (r : FrontResult) → JudgedBy d (W .tables) (H .question) v r → FrontBy d l v r
-      carried v (FrontResult.Refused k) p = (judged-as d l (W .is) (H .is) ∙ p .0, p .1)
+      carried v (FrontResult.Refused k) p = (judged-as d l (W .is) (H .is) ∙ p .0, λ e. omega (arith, p .1))
       carried v (FrontResult.Nodes m) p = record { tables = W .tables; question = H .question; asked = H .is; passed = p }
 
     pub question-right : scratchSize ≤ length s → {n : ℕ} → x ≡ Answer.Question n → {v : List ℕ} {r : FrontResult} → JudgedPost u v n r → FrontEndPost d l s v r

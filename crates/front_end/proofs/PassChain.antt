@@ -11,7 +11,7 @@ use Rattle.spec_calculus.specs.Value.{Tables}
 use Rattle.spec_encoding.specs.Record.{Bytes}
 use Rattle.spec_encoding.specs.Reader.{Kind, kinds, unknown, number, truthK, nameK, fieldK, record′, not, tableK, comprehension, generator, binding, condition, choiceK, two-terms}
 use Rattle.spec_checks.specs.Scope.{namesHold}
-use Rattle.base_tables.proofs.ReadData.{tables-most}
+use Rattle.base_tables.proofs.TableWords.{stored-same}
 use Rattle.base_scratch.specs.Map.{nodesAt, bindersAt, shapesAt}
 use Rattle.front_words.specs.NodeWord.{kindOf as kindIn, argOf, nodeWord}
 use Rattle.front_words.specs.NodeTree.{kindAt, argAt}
@@ -39,10 +39,9 @@ module _ {d : Bytes} {T : Tables} {q : Question} {s s′ : List ℕ} {n : ℕ} (
   -- the tables' and the nodes' words
   pub loaded-same : ((j : ℕ) → j < bindersAt → getD s′ j 0 ≡ getD s j 0) → Loaded d T q s n → Loaded d T q s′ n
   loaded-same front L =
-      let m = tables-most d (L .tables) in
       record {
         tables = L .tables;
-        stored = record { count = front 0 (omega arith) ∙ L .stored .count; each = λ k l. front (1 + k) (omega arith) ∙ L .stored .each k l };
+        stored = stored-same s′ (λ j h. front j (omega arith)) (L .stored);
         laid = laid-same s s′ 256 (λ i l. front (nodesAt + i) (omega arith)) (asTerm q) 0 0 (omega (arith, L .count, L .few)) (L .laid);
         count = L .count;
         some = L .some;

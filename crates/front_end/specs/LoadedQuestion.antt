@@ -10,7 +10,7 @@ use Rattle.spec_encoding.specs.Record.{Bytes, got}
 use Rattle.spec_encoding.specs.Data.{readData}
 use Rattle.spec_checks.specs.Scope.{namesHold}
 use Rattle.base_tables.specs.DataReader.{Stored}
-use Rattle.base_scratch.specs.Map.{bindersAt, unusedAt, scratchSize}
+use Rattle.base_scratch.specs.Map.{bindersAt, scratchSize}
 use Rattle.front_words.specs.NodeTree.{kindAt, argAt}
 use Rattle.front_words.specs.LaidTree.{nodes, Laid}
 use Rattle.front_scope.specs.ScopePass.{Small}
@@ -20,7 +20,7 @@ use Rattle.front_nodes.specs.QuestionTree.{nesting}
 -- the tables T of the data d, and the question q, whose n nodes lie from node 0 on
 pub record Loaded (d : Bytes) (T : Tables) (q : Question) (s : List ℕ) (n : ℕ) : Type 0 where
   pub tables : readData d ≡ got T
-  pub stored : Stored d T s
+  pub stored : Stored d s
   pub laid : Laid s 0 0 (asTerm q)
   pub count : n ≡ nodes (asTerm q)
   pub some : 1 ≤ n
@@ -38,4 +38,4 @@ pub record Ready (d : Bytes) (T : Tables) (q : Question) (s : List ℕ) (n : ℕ
 -- the words behind those of the question stay
 pub record Apart (s s′ : List ℕ) : Type 0 where
   pub long : length s′ ≡ length s
-  pub above : (j : ℕ) → unusedAt ≤ j → getD s′ j 0 ≡ getD s j 0
+  pub above : (j : ℕ) → scratchSize ≤ j → getD s′ j 0 ≡ getD s j 0

@@ -55,7 +55,7 @@ pub record Fine (d l : Bytes) (s : List ℕ) (n : ℕ) : Type 0 where
   pub passed : Passed d tables question s n
 
 abbrev pub FrontBy : Bytes → Bytes → List ℕ → FrontResult → Type 0
-FrontBy d l s (FrontResult.Refused k) = (examine d l ≡ refused k) × (k ≤ 27)
+FrontBy d l s (FrontResult.Refused k) = (examine d l ≡ refused k) × (k ≡ 28 → ⊥)
 FrontBy d l s (FrontResult.Nodes n) = Fine d l s n
 
 pub record FrontEndPost (d l : Bytes) (s s′ : List ℕ) (r : FrontResult) : Type 0 where

@@ -27,5 +27,5 @@ pub record PreparePost (d l : Bytes) (s s′ : List ℕ) (r : Checked) : Type 0 
   pub away : Apart s s′
 
 -- 28, where all before it pass
-pub record FormedPost (s s′ : List ℕ) (n : ℕ) (r : Checked) : Type 0 where
-  pub is : (d l : Bytes) → Fine d l s n → PreparePost d l s s′ r
+pub record FormedPost (d : Bytes) (s s′ : List ℕ) (n : ℕ) (r : Checked) : Type 0 where
+  pub is : (l : Bytes) → Fine d l s n → PreparePost d l s s′ r

@@ -82,14 +82,15 @@ pub fn front_end(d: &[u8], l: &[u8], s: &mut [u64]) -> FrontResult
 // "28: a number in the normal form with bound over 2^62." Once the form is written the question's words below it are dead. They are
 // wiped and the generators' slots name their tables there before anything reads the form, so that whatever does, bounds first, finds
 // each generator's table in its slot.
-fn formed(s: &mut [u64], n: usize) -> Checked
+fn formed(d: &[u8], s: &mut [u64], n: usize) -> Checked
     requires { ⌜ (1 ≤ n) × Writable (now s) (n - 1) ⌝ }
-    ensures { λ r. ⌜ FormedPost (now (s .entry)) (now (s .exit)) n r ⌝ }
+    ensures { λ r. ⌜ FormedPost (now (d .entry)) (now (s .entry)) (now (s .exit)) n r ⌝ }
 {
     front_emit::write_form(s, n - 1);
     base_scratch::wipe(s, NODES, FORM);
+    base_checkpoints::checkpoint_tables(s, d);
     form_env::name_tables(s);
-    let a = front_bounds::bound_fits(s);
+    let a = front_bounds::bound_fits(s, d);
     if !a {
         return Checked::Refused(base_refusals::NUMBER_OUT_OF_BOUNDS);
     }
@@ -103,6 +104,6 @@ pub fn prepare(d: &[u8], l: &[u8], s: &mut [u64]) -> Checked
 {
     match front_end(d, l, s) {
         FrontResult::Refused(k) => Checked::Refused(k),
-        FrontResult::Nodes(n) => formed(s, n),
+        FrontResult::Nodes(n) => formed(d, s, n),
     }
 }

@@ -71,11 +71,6 @@ count-sum a b g h = same-count (omega arith) (omega arith)
 pub clauses-sum : (w q : Clauses) → clausesCount (w ⊕ q) ≡ beside (clausesCount w) (clausesCount q)
 clauses-sum w q = ap kept (counts-append w q) ∙ count-sum (nodesC w) (nodesC q) (gensC w) (gensC q)
 
-pub total-capped : (w : ℕ → FormSize) (g : FormSize) (cs : List ℕ) → Capped g → Capped (total w g cs)
-unfolding total
-total-capped w g [] h = h
-total-capped w g (c ∷ cs) h = total-capped w (beside g (w c)) cs (capped (g .size + w c .size) (g .gens + w c .gens))
-
 pub total-append : (w : ℕ → FormSize) (g : FormSize) (cs ds : List ℕ) → total w g (cs ++ ds) ≡ total w (total w g cs) ds
 unfolding total
 total-append w g [] ds = refl

@@ -5,7 +5,7 @@ use mathlib.Core.Bool.{Bool, true, false, cond}
 use Prim.Native.Nat.{ℕ, zero, suc, _+_, _-_, _^_, _<_, _≤_}
 use native.Mathlib.Omega.{arith}
 use lib.Dec.{ltb, eqb}
-use lib.ListN.{length, drop, getD, List·getD-eq-default}
+use lib.ListN.{drop, getD, List·getD-eq-default}
 use lib.Signed.{mag}
 use lib.IntN.{ℤ, pos, negsuc, _-ℤ_}
 use types.Run.{OneOf, miss}
@@ -16,23 +16,21 @@ use mir.Val.{SFits, toZ, ofZ}
 use mir.Facts.{toZ-pos, toZ-ofZ}
 use borrow.Author.Tests.{ltb-true, ltb-false, lt-ltb, le-ltb, lt-leb, le-leb}
 use Rattle.spec_calculus.specs.Lists.{pick}
-use Rattle.spec_calculus.specs.Syntax as Sy
-use Rattle.spec_calculus.specs.Syntax.{list, bag, set, of, sum, max, some, all}
 use Rattle.base_signed.proofs.SignedWords.{by-test, fits}
 use Rattle.spec_encoding.specs.Reader.{kinds, unknown}
 use Rattle.spec_encoding.specs.Reader as Re
 use Rattle.base_syntax.specs.declared.Monoid.{Monoid}
 use Rattle.base_syntax.specs.MonoidWord.{monoidOf}
-use Rattle.base_scratch.specs.Map.{bindersAt, mostNodes}
+use Rattle.base_scratch.specs.Map.{mostNodes}
 use Rattle.front_words.specs.NodeWord.{kindOf, argOf, nodeWord}
-use Rattle.front_words.specs.NodeTree.{numberOf, monoidAt, kindAt, argAt, startAt}
+use Rattle.front_words.specs.NodeTree.{monoidAt, kindAt, argAt, startAt}
+use Rattle.base_syntax.specs.Numbers.{constantOf, binOf, funOf}
 use Rattle.front_words.specs.LaidTree.{operator}
 use Rattle.front_theory.specs.NodeTable as No
 use Rattle.front_theory.specs.NodeTable.{Inside}
 use Rattle.base_syntax.specs.declared.Op.{Op}
 use Rattle.base_syntax.specs.declared.Fun.{Fun}
 use Rattle.base_syntax.specs.declared.Fun.the-variants.{Choice}
-use Rattle.base_syntax.specs.Numbers.{binOf, funOf}
 use Rattle.front_nodes.specs.declared.Kind.{Kind}
 use Rattle.front_nodes.specs.declared.QueryNode.{QueryNode}
 use Rattle.front_nodes.specs.declared.QueryNode.the-variants.{Number, Truth, Name, Field, Record, Two, Not, Comp, Table, Gen, Bind, Cond, Operator, Bad}
@@ -60,14 +58,14 @@ pub no-kind : (k : ℕ) → Missed 0 k 19 → unknown ≡ getD kinds k unknown
 no-kind zero m = refl
 no-kind (suc k) m = let h : 20 ≤ suc k = omega (arith, past-all 0 (suc k) 19 (omega arith) m) in sym (List·getD-eq-default kinds unknown h)
 
-small-number : (a : ℕ) → a < 8589934592 → mag (numberOf a) < 2 ^ 33
+small-number : (a : ℕ) → a < 8589934592 → mag (constantOf a) < 2 ^ 33
 small-number a h = go (ltb a 0x80000000)
   where
     go : (b : Bool) → mag (elim b [ true ↦ negsuc (0x7fffffff - a) | false ↦ pos (a - 0x80000000) ]) < 2 ^ 33
     go true = omega arith
     go false = omega arith
 
-below-zero : (a : ℕ) → a < 8589934592 → pos a -ℤ pos 2147483648 ≡ numberOf a
+below-zero : (a : ℕ) → a < 8589934592 → pos a -ℤ pos 2147483648 ≡ constantOf a
 below-zero a h = go (ltb a 2147483648) refl
   where
     go : (b : Bool) → ltb a 2147483648 ≡ b → cond b (negsuc (2147483648 - suc a)) (pos (a - 2147483648)) ≡ elim b [ true ↦ negsuc (0x7fffffff - a) | false ↦ pos (a - 0x80000000) ]
@@ -77,7 +75,7 @@ below-zero a h = go (ltb a 2147483648) refl
 pub number-ok : (a : ℕ) → a < 8589934592 → SFits w64 (toZ w64 a -ℤ pos 2147483648)
 number-ok a h = rw (toZ-pos w64 {n = a} (omega arith)) (rw (below-zero a h) (fits (omega (arith, small-number a h))))
 
-pub number-is : (a : ℕ) → a < 8589934592 → toZ w64 (ofZ w64 (toZ w64 a -ℤ pos 2147483648)) ≡ numberOf a
+pub number-is : (a : ℕ) → a < 8589934592 → toZ w64 (ofZ w64 (toZ w64 a -ℤ pos 2147483648)) ≡ constantOf a
 number-is a h = toZ-ofZ (number-ok a h) ∙ ap (λ (z : ℤ). z -ℤ pos 2147483648) (toZ-pos w64 {n = a} (omega arith)) ∙ below-zero a h
 
 -- ---- a name
@@ -131,9 +129,9 @@ module _ {s : List ℕ} {i : ℕ} (l : i < mostNodes) where
       go false = refl
 
   module _ {a : ℕ} (A : a ≡ argAt s i) where
-    pub look-number : {z : ℤ} → kindAt s i ≡ Re.number → z ≡ numberOf a → LookPost s i (Number z)
+    pub look-number : {z : ℤ} → kindAt s i ≡ Re.number → z ≡ constantOf a → LookPost s i (Number z)
     look-number {z} e q =
-        plainly Re.number (Number z) e (ap No.nnum (ap numberOf (sym A) ∙ sym q)) (subst (λ (x : ℤ). mag x < 2 ^ 33) (sym q) (small-number a (omega arith)))
+        plainly Re.number (Number z) e (ap No.nnum (ap constantOf (sym A) ∙ sym q)) (subst (λ (x : ℤ). mag x < 2 ^ 33) (sym q) (small-number a (omega arith)))
 
     pub look-truth : kindAt s i ≡ Re.truthK → LookPost s i (Truth (eqb a 1))
     look-truth e = plainly Re.truthK (Truth (eqb a 1)) e (ap (λ (x : ℕ). No.ntruth (eqb x 1)) (sym A)) tt
@@ -303,10 +301,3 @@ nth-at zero [] e = let z : _≡_ {A = ℕ} 0 1 = cc in absurd (omega arith)
 nth-at (suc k) [] e = let z : _≡_ {A = ℕ} 0 1 = cc in absurd (omega arith)
 nth-at zero (c ∷ cs) e = cc
 nth-at (suc k) (c ∷ cs) e = nth-at k cs e
-
-pub nth-none : (k : ℕ) (cs : List ℕ) → Nothing ≡ nth k cs → drop k cs ≡ []
-unfolding nth drop
-nth-none zero [] e = refl
-nth-none (suc k) [] e = refl
-nth-none zero (c ∷ cs) e = let z : _≡_ {A = ℕ} 0 1 = cc in absurd (omega arith)
-nth-none (suc k) (c ∷ cs) e = nth-none k cs e

@@ -13,7 +13,8 @@ use Rattle.spec_calculus.specs.Syntax.{choice}
 use Rattle.spec_encoding.specs.Reader.{Kind, kinds, unknown, number, truthK, nameK, fieldK, record′, not, tableK, comprehension, generator, binding, condition, choiceK, two-terms}
 use Rattle.base_scratch.specs.Map.{nodesAt, bindersAt, shapesAt, mostNodes}
 use Rattle.front_words.specs.NodeWord.{kindOf, argOf, startOf, depthOf, nodeWord}
-use Rattle.front_words.specs.NodeTree.{numberOf, monoidAt, kindAt, argAt, startAt}
+use Rattle.front_words.specs.NodeTree.{monoidAt, kindAt, argAt, startAt}
+use Rattle.base_syntax.specs.Numbers.{constantOf}
 use Rattle.front_theory.specs.NodeTable.{Node, nnum, ntruth, nname, nfield, nrec, nbin, napp, ncomp, ntable, nbad}
 use Rattle.front_words.specs.Binders.{binderWord}
 use Rattle.front_nodes.specs.NodeTable.{depthAt, siblings, childrenOf, chainUpto, qualifiersOf, above, nameBy, nodeBy, nodesOf}
@@ -65,7 +66,7 @@ module _ (s s′ : List ℕ) (words : (j : ℕ) → j < mostNodes → nodeWord s
       (pick-same (leb w i) nbad (λ t. ap (λ (d : ℕ). pick (ltb 0 d) (nname (w - 1) (d - 1)) nbad) (depth-same (w - 1) (omega (arith, leb-true w i t)))))
 
   node-same : (i : ℕ) → i < mostNodes → (K : Kind) → nodeBy s′ i K ≡ nodeBy s i K
-  node-same i h number = ap (λ (a : ℕ). nnum (numberOf a)) (arg-same i h)
+  node-same i h number = ap (λ (a : ℕ). nnum (constantOf a)) (arg-same i h)
   node-same i h truthK = ap (λ (a : ℕ). ntruth (eqb a 1)) (arg-same i h)
   node-same i h nameK = ap (λ (a : ℕ). nameBy s′ i (binderWord s′ a)) (arg-same i h) ∙ ap (nameBy s′ i) (binder-same (argAt s i)) ∙ name-same i (binderWord s (argAt s i)) h
   node-same i h fieldK = ap (λ (a : ℕ). above i (nfield a (i - 1))) (arg-same i h)

@@ -11,7 +11,8 @@ use Rattle.spec_calculus.specs.Syntax.{choice, Term, Terms, Quals, num, truth, 
 use Rattle.spec_calculus.proofs.Truths.{both}
 use Rattle.spec_checks.specs.Scope.{Scope, inScope, inScopes, inScopeQ, distinct, binders, namesHold}
 use Rattle.spec_encoding.specs.Reader.{Kind, comprehension}
-use Rattle.front_words.specs.NodeTree.{numberOf, monoidAt, argAt, startAt}
+use Rattle.front_words.specs.NodeTree.{monoidAt, argAt, startAt}
+use Rattle.base_syntax.specs.Numbers.{constantOf}
 use Rattle.front_words.specs.LaidTree.{nodes, nodesL, nodesQ, countL, Node, Laid, LaidL, LaidQ}
 use Rattle.front_words.proofs.NodeWords.{some-nodes, laid-start, truth-bit}
 use Rattle.front_theory.specs.NodeTable as No
@@ -146,7 +147,7 @@ mutual
   holds : (t : Term) (s : List ℕ) (D a i : ℕ) (S : Slots) (σ : Scope) → Laid s D a t → i + 1 ≡ a + nodes t → i < mostNodes → D + nesting t ≤ levels → BindersAt s a t → inScope t σ ≡ true → Agrees s a S σ → HoldsT s t i D S
   holds (num z) s D a i S σ L e h n B I A =
       let q : a ≡ i = omega arith in
-      node-is (node-at q (L .0)) h ∙ ap (λ (j : ℕ). No.nnum (numberOf (argAt s j))) (sym q) ∙ ap No.nnum (L .1)
+      node-is (node-at q (L .0)) h ∙ ap (λ (j : ℕ). No.nnum (constantOf (argAt s j))) (sym q) ∙ ap No.nnum (L .1)
   holds (truth b) s D a i S σ L e h n B I A =
       let q : a ≡ i = omega arith in
       node-is (node-at q (L .0)) h ∙ ap (λ (j : ℕ). No.ntruth (eqb (argAt s j) 1)) (sym q) ∙ ap No.ntruth (truth-bit b (L .1))

@@ -4,14 +4,14 @@
 use mathlib.Core.List.{List, [], _∷_, _++_}
 use Prim.Native.Nat.{ℕ, zero, suc, _+_, _-_}
 use lib.Dec.{leb, ltb, eqb}
-use lib.ListN.{getD}
 use Rattle.spec_calculus.specs.Lists.{pick}
 use Rattle.spec_calculus.specs.Syntax.{choice}
 use Rattle.spec_encoding.specs.Reader.{Kind, unknown, number, truthK, nameK, fieldK, record′, not, tableK, comprehension, generator, binding, condition, choiceK, two-terms}
 use Rattle.base_scratch.specs.Map.{mostNodes}
 use Rattle.front_words.specs.Binders.{binderWord}
 use Rattle.front_words.specs.NodeWord.{depthOf, nodeWord}
-use Rattle.front_words.specs.NodeTree.{numberOf, monoidAt, kindAt, argAt, startAt}
+use Rattle.front_words.specs.NodeTree.{monoidAt, kindAt, argAt, startAt}
+use Rattle.base_syntax.specs.Numbers.{constantOf}
 use Rattle.front_theory.specs.NodeTable.{Node, Nodes, nnum, ntruth, nname, nfield, nrec, nbin, nnegate, napp, ncomp, ntable, ngen, nbind, ncond, nbad}
 
 -- how many comprehensions are around node i
@@ -50,7 +50,7 @@ nameBy s i w = pick (ltb 0 w) (pick (leb w i) (pick (ltb 0 (depthAt s (w - 1))) 
 
 -- a node by its kind
 abbrev pub nodeBy : List ℕ → ℕ → Kind → Node
-nodeBy s i number = nnum (numberOf (argAt s i))
+nodeBy s i number = nnum (constantOf (argAt s i))
 nodeBy s i truthK = ntruth (eqb (argAt s i) 1)
 nodeBy s i nameK = nameBy s i (binderWord s (argAt s i))
 nodeBy s i fieldK = above i (nfield (argAt s i) (i - 1))

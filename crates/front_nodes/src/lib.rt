@@ -3,7 +3,7 @@ ghost use mathlib.Core.Path.{_≡_};
 ghost use Prim.Native.Nat.{_-_, _<_};
 ghost use lib.ListN.{getD};
 ghost use Rattle.spec_encoding.specs.Reader.{kinds, unknown};
-ghost use Rattle.front_words.specs.NodeTree.{numberOf};
+ghost use Rattle.base_syntax.specs.Numbers.{constantOf};
 ghost use Rattle.front_nodes.specs.NodeTable.{depthAt};
 ghost use Rattle.front_nodes.specs.Look.{kindNamed, LookPost, NamedPost, RaisedPost, ChildPost, BoundByPost};
 use base_scratch::MOST_NODES;
@@ -89,7 +89,7 @@ fn kind_of(k: u64) -> Kind
 
 fn number(a: u64) -> i64
     requires { ⌜ a < 8589934592 ⌝ }
-    ensures { λ r. ⌜ r ≡ numberOf a ⌝ }
+    ensures { λ r. ⌜ r ≡ constantOf a ⌝ }
 {
     a as i64 - OFFSET
 }

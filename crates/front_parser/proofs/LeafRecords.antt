@@ -15,7 +15,8 @@ use Rattle.spec_encoding.specs.Record.{Bytes, Result, refused, require, byte, t
 use Rattle.spec_encoding.specs.Reader.{Kind, kinds, unknown, number, truthK, nameK, tableK, Reader, term, yields, noMore, content, atRecord, readPart}
 use Rattle.base_scratch.specs.Map.{nodesAt}
 use Rattle.front_words.specs.NodeWord.{pack}
-use Rattle.front_words.specs.NodeTree.{numberOf, argAt}
+use Rattle.front_words.specs.NodeTree.{argAt}
+use Rattle.base_syntax.specs.Numbers.{constantOf}
 use Rattle.front_words.specs.LaidTree.{nodes, Node, Laid}
 use Rattle.front_words.proofs.NodeWords.{put-is, put-arg}
 use Rattle.front_parser.specs.ReaderScratch.{Kept, FinishPre, FinishPost}
@@ -181,7 +182,7 @@ signed-by x = go (ltb x 2147483648)
     go true = refl
     go false = refl
 
-number-by : (a : ℕ) → numberOf a ≡ pick (ltb a 2147483648) (negsuc (2147483647 - a)) (pos (a - 2147483648))
+number-by : (a : ℕ) → constantOf a ≡ pick (ltb a 2147483648) (negsuc (2147483647 - a)) (pos (a - 2147483648))
 unfolding pick
 number-by a = go (ltb a 2147483648)
   where
@@ -189,13 +190,13 @@ number-by a = go (ltb a 2147483648)
     go true = refl
     go false = refl
 
-small-number : (x : ℕ) → x < 2147483648 → signed x ≡ numberOf (x + 2147483648)
+small-number : (x : ℕ) → x < 2147483648 → signed x ≡ constantOf (x + 2147483648)
 unfolding pick
 small-number x h =
     signed-by x ∙ ap (λ (b : Bool). pick b (pos x) (negsuc (4294967295 - x))) (lt-ltb x 2147483648 h) ∙ ap pos (omega arith) ∙
     sym (number-by (x + 2147483648) ∙ ap (λ (b : Bool). pick b (negsuc (2147483647 - (x + 2147483648))) (pos (x + 2147483648 - 2147483648))) (le-ltb (x + 2147483648) 2147483648 (omega arith)))
 
-large-number : (x : ℕ) → 2147483648 ≤ x → x < 4294967296 → signed x ≡ numberOf (x - 2147483648)
+large-number : (x : ℕ) → 2147483648 ≤ x → x < 4294967296 → signed x ≡ constantOf (x - 2147483648)
 unfolding pick
 large-number x h k =
     signed-by x ∙ ap (λ (b : Bool). pick b (pos x) (negsuc (4294967295 - x))) (le-ltb x 2147483648 h) ∙ ap negsuc (omega arith) ∙
@@ -205,12 +206,12 @@ pub number-broken : {c : Bytes} → (length c ≡ 4 → ⊥) → Valued number c
 unfolding content require
 number-broken {c} h = record { is = λ R q n. rw (ne-eqb (length c) 4 h) }
 
-number-is : {c : Bytes} {a : ℕ} → length c ≡ 4 → signed (four c 0) ≡ numberOf a → a < 8589934592 → Valued number c (ArgumentRead.Is a)
+number-is : {c : Bytes} {a : ℕ} → length c ≡ 4 → signed (four c 0) ≡ constantOf a → a < 8589934592 → Valued number c (ArgumentRead.Is a)
 unfolding content require
 number-is {c} {a} h e b =
     record {
       is = record {
-        tree = num (numberOf a);
+        tree = num (constantOf a);
         leaf = a-number a;
         is = λ R q n. rw (eq-eqb (length c) 4 h) (ap (λ z. yields (term (num z)) [] n) e);
         small = b;
@@ -308,7 +309,7 @@ leaf-one (a-name a) = refl
 leaf-one (a-table a) = refl
 
 leaf-laid : {K : Kind} {a : ℕ} {t : Term} {s : List ℕ} {d i : ℕ} → Leaf K a t → Node s d i i K → argAt s i ≡ a → Laid s d i t
-leaf-laid (a-number a) N e = (N, ap numberOf e)
+leaf-laid (a-number a) N e = (N, ap constantOf e)
 leaf-laid (a-truth b) N e = (N, e)
 leaf-laid (a-name a) N e = (N, e)
 leaf-laid (a-table a) N e = (N, e)

@@ -33,7 +33,6 @@ use Rattle.front_parser.specs.declared.value.ContentKind.{ContentKind}
 use Rattle.front_parser.specs.declared.value.ContentKind.the-variants as ContentKind
 use Rattle.front_parser.specs.declared.value.Ahead.{Ahead}
 use Rattle.front_parser.specs.declared.value.Ahead.the-variants as Ahead
-use Rattle.front_parser.specs.declared.value.ArgumentRead.{ArgumentRead}
 use Rattle.front_parser.proofs.LeafRecords.{kept-refl, stops-refuses}
 
 -- ---- parts of the bytes: what stands behind so many bytes, and a record's content

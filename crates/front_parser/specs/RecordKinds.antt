@@ -9,7 +9,7 @@ use Rattle.spec_calculus.specs.Lists.{pick}
 use Rattle.spec_calculus.specs.Syntax.{Bin, Term, num, truth, name, table}
 use Rattle.spec_encoding.specs.Record.{Bytes, refused, byte, two}
 use Rattle.spec_encoding.specs.Reader.{Kind, kinds, unknown, number, truthK, nameK, fieldK, record′, not, tableK, comprehension, generator, binding, condition, choiceK, two-terms, Reader, term, yields, content}
-use Rattle.front_words.specs.NodeTree.{numberOf}
+use Rattle.base_syntax.specs.Numbers.{constantOf}
 use Rattle.front_parser.specs.declared.value.ContentKind.{ContentKind}
 use Rattle.front_parser.specs.declared.value.ContentKind.the-variants as ContentKind
 use Rattle.front_parser.specs.declared.value.Ahead.{Ahead}
@@ -75,7 +75,7 @@ pub record Fixed (skip : ℕ) (c : Bytes) (r : ArgumentRead) : Type 0 where
 
 -- a term without terms inside, and its node's argument
 pub data Leaf : Kind → ℕ → Term → Type 0 where
-  a-number : (a : ℕ) → Leaf number a (num (numberOf a))
+  a-number : (a : ℕ) → Leaf number a (num (constantOf a))
   a-truth : (b : Bool) → Leaf truthK (pick b 1 0) (truth b)
   a-name : (a : ℕ) → Leaf nameK a (name a)
   a-table : (a : ℕ) → Leaf tableK a (table a)

@@ -6,6 +6,7 @@ mod value;
 ghost use mathlib.Core.Path.{_≡_};
 ghost use Prim.Native.Nat.{_+_, _≤_, _<_};
 ghost use lib.ListN.{length};
+ghost use Rattle.base_scratch.specs.Map.{scratchSize};
 ghost use Rattle.front_parser.specs.ReaderScratch.{Room};
 ghost use Rattle.front_parser.specs.ReaderContracts.{behindOf, TermPost, TermsPost, CompoundPost, ContentRead, headOf, QualifierPost, PartsPost, ComprehensionPost, ReadQuestionPost};
 use base_refusals::BROKEN_RECORD;
@@ -250,7 +251,7 @@ fn as_head(r: TermFront) -> Item
 
 // "A question is one record of kind 14", and nothing behind it.
 pub fn read_question(l: &[u8], s: &mut [u64]) -> Read
-    requires { ⌜ 8192 ≤ length (now s) ⌝ }
+    requires { ⌜ scratchSize ≤ length (now s) ⌝ }
     ensures { λ r. ⌜ ReadQuestionPost (now (l .entry)) (now (s .entry)) (now (s .exit)) r ⌝ }
 {
     if QUESTION_BYTES < l.len() {

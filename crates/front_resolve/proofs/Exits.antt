@@ -39,7 +39,7 @@ use Rattle.front_resolve.specs.declared.Form.the-variants.{Number, Truth
 use Rattle.front_resolve.specs.declared.Head.{Head}
 use Rattle.front_resolve.specs.declared.Next.{Next}
 use Rattle.front_resolve.specs.declared.Next.the-variants as Ne
-use Rattle.front_resolve.specs.Place.{Place, under, odd, bit, envOf, offsets, semN, formSem, FormAt, Fine, From, Heads, FollowPost, SplicePost, Projected, Steps, Stepped, ProjectPost, formFor}
+use Rattle.front_resolve.specs.Place.{Place, under, odd, bit, envOf, offsets, semN, formSem, FormAt, Fine, From, Heads, FollowPost, SplicePost, Projected, Steps, Stepped, formFor}
 use Rattle.base_syntax.specs.Numbers.{binOf}
 
 abbrev pub place : Form → ℕ → ℕ → List ℕ → Place

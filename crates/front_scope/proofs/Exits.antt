@@ -15,7 +15,7 @@ use Rattle.spec_checks.specs.Scope.{namesHold}
 use Rattle.front_words.specs.LaidTree.{nodes, Laid}
 use Rattle.front_words.proofs.NodeWords.{laid-tree}
 use Rattle.front_words.specs.NodeTree.{kindAt, argAt, startAt, termBy, qualBy, treeAt, termsAt, qualsAt}
-use Rattle.front_scope.specs.ScopePass.{Names, names, Full, Small, fresh, uses, binds, leaves, passTerm, passTerms, passQuals}
+use Rattle.front_scope.specs.ScopePass.{Names, names, Full, Small, fresh, binds, leaves, passTerm, passTerms, passQuals}
 use Rattle.front_scope.proofs.PassIsScope.{pass-is}
 use Rattle.front_scope.proofs.KindNumbers.{code, two-code}
 use Rattle.front_scope.specs.PassContract.{TermPost, LeafPost, OperandsPost, ComprehensionPost, TermsPost, QualsPost, QualifierPost, NamesHoldPost}

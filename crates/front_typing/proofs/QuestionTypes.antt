@@ -13,7 +13,8 @@ use Rattle.spec_encoding.specs.Data.{readData}
 use Rattle.spec_encoding.specs.Record.{Bytes, got}
 use Rattle.front_theory.specs.QuestionNodes.{noNames, Holds}
 use Rattle.base_tables.specs.DataReader.{Stored}
-use Rattle.base_tables.proofs.ReadData.{tables-most}
+use Rattle.spec_calculus.proofs.WellFormed.{number-few}
+use Rattle.spec_encoding.proofs.Data.{read-well-formed}
 use Rattle.base_tables.proofs.TableWords.{by-number, present-is, described-in}
 use Rattle.front_typing.specs.ShapeWords.{collectionBy, knownIn, Judges}
 use Rattle.front_typing.proofs.ShapesOfTypes.{Knows}
@@ -22,7 +23,7 @@ use Rattle.front_typing.proofs.ShapeWords.{types-fit-is, generators-fit
 -- the tables of the data d and a question of n nodes are in s, whose nodes hold it
 pub record Checked (d : Bytes) (T : Tables) (q : Question) (s : List ℕ) (n : ℕ) : Type 0 where
   pub tables : readData d ≡ got T
-  pub stored : Stored d T s
+  pub stored : Stored d s
   pub some : 1 ≤ n
   pub most : n ≤ 256
   pub long : sizesAt ≤ length s
@@ -40,8 +41,8 @@ module _ {d : Bytes} {T : Tables} {q : Question} {s : List ℕ} {n : ℕ} (C : C
 
   -- "25: a type, field or table that does not fit."
   pub types-fit : {s′ : List ℕ} {r : Bool} → Judges false s n s′ r → r ≡ typesFit T q
-  types-fit J = types-fit-is T (tables-most d (C .tables)) s (C .long) knows n (C .some) (C .most) J (C .depth) q (C .holds)
+  types-fit J = types-fit-is T (number-few (read-well-formed d (C .tables))) s (C .long) knows n (C .some) (C .most) J (C .depth) q (C .holds)
 
   -- "26: a generator its monoid may not have."
   pub generators-fit : {s′ : List ℕ} {r : Bool} → Judges true s n s′ r → r ≡ generatorsFit T q
-  generators-fit J = generators-fit-is T (tables-most d (C .tables)) s (C .long) knows n (C .some) (C .most) J (C .depth) q (C .holds)
+  generators-fit J = generators-fit-is T (number-few (read-well-formed d (C .tables))) s (C .long) knows n (C .some) (C .most) J (C .depth) q (C .holds)

@@ -10,7 +10,7 @@ use lib.Seq.{getD-set-same, getD-set-other}
 use borrow.Author.Tests.{lt-ltb, eqb-true, eqb-false}
 use Rattle.spec_calculus.specs.Lists.{pick}
 use Rattle.spec_calculus.specs.Syntax.{Question, asTerm}
-use Rattle.spec_calculus.specs.Value.{Tables}
+use Rattle.spec_calculus.specs.Value.{Tables, isThere}
 use Rattle.spec_checks.specs.Types.{wrong, typeOf, isTyped, typesFit, generatorsFit}
 use Rattle.front_nodes.specs.NodeTable.{nodesOf}
 use Rattle.front_nodes.proofs.PostOrder.{post-order}
@@ -59,7 +59,7 @@ read-back (Row k) h = read-numbered 4 k (omega arith) h
 read-back (Table k) h = read-numbered 5 k (omega arith) h
 read-back (Coll j) h = read-numbered 6 j (omega arith) h
 
-module _ (b : Bool) (T : Tables) (few : length T ≤ 8) (s : List ℕ) (long : sizesAt ≤ length s) (K : Knows (knownIn s) T) where
+module _ (b : Bool) (T : Tables) (few : (k : ℕ) → isThere T k ≡ true → k < 8) (s : List ℕ) (long : sizesAt ≤ length s) (K : Knows (knownIn s) T) where
   abbrev N : Nodes
   N = nodesOf s
 
@@ -103,8 +103,8 @@ module _ (b : Bool) (T : Tables) (few : length T ≤ 8) (s : List ℕ) (long : s
   small i h Number r = tt
   small i h Truth r = tt
   small i h (Record j) r = omega (arith, r .1)
-  small i h (Row k) r = omega (arith, r .0 .0)
-  small i h (Table k) r = omega (arith, r .0 .0)
+  small i h (Row k) r = omega (arith, few k (r .0 .0))
+  small i h (Table k) r = omega (arith, few k (r .0 .0))
   small i h (Coll j) r = omega (arith, r .1)
 
   stored : (i : ℕ) → i < 256 → (a : TypeHead) → shapeOf b (upTo i) i ≡ a → Right i a → Right i (shapesIn (upTo (suc i)) i)
@@ -135,13 +135,13 @@ module _ (b : Bool) (T : Tables) (few : length T ≤ 8) (s : List ℕ) (long : s
       ap isTyped (question-type (rules b) T N (post-order s) dep q (n - 1) H)
 
 -- "25: a type, field or table that does not fit."
-pub types-fit-is : (T : Tables) → length T ≤ 8 → (s : List ℕ) → sizesAt ≤ length s → Knows (knownIn s) T → {s′ : List ℕ} {r : Bool} (n : ℕ) → 1 ≤ n → n ≤ 256 → Judges false s n s′ r →
+pub types-fit-is : (T : Tables) → ((k : ℕ) → isThere T k ≡ true → k < 8) → (s : List ℕ) → sizesAt ≤ length s → Knows (knownIn s) T → {s′ : List ℕ} {r : Bool} (n : ℕ) → 1 ≤ n → n ≤ 256 → Judges false s n s′ r →
     (dep : ℕ → ℕ) (q : Question) → Holds (nodesOf s) dep (asTerm q) (n - 1) 0 noNames → r ≡ typesFit T q
 unfolding typesFit
 types-fit-is T few s long K n some most J dep q H = answer-is false T few s long K n some most J dep q H
 
 -- "26: a generator its monoid may not have."
-pub generators-fit-is : (T : Tables) → length T ≤ 8 → (s : List ℕ) → sizesAt ≤ length s → Knows (knownIn s) T → {s′ : List ℕ} {r : Bool} (n : ℕ) → 1 ≤ n → n ≤ 256 → Judges true s n s′ r →
+pub generators-fit-is : (T : Tables) → ((k : ℕ) → isThere T k ≡ true → k < 8) → (s : List ℕ) → sizesAt ≤ length s → Knows (knownIn s) T → {s′ : List ℕ} {r : Bool} (n : ℕ) → 1 ≤ n → n ≤ 256 → Judges true s n s′ r →
     (dep : ℕ → ℕ) (q : Question) → Holds (nodesOf s) dep (asTerm q) (n - 1) 0 noNames → r ≡ generatorsFit T q
 unfolding generatorsFit
 generators-fit-is T few s long K n some most J dep q H = answer-is true T few s long K n some most J dep q H

@@ -5,12 +5,10 @@ use mathlib.Core.Bool.{Bool, true, false, _&&_}
 use Prim.Native.Nat.{ℕ, zero, suc, _≤_, _<_}
 use native.Mathlib.Omega.{arith}
 use lib.Dec.{ltb, leb·zero, leb·suc-zero, leb·suc-suc}
-use lib.ListN.{length}
-use borrow.Author.Tests.{ltb-true}
 use Rattle.spec_calculus.specs.Lists.{pick}
 use Rattle.spec_calculus.specs.Syntax as Sy
 use Rattle.spec_calculus.specs.Syntax.{Collection, Monoid, of, sum, max, some, all, Bin, plus, minus, times, equal, less, and, or, Fun, choice}
-use Rattle.spec_calculus.specs.Value.{Tables, kindOf, columnsOf}
+use Rattle.spec_calculus.specs.Value.{Tables, kindOf, columnsOf, isThere}
 use Rattle.spec_checks.specs.Types.{Ty, Tys, number, truth, record′, coll, ynil, Typed, wrong, has, Typeds, wrongs, hass, cells, typeAt, fieldType, ofNumber, ofTruth, binType, ofThree, choiceType, appType, gathers, compType, ranges, typedAs, record″, allTyped, consType, isTyped}
 use Rattle.spec_checks.proofs.Judgement.{cons-typed}
 use Rattle.front_theory.specs.NodeTable.{Node, Nodes, nnum, ntruth, nname, nfield, nrec, nbin, nnegate, napp, ncomp, ntable, ngen, nbind, ncond, nbad, Below, Inside, PostOrder}
@@ -22,9 +20,9 @@ use Rattle.front_typing.proofs.NodeTypes.{node-type}
 
 -- what is known of the tables is right
 pub record Knows (I : Known) (T : Tables) : Type 0 where
-  pub has : (k : ℕ) → I .has k ≡ ltb k (length T)
-  pub columns : (k : ℕ) → k < length T → I .columns k ≡ columnsOf T k
-  pub kind : (k : ℕ) → k < length T → I .kind k ≡ kindOf T k
+  pub has : (k : ℕ) → I .has k ≡ isThere T k
+  pub columns : (k : ℕ) → isThere T k ≡ true → I .columns k ≡ columnsOf T k
+  pub kind : (k : ℕ) → isThere T k ≡ true → I .kind k ≡ kindOf T k
 
 both-tests : (a b : Bool) (t : Typed) → pick a (pick b t wrong) wrong ≡ pick (a && b) t wrong
 unfolding pick
@@ -139,8 +137,8 @@ module _ (J : Rule) (T : Tables) (N : Nodes) where
   Rep Number u = u ≡ has number
   Rep Truth u = u ≡ has truth
   Rep (Record j) u = (cs : List ℕ) × (ts : Tys) × (N j ≡ nrec cs) × (typesBy τ cs ≡ hass ts) × (u ≡ has (record′ ts))
-  Rep (Row k) u = (k < length T) × (u ≡ has (record′ (cells (columnsOf T k))))
-  Rep (Table k) u = (k < length T) × (u ≡ has (coll (kindOf T k) (record′ (cells (columnsOf T k)))))
+  Rep (Row k) u = (isThere T k ≡ true) × (u ≡ has (record′ (cells (columnsOf T k))))
+  Rep (Table k) u = (isThere T k ≡ true) × (u ≡ has (coll (kindOf T k) (record′ (cells (columnsOf T k)))))
   Rep (Coll j) u = (a : Collection) × (cs : List ℕ) × (h : ℕ) × (v : Ty) × (N j ≡ ncomp (of a) cs h) × (τ h ≡ has v) × (u ≡ has (coll a v))
 
   -- the node that it refers to stands at i or before it
@@ -430,10 +428,10 @@ module _ (J : Rule) (T : Tables) (N : Nodes) where
 
       rep-table : (k : ℕ) → Rep (pick (I .has k) (Table k) Wrong) (tableType T k)
       unfolding pick
-      rep-table k = subst (λ b. Rep (pick b (Table k) Wrong) (tableType T k)) (sym (K .has k)) (go (ltb k (length T)) refl)
+      rep-table k = subst (λ b. Rep (pick b (Table k) Wrong) (tableType T k)) (sym (K .has k)) (go (isThere T k) refl)
         where
-          go : (b : Bool) → ltb k (length T) ≡ b → Rep (pick b (Table k) Wrong) (pick b (has (coll (kindOf T k) (record′ (cells (columnsOf T k))))) wrong)
-          go true e = (ltb-true k (length T) e, refl)
+          go : (b : Bool) → isThere T k ≡ b → Rep (pick b (Table k) Wrong) (pick b (has (coll (kindOf T k) (record′ (cells (columnsOf T k))))) wrong)
+          go true e = (e, refl)
           go false e = refl
 
       before : (c : ℕ) → c < i → Rep (σ c) (τ c) × Within i (σ c)

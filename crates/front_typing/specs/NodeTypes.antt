@@ -3,11 +3,9 @@
 use mathlib.Core.List.{List, [], _∷_}
 use mathlib.Core.Bool.{Bool, true}
 use Prim.Native.Nat.{ℕ, zero, suc}
-use lib.Dec.{ltb}
-use lib.ListN.{length}
 use Rattle.spec_calculus.specs.Lists.{pick}
 use Rattle.spec_calculus.specs.Syntax.{Collection, Monoid}
-use Rattle.spec_calculus.specs.Value.{Tables, kindOf, columnsOf}
+use Rattle.spec_calculus.specs.Value.{Tables, kindOf, columnsOf, isThere}
 use Rattle.spec_checks.specs.Types.{Typed, wrong, has, Typeds, hass, ynil, record′, coll, cells, number, truth, fieldType, ofTruth, binType, appType, compType, ranges, typedAs, record″, allTyped, consType}
 use Rattle.front_theory.specs.NodeTable.{Node, Nodes, nnum, ntruth, nname, nfield, nrec, nbin, nnegate, napp, ncomp, ntable, ngen, nbind, ncond, nbad}
 
@@ -40,9 +38,9 @@ unfoldable pub behindQuals : Rule → Nodes → (ℕ → Typed) → Monoid → L
 behindQuals J N τ m [] t = t
 behindQuals J N τ m (c ∷ cs) t = behindQual J τ m (N c) (behindQuals J N τ m cs t)
 
--- "25: .. table that does not fit"
+-- "25: .. table that does not fit"; "naming an absent number is 25" (document 02, E9)
 abbrev pub tableType : Tables → ℕ → Typed
-tableType T k = pick (ltb k (length T)) (has (coll (kindOf T k) (record′ (cells (columnsOf T k))))) wrong
+tableType T k = pick (isThere T k) (has (coll (kindOf T k) (record′ (cells (columnsOf T k))))) wrong
 
 -- a node's type, where τ has the types of the nodes before it
 abbrev pub typeBy : Rule → Tables → Nodes → (ℕ → Typed) → Node → Typed

@@ -6,8 +6,8 @@ use mathlib.Core.Bool.{Bool, true, false}
 use Prim.Native.Nat.{ℕ, zero, suc, _+_, _-_, _*_, _≤_, _<_, min}
 use native.Mathlib.Omega.{arith}
 use native.Mathlib.Nat.{add-zero, add-assoc}
-use lib.ListN.{getD, length, set, List·getD-eq-default}
-use lib.Seq.{getD-set-same, set-out}
+use lib.ListN.{getD, length, set}
+use lib.Seq.{getD-set-same}
 use lib.Dec.{eqb, leb}
 use borrow.Author.Tests.{le-leb, lt-leb, lt-ltb, le-ltb}
 use Rattle.spec_calculus.specs.Lists.{pick}
@@ -16,7 +16,8 @@ use Rattle.spec_encoding.specs.Reader.{Kind, kinds, unknown, number, truthK, na
 use Rattle.base_scratch.specs.Map.{nodesAt, bindersAt, names}
 use Rattle.front_words.specs.Binders.{binderWord}
 use Rattle.front_words.specs.NodeWord.{kindOf, argOf, startOf, depthOf, pack, nodeWord}
-use Rattle.front_words.specs.NodeTree.{numberOf, monoidAt, kindAt, argAt, startAt, termBy, qualBy, treeAt, termsAt, qualsAt}
+use Rattle.front_words.specs.NodeTree.{monoidAt, kindAt, argAt, startAt, termBy, qualBy, treeAt, termsAt, qualsAt}
+use Rattle.base_syntax.specs.Numbers.{constantOf}
 use Rattle.front_words.specs.LaidTree.{nodes, nodesL, nodesQ, Node, Laid, LaidL, LaidQ}
 
 -- ---- unpacking a packed word
@@ -47,7 +48,7 @@ module _ (s s′ : List ℕ) (b : ℕ) (some : 1 ≤ b) (same : (i : ℕ) → i 
   module _ {T T′ : ℕ → Term} {L L′ : ℕ → ℕ → Terms → Terms} {Q Q′ : ℕ → ℕ → Quals → Quals} (hT : (e : ℕ) → e ≤ b → T′ e ≡ T e)
       (hL : (lo e : ℕ) (ts : Terms) → e ≤ b → L′ lo e ts ≡ L lo e ts) (hQ : (lo e : ℕ) (qs : Quals) → e ≤ b → Q′ lo e qs ≡ Q lo e qs) where
     term-by-same : (i : ℕ) → i < b → (K : Kind) → termBy T′ L′ Q′ s′ i K ≡ termBy T L Q s i K
-    term-by-same i h number = ap (λ (a : ℕ). num (numberOf a)) (arg-same i h)
+    term-by-same i h number = ap (λ (a : ℕ). num (constantOf a)) (arg-same i h)
     term-by-same i h truthK = ap (λ (a : ℕ). truth (eqb a 1)) (arg-same i h)
     term-by-same i h nameK = ap name (arg-same i h)
     term-by-same i h fieldK = ap₂ field (arg-same i h) (hT i (omega arith))
@@ -120,7 +121,7 @@ module _ (s s′ : List ℕ) (b : ℕ) (same : (i : ℕ) → i < b → nodeWord 
     unfolding nodes
 
     pub laid-same : (t : Term) (d a : ℕ) → a + nodes t ≤ b → Laid s d a t → Laid s′ d a t
-    laid-same (num z) d a h L = let e = same a (omega arith) in (node-same e (L .0), ap (λ (w : ℕ). numberOf (argOf w)) e ∙ L .1)
+    laid-same (num z) d a h L = let e = same a (omega arith) in (node-same e (L .0), ap (λ (w : ℕ). constantOf (argOf w)) e ∙ L .1)
     laid-same (truth x) d a h L = let e = same a (omega arith) in (node-same e (L .0), ap argOf e ∙ L .1)
     laid-same (name x) d a h L = let e = same a (omega arith) in (node-same e (L .0), ap argOf e ∙ L .1)
     laid-same (field i t) d a h L =

@@ -7,7 +7,8 @@ use Rattle.spec_calculus.specs.Lists.{pick}
 use Rattle.spec_calculus.specs.Syntax.{Fun, choice, Term, Terms, Quals, num, truth, name, field, rec, bin, negate, app, comp, table, tnil, tcons, qnil, gen, bind, cond}
 use Rattle.spec_encoding.specs.Reader.{Kind, number, truthK, nameK, fieldK, record′, not, tableK, comprehension, generator, binding, condition, choiceK, two-terms}
 use Rattle.front_words.specs.NodeWord.{startOf, depthOf, nodeWord}
-use Rattle.front_words.specs.NodeTree.{numberOf, monoidAt, kindAt, argAt}
+use Rattle.front_words.specs.NodeTree.{monoidAt, kindAt, argAt}
+use Rattle.base_syntax.specs.Numbers.{constantOf}
 
 -- every term, comprehension and qualifier is a node
 unfoldable mutual
@@ -51,7 +52,7 @@ pub record Node (s : List ℕ) (d a i : ℕ) (K : Kind) : Type 0 where
 -- qualifiers and the head of a comprehension one more than it.
 abbrev mutual
   pub Laid : List ℕ → ℕ → ℕ → Term → Type 0
-  Laid s d a (num z) = Node s d a a number × (numberOf (argAt s a) ≡ z)
+  Laid s d a (num z) = Node s d a a number × (constantOf (argAt s a) ≡ z)
   Laid s d a (truth b) = Node s d a a truthK × (argAt s a ≡ pick b 1 0)
   Laid s d a (name x) = Node s d a a nameK × (argAt s a ≡ x)
   Laid s d a (field i t) = Laid s d a t × Node s d a (a + nodes t) fieldK × (argAt s (a + nodes t) ≡ i)

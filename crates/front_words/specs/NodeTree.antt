@@ -2,21 +2,16 @@
 -- a child c ends where c's subtree begins. Every word is read as something, so this is total; `e` is the place behind a
 -- node. Where a tree lies in the words (LaidTree), fuel of twice e is enough.
 use mathlib.Core.List.{List}
-use mathlib.Core.Bool.{true, false}
 use Prim.Native.Nat.{ℕ, zero, suc, _-_, min}
-use lib.Dec.{leb, ltb, eqb}
+use lib.Dec.{leb, eqb}
 use lib.ListN.{getD}
-use lib.IntN.{ℤ, pos, negsuc}
+use lib.IntN.{pos}
 use Rattle.spec_calculus.specs.Lists.{pick}
 use Rattle.spec_calculus.specs.Syntax.{Monoid, choice, Term, Terms, Quals, num, truth, name, field, rec, bin, negate, app, comp, table, tnil, tcons, qnil, gen, bind, cond}
 use Rattle.spec_encoding.specs.Reader.{Kind, kinds, unknown, number, truthK, nameK, fieldK, record′, not, tableK, comprehension, generator, binding, condition, choiceK, two-terms}
 use Rattle.base_syntax.specs.MonoidWord.{monoidOf}
-use Rattle.base_syntax.specs.Numbers.{monoidNumbered}
+use Rattle.base_syntax.specs.Numbers.{monoidNumbered, constantOf}
 use Rattle.front_words.specs.NodeWord.{kindOf, argOf, startOf, nodeWord}
-
--- a number is kept as its distance from -2^31
-abbrev pub numberOf : ℕ → ℤ
-numberOf a = elim (ltb a 0x80000000) [ true ↦ negsuc (0x7fffffff - a) | false ↦ pos (a - 0x80000000) ]
 
 -- monoids 1 to 8
 abbrev pub monoidAt : ℕ → Monoid
@@ -34,7 +29,7 @@ startAt s i = min (startOf (nodeWord s i)) i
 
 -- a term by its kind; T reads the subtree that ends at a place, L the terms and Q the qualifiers between two places
 abbrev pub termBy : (ℕ → Term) → (ℕ → ℕ → Terms → Terms) → (ℕ → ℕ → Quals → Quals) → List ℕ → ℕ → Kind → Term
-termBy T L Q s i number = num (numberOf (argAt s i))
+termBy T L Q s i number = num (constantOf (argAt s i))
 termBy T L Q s i truthK = truth (eqb (argAt s i) 1)
 termBy T L Q s i nameK = name (argAt s i)
 termBy T L Q s i fieldK = field (argAt s i) (T i)

@@ -6,7 +6,7 @@ use native.Mathlib.Omega.{arith}
 use borrow.Author.Tests.{lt-leb, le-leb}
 use lib.ListN.{length, drop, getD}
 use Rattle.spec_encoding.specs.Record.{Bytes, require}
-use Rattle.base_scratch.specs.Map.{unusedAt}
+use Rattle.base_scratch.specs.Map.{scratchSize}
 use Rattle.form_words.specs.FormTree.{left}
 use Rattle.spec_plan.specs.Planner.{planOf}
 use Rattle.spec_plan.specs.Lines.{lines}
@@ -47,7 +47,7 @@ module _ {s s₁ b b₁ : List ℕ} {n : ℕ} (M : MakePlanPost s s₁) (X : Tex
     first : Lays 0 (lines (planOf (a .form))) b 0 b₁ n
     first = lays-as same (X .is 2048 (omega arith))
 
-    behind : (j : ℕ) → unusedAt ≤ j → getD s₁ j 0 ≡ getD s j 0
+    behind : (j : ℕ) → scratchSize ≤ j → getD s₁ j 0 ≡ getD s j 0
     behind j p = M .behind (a .form) (laid P) j (omega arith)
 
   pub print-short : length b₁ < n → PlanLinesPost s b s₁ b₁ Short

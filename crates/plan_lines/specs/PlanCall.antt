@@ -6,7 +6,7 @@ use lib.ListN.{getD}
 use Rattle.spec_encoding.specs.Record.{Bytes}
 use Rattle.spec_outcome.specs.Acceptance.{Accepted}
 use Rattle.spec_outcome.specs.Outcome.{printed}
-use Rattle.base_scratch.specs.Map.{unusedAt}
+use Rattle.base_scratch.specs.Map.{scratchSize}
 use Rattle.form_prepared.specs.PreparedQuestion.{Prepared}
 use Rattle.spec_outcome.specs.Gives.{Settles}
 use Rattle.plan_lines.specs.declared.Printed.{Printed}
@@ -25,4 +25,4 @@ lengthOf (Length n) = n
 -- With whatever question stands in scratch: number, length and bytes are those of its plan's lines. Words from 2,048 on stay.
 pub record PlanLinesPost (s b s′ b′ : List ℕ) (r : Printed) : Type 0 where
   pub is : (d : Bytes) (a : Accepted) → Prepared d a s → Settles (printed b a) b (numberOf r) (lengthOf r) b′
-  pub behind : (d : Bytes) (a : Accepted) → Prepared d a s → (j : ℕ) → unusedAt ≤ j → getD s′ j 0 ≡ getD s j 0
+  pub behind : (d : Bytes) (a : Accepted) → Prepared d a s → (j : ℕ) → scratchSize ≤ j → getD s′ j 0 ≡ getD s j 0

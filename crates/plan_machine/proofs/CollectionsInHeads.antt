@@ -1,19 +1,18 @@
 -- Where 25 and 26 pass, a normal form has records and collections in heads only: a condition, an operand and the head of a sum,
 -- max, min, some or all are scalars all the way down.
 use mathlib.Core.Path.{_≡_, refl, sym, subst}
-use mathlib.Core.Bool.{Bool, true, false, _||_}
-use Prim.Native.Nat.{ℕ, zero, suc, _+_}
-use lib.Dec.{eqb}
-use Rattle.spec_calculus.specs.Lists.{upd}
-use Rattle.spec_calculus.specs.Syntax.{Monoid, of, sum, max, min, some, all, Bin, plus, minus, times, equal, less, and, or, Fun, Term, Terms, Quals, name, field, table, tnil, tcons, qnil, bind, Question, asTerm}
+use mathlib.Core.Bool.{Bool, true, false}
+use Prim.Native.Nat.{ℕ, _+_}
+use Rattle.spec_calculus.specs.Syntax.{Monoid, of, sum, max, min, some, all, Bin, plus, minus, times, equal, less, and, or, Fun, Question}
 use Rattle.spec_calculus.specs.Syntax as Sy
-use Rattle.spec_calculus.specs.Value.{Tables, kindOf, columnsOf}
-use Rattle.spec_checks.specs.Types.{Ty, Tys, number, record′, coll, ynil, ycons, wrong, has, cells, typeAt, Context, generatorsFit}
+use Rattle.spec_calculus.specs.Value.{Tables, kindOf}
+use Rattle.spec_checks.specs.Types.{Ty, Tys, number, record′, coll, ynil, ycons, generatorsFit}
 use Rattle.spec_checks.specs.Types as Ty
-use Rattle.spec_checks.proofs.Judgement.{operand, result, Takes, Gathers, Has, HasL, HasQ, untyped, same-type, question-typed}
+use Rattle.spec_checks.proofs.Judgement.{operand, result, Takes, Gathers}
 use Rattle.spec_normal_form.specs.Form.{Form, Forms, Clauses, asForm, num, truth, row, cell, rec, bin, negate, app, comp, fnil, fcons, done, gen, cond, _⊕_, gens, gensC}
-use Rattle.spec_normal_form.specs.Normal.{Sem, Sems, fields, nested, plain, snil, scons, quote, quotes, idempotent, givesWay, condition, ranges, nth, part, binary, applied, before, SemEnv, norm, norms, walk, nowhere, normal}
+use Rattle.spec_normal_form.specs.Normal.{Sem, Sems, nested, plain, snil, scons, quote, quotes, givesWay, condition, ranges, binary, applied, normal}
 use Rattle.spec_normal_form.specs.Normal as Nm
+use Rattle.spec_normal_form.proofs.NormalByType as By
 use Rattle.plan_machine.specs.AnswerText.{collects}
 use Rattle.spec_checks.proofs.Judgement as Jd
 
@@ -77,29 +76,27 @@ clauses-append done r h g = g
 clauses-append (gen x k q) r h g = clauses-append q r h g
 clauses-append (cond t q) r h g = (h .0, clauses-append q r (h .1) g)
 
--- What a term of a type comes to: written out it fits, and so does all that can be made of it.
-abbrev mutual
-  Good : Ty → Sem → Type 0
-  Good number d = (n : ℕ) → Scalar (quote d n)
-  Good Ty.truth d = ((n : ℕ) → Scalar (quote d n)) × ((b : Bool) (n : ℕ) → ScalarC (condition d b n))
-  Good (record′ ts) d = Goods ts (λ i. part i d) × ((n : ℕ) → Fitting (quote d n))
-  Good (coll c τ) d = ((b : Bool) (n : ℕ) → ScalarC (ranges d b n .clauses) × Good τ (ranges d b n .head)) × ((n : ℕ) → Fitting (quote d n))
+-- What is claimed of numbers and of truths; of forms and clauses it is `Fitting` and `ScalarC`.
+abbrev Number : Sem → Type 0
+Number d = (n : ℕ) → Scalar (quote d n)
 
-  Goods : Tys → (ℕ → Sem) → Type 0
-  Goods ynil f = Unit {0}
-  Goods (ycons τ ts) f = Good τ (f 0) × Goods ts (λ i. f (suc i))
+abbrev Truth : Sem → Type 0
+Truth d = ((n : ℕ) → Scalar (quote d n)) × ((b : Bool) (n : ℕ) → ScalarC (condition d b n))
+
+abbrev Good : Ty → Sem → Type 0
+Good τ d = By.Good Number Truth Fitting ScalarC τ d
+
+abbrev GoodL : Tys → Sems → Type 0
+GoodL us ds = By.GoodL Number Truth Fitting ScalarC us ds
+
+number-fits : (d : Sem) → Number d → (n : ℕ) → Fitting (quote d n)
+number-fits d g n = scalar-fitting (quote d n) (g n)
+
+truth-fits : (d : Sem) → Truth d → (n : ℕ) → Fitting (quote d n)
+truth-fits d g n = scalar-fitting (quote d n) (g .0 n)
 
 good-fits : (τ : Ty) (d : Sem) → Good τ d → (n : ℕ) → Fitting (quote d n)
-good-fits number d g n = scalar-fitting (quote d n) (g n)
-good-fits Ty.truth d g n = scalar-fitting (quote d n) (g .0 n)
-good-fits (record′ ts) d g n = g .1 n
-good-fits (coll c τ) d g n = g .1 n
-
-goods-at : (i : ℕ) (ts : Tys) (f : ℕ → Sem) (τ : Ty) → typeAt i ts ≡ has τ → Goods ts f → Good τ (f i)
-unfolding typeAt
-goods-at i ynil f τ e g = untyped e
-goods-at zero (ycons σ ts) f τ e g = subst (λ x. Good x (f 0)) (sym (same-type σ τ e)) (g .0)
-goods-at (suc i) (ycons σ ts) f τ e g = goods-at i ts (λ j. f (suc j)) τ e (g .1)
+good-fits τ d g n = By.written Number Truth Fitting ScalarC number-fits truth-fits τ d g n
 
 -- a truth that is written as one term
 good-truth : (f : ℕ → Form) → ((n : ℕ) → Scalar (f n)) → Good Ty.truth (plain f)
@@ -132,25 +129,8 @@ good-binary less a b g h = good-truth (pairOf less a b) (good-pair less a b g h)
 good-binary and a b g h = (good-pair and a b g h, (λ c n. clauses-append (condition a c n) (condition b c (n + gensC (condition a c n))) (g .1 c n) (h .1 c (n + gensC (condition a c n)))))
 good-binary or a b g h = good-truth (pairOf or a b) (good-pair or a b g h)
 
--- operands, one for one
-abbrev GoodL : Tys → Sems → Type 0
-GoodL ynil snil = Unit {0}
-GoodL ynil (scons d ds) = ⊥
-GoodL (ycons τ us) snil = ⊥
-GoodL (ycons τ us) (scons d ds) = Good τ d × GoodL us ds
-
-goods-of : (us : Tys) (ds : Sems) → GoodL us ds → Goods us (λ i. nth i ds)
-unfolding nth
-goods-of ynil ds g = tt
-goods-of (ycons τ us) snil g = absurd g
-goods-of (ycons τ us) (scons d ds) g = (g .0, goods-of us ds (g .1))
-
 fit-of : (us : Tys) (ds : Sems) → GoodL us ds → (n : ℕ) → FittingF (quotes ds n)
-unfolding quote
-fit-of ynil snil g n = tt
-fit-of ynil (scons d ds) g n = absurd g
-fit-of (ycons τ us) snil g n = absurd g
-fit-of (ycons τ us) (scons d ds) g n = (good-fits τ d (g .0) n, fit-of us ds (g .1) (n + gens (quote d n)))
+fit-of us ds g n = By.all-written Number Truth Fitting ScalarC number-fits truth-fits FittingF tt (λ t ts a b. (a, b)) us ds g n
 
 -- an operator's operands are numbers or truths
 abbrev Plain : Tys → Type 0
@@ -189,16 +169,6 @@ good-choice (coll c τ) ds s h = absurd s
 good-app : (f : Fun) (us : Tys) (τ : Ty) (ds : Sems) → Takes f us τ → GoodL us ds → Good τ (applied f ds)
 good-app Sy.choice us τ ds h g = good-choice τ ds (h .0) (scalars us ds (takes-plain Sy.choice us τ h) g)
 
--- the row of a generator
-cells-good : (g c : ℕ) (f : ℕ → ℕ) → Goods (cells c) (λ i. plain (λ n. cell (f i) g))
-unfolding cells quote
-cells-good g zero f = tt
-cells-good g (suc c) f = ((λ n. tt), cells-good g c (λ i. f (suc i)))
-
-row-good : (g c : ℕ) → Good (record′ (cells c)) (Nm.row g)
-unfolding part quote
-row-good g c = (cells-good g c (λ i. i), (λ n. tt))
-
 -- a comprehension, of which it is known what its clauses and its head come to
 module _ (q : Bool → ℕ → Clauses) (h : Bool → ℕ → Sem) where
   some-condition : ((b : Bool) (n : ℕ) → ScalarC (q b n) × Good Ty.truth (h b n)) → (b : Bool) (n : ℕ) → ScalarC (condition (nested some q h) b n)
@@ -220,60 +190,23 @@ module _ (q : Bool → ℕ → Clauses) (h : Bool → ℕ → Sem) where
       let u : (n : ℕ) → Scalar (quote (nested all q h) n) = λ n. (refl, w false n .0, v n .0 (n + gensC (q false n))) in
       subst (λ x. Good x (nested all q h)) (sym (g .1)) (u, (λ b n. (u n, tt)))
 
-negate-good : (d : Sem) (τ : Ty) → τ ≡ Ty.truth → Good Ty.truth d → Good τ (plain (λ n. negate (quote d n)))
-negate-good d τ e g = subst (λ x. Good x (plain (λ n. negate (quote d n)))) (sym e) (good-truth (λ n. negate (quote d n)) (λ n. g .0 n))
-
--- what names come to
-abbrev GoodEnv : Context → SemEnv → Type 0
-GoodEnv Γ δ = (x : ℕ) (τ : Ty) → Γ x ≡ has τ → Good τ (δ x)
-
-env-more : (Γ : Context) (δ : SemEnv) (x : ℕ) (σ : Ty) (d : Sem) → GoodEnv Γ δ → Good σ d → GoodEnv (upd x (has σ) Γ) (upd x d δ)
-unfolding upd
-env-more Γ δ x σ d e g y τ = go (eqb x y)
-  where
-    go : (b : Bool) → elim b [ true ↦ has σ | false ↦ Γ y ] ≡ has τ → Good τ (elim b [ true ↦ d | false ↦ δ y ])
-    go true h = subst (λ z. Good z d) (sym (same-type σ τ h)) g
-    go false h = e y τ h
-
--- clauses, then what comes behind them
-before-good : (σ : Ty) (w : Clauses) (n : ℕ) (k : ℕ → Nm.Splice) → ScalarC w → ((j : ℕ) → ScalarC (k j .clauses) × Good σ (k j .head)) → ScalarC (before w n k .clauses) × Good σ (before w n k .head)
-unfolding before
-before-good σ w n k h g = (clauses-append w (k (n + gensC w) .clauses) h (g (n + gensC w) .0), g (n + gensC w) .1)
-
-module _ (T : Tables) where
-  mutual
-    unfolding norm part quote ranges
-
-    norm-good : (t : Term) (Γ : Context) (δ : SemEnv) → GoodEnv Γ δ → (τ : Ty) → Has T Γ t τ → Good τ (norm (kindOf T) t δ)
-    norm-good (Sy.num z) Γ δ e τ h = subst (λ x. Good x (plain (λ n. num z))) (sym h) (λ n. tt)
-    norm-good (Sy.truth b) Γ δ e τ h = subst (λ x. Good x (plain (λ n. truth b))) (sym h) (good-truth (λ n. truth b) (λ n. tt))
-    norm-good (name x) Γ δ e τ h = e x τ h
-    norm-good (field i t) Γ δ e τ h = goods-at i (h .0) (λ j. part j (norm (kindOf T) t δ)) τ (h .2) (norm-good t Γ δ e (record′ (h .0)) (h .1) .0)
-    norm-good (Sy.rec ts) Γ δ e τ h =
-        let g = norms-good ts Γ δ e (h .0) (h .1) in
-        subst (λ x. Good x (fields (norms (kindOf T) ts δ))) (sym (h .2)) (goods-of (h .0) (norms (kindOf T) ts δ) g, fit-of (h .0) (norms (kindOf T) ts δ) g)
-    norm-good (Sy.app f ts) Γ δ e τ h = good-app f (h .0) τ (norms (kindOf T) ts δ) (h .2) (norms-good ts Γ δ e (h .0) (h .1))
-    norm-good (Sy.bin o s t) Γ δ e τ h = subst (λ x. Good x (binary o (norm (kindOf T) s δ) (norm (kindOf T) t δ))) (sym (h .2)) (good-binary o (norm (kindOf T) s δ) (norm (kindOf T) t δ) (norm-good s Γ δ e (operand o) (h .0)) (norm-good t Γ δ e (operand o) (h .1)))
-    norm-good (Sy.negate t) Γ δ e τ h = negate-good (norm (kindOf T) t δ) τ (h .1) (norm-good t Γ δ e Ty.truth (h .0))
-    norm-good (Sy.comp m qs u) Γ δ e τ h =
-        nested-good _ _ m (h .1) τ (λ b n. walk-good qs m Γ (h .0) δ e (h .2) (h .1) (b || idempotent m) (λ ε. norm (kindOf T) u ε) (λ ε g. norm-good u (h .0) ε g (h .1) (h .3)) n) (h .4)
-    norm-good (table k) Γ δ e τ h = nested-good (λ b n. gen n k done) (λ b n. Nm.row n) (of (kindOf T k)) (record′ (cells (columnsOf T k))) τ (λ b n. (tt, row-good n (columnsOf T k))) (h .1)
-
-    norms-good : (ts : Terms) (Γ : Context) (δ : SemEnv) → GoodEnv Γ δ → (us : Tys) → HasL T Γ ts us → GoodL us (norms (kindOf T) ts δ)
-    norms-good tnil Γ δ e us h = rw h tt
-    norms-good (tcons t ts) Γ δ e us h = rw (h .4) (norm-good t Γ δ e (h .0) (h .2), norms-good ts Γ δ e (h .1) (h .3))
-
-    walk-good : (qs : Quals) (m : Monoid) (Γ Δ : Context) (δ : SemEnv) → GoodEnv Γ δ → HasQ T m Γ qs Δ → (σ : Ty) (b : Bool) (h : SemEnv → Sem) → ((ε : SemEnv) → GoodEnv Δ ε → Good σ (h ε)) → (n : ℕ)
-        → ScalarC (walk (kindOf T) qs b h δ n .clauses) × Good σ (walk (kindOf T) qs b h δ n .head)
-    walk-good qnil m Γ Δ δ e q σ b h k n = (tt, k δ (subst (λ x. GoodEnv x δ) q e))
-    walk-good (Sy.gen x t qs) m Γ Δ δ e q σ b h k n =
-        let d : Sem = norm (kindOf T) t δ in
-        let r : ScalarC (ranges d b n .clauses) × Good (q .1) (ranges d b n .head) = norm-good t Γ δ e (coll (q .0) (q .1)) (q .2) .0 b n in
-        before-good σ (ranges d b n .clauses) n (λ j. walk (kindOf T) qs b h (upd x (ranges d b n .head) δ) j) (r .0)
-        (λ j. walk-good qs m (upd x (has (q .1)) Γ) Δ (upd x (ranges d b n .head) δ) (env-more Γ δ x (q .1) (ranges d b n .head) e (r .1)) (q .4) σ b h k j)
-    walk-good (bind x t qs) m Γ Δ δ e q σ b h k n = walk-good qs m (upd x (has (q .0)) Γ) Δ (upd x (norm (kindOf T) t δ) δ) (env-more Γ δ x (q .0) (norm (kindOf T) t δ) e (norm-good t Γ δ e (q .0) (q .1))) (q .2) σ b h k n
-    walk-good (Sy.cond t qs) m Γ Δ δ e q σ b h k n =
-        before-good σ (condition (norm (kindOf T) t δ) b n) n (λ j. walk (kindOf T) qs b h δ j) (norm-good t Γ δ e Ty.truth (q .0) .1 b n) (λ j. walk-good qs m Γ Δ δ e (q .1) σ b h k j)
+keeps : By.Keeps Number Truth Fitting ScalarC
+unfolding quote condition
+keeps = record {
+  a-number = λ z n. tt;
+  a-truth = λ b. good-truth (λ n. truth b) (λ n. tt);
+  a-cell = λ i g n. tt;
+  a-row = λ g n. tt;
+  a-record = λ us ds g n. fit-of us ds g n;
+  two = good-binary;
+  negated = λ d g. good-truth (λ n. negate (quote d n)) (λ n. g .0 n);
+  several = good-app;
+  comprehension = nested-good;
+  no-clause = tt;
+  a-generator = λ g k. tt;
+  a-condition = λ d g b n. g .1 b n;
+  appended = clauses-append;
+}
 
 head-fits : (m : Monoid) (σ τ : Ty) (d : Sem) → Gathers m σ τ → Good σ d → (n : ℕ) → Either (collects m) (Fitting (quote d n)) (Scalar (quote d n))
 unfolding collects
@@ -288,8 +221,6 @@ head-fits all σ τ d e g n = subst (λ x. Good x d) (e .0) g .0 n
 pub normal-fitting : (T : Tables) (q : Question) → generatorsFit T q ≡ true → Fitting (asForm (normal (kindOf T) q))
 unfolding normal
 normal-fitting T q e =
-    let h : (τ : Ty) × Has T (λ x. wrong) (asTerm q) τ = question-typed T q e in
-    let (Δ, σ, hq, hh, g) = h .1 in
-    let w : Nm.Splice = walk (kindOf T) (q .quals) (idempotent (q .monoid)) (λ ε. norm (kindOf T) (q .head) ε) nowhere 0 in
-    let s : ScalarC (w .clauses) × Good σ (w .head) = walk-good T (q .quals) (q .monoid) (λ x. wrong) Δ nowhere (λ x τ u. untyped u) hq σ (idempotent (q .monoid)) (λ ε. norm (kindOf T) (q .head) ε) (λ ε u. norm-good T (q .head) Δ ε u σ hh) 0 in
-    (s .0, head-fits (q .monoid) σ (h .0) (w .head) g (s .1) (gensC (w .clauses)))
+    let (σ, τ, g, w, h) = By.question-good Number Truth Fitting ScalarC keeps T q e in
+    let s : Nm.Splice = By.spliced T q in
+    (w, head-fits (q .monoid) σ τ (s .head) g h (gensC (s .clauses)))
