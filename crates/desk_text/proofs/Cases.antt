@@ -1,4 +1,4 @@
--- What is printed, computed: 01's listing from its bytes, an input that has no byte, the least and the greatest word.
+-- What is printed, computed: 01's listing from its bytes, all columns declared 2^31, an input that has no byte, the least and the greatest word.
 use mathlib.Core.Path.{_≡_, refl}
 use mathlib.Core.List.{[], _∷_}
 use Rattle.spec_encoding.specs.Record.{Bytes}
@@ -29,14 +29,14 @@ use Rattle.spec_desk.specs.Desk as Desk
 
 -- all the definitions that the cases compute with
 unfoldable definitions : Unit {0}
-unfolding Lists.bindL Lists.guard Lists.pick Lists.upd Value.count Value.asInt Value.asBool Value.elems Value.nth Value.fieldOf Value.eqZ Value.binV Value.notV Value.kindOf Value.columnsOf Value.rowsOf Order.then Order.compareZ Order.compareB Order.compareV Order.leV Order.insert Order.put Monoid.start Monoid.greater Monoid.against Monoid.step Monoid.total Monoid.finish Monoid.foldBy Monoid.ordered Monoid.canonical Monoid.raw Meaning.eval Meaning.meaning Record.andThen Record.require Record.signed Record.isWhole Data.cells Data.rowsFrom Data.fits Data.tableOf Data.tablesFrom Data.readData Reader.noMore Reader.asTerm Reader.oneTerm Reader.filled Reader.terms Reader.inFront Reader.onPart Reader.parts Reader.comprehends Reader.named Reader.content Reader.atRecord Reader.readPart Reader.readQuestion Scope.inScope Scope.binders Scope.member Scope.distinct Scope.namesHold Types.cells Types.typeAt Types.fieldType Types.ofNumber Types.ofTruth Types.binType Types.gathers Types.compType Types.ranges Types.typedAs Types.record″ Types.consType Types.typeOf Types.mayStand Types.isTyped Types.typesFit Types.generatorsFit Form._⊕_ Form.gens Form.value Form.normalValue Normal.quote Normal.idempotent Normal.givesWay Normal.condition Normal.ranges Normal.nth Normal.part Normal.binary Normal.before Normal.norm Normal.normal Size.nodes Size.sizeFits Bound.ownGens Bound.binBound Bound.compBound Bound.bound Bound.within Bound.numbersFit Planner.free Planner.mentions Planner.next Planner.term Planner.nextL Planner.termL Planner.joined Planner.conj Planner.source Planner.gensOf Planner.condsOf Planner.orUnit Planner.planGens Planner.sift Planner.early Planner.late Planner.slot Planner.slots Planner.after Planner.mentioned Planner.lastOf Planner.home Planner.growsAt Planner.grows Planner.ops Planner.planOf Lines.ascii Lines.digits Lines.decimal Lines.signedDecimal Lines.monoidName Lines.binName Lines.truthName Lines.showTerm Lines.showSource Lines.showLast Lines.showOp Lines.showOps Lines.lines Written.truthWord Written.words Accepted.judge Accepted.examine Outcome.settled Outcome.withScratch Outcome.G Outcome.written Outcome.answered Outcome.checked Outcome.byLoops Outcome.byPlan Outcome.printed Outcome.planLines Split.tableBytes Split.tablesEnd Desk.spaced Desk.answerLine Desk.refusalLine Desk.planAndAnswer Desk.orRefusal Desk.asked Desk.desk
+unfolding Lists.bindL Lists.guard Lists.pick Lists.upd Value.count Value.asInt Value.asBool Value.elems Value.nth Value.fieldOf Value.eqZ Value.binV Value.notV Value.kindOf Value.columnsOf Value.isThere Value.boundOf Value.rowsOf Order.then Order.compareZ Order.compareB Order.compareV Order.leV Order.insert Order.put Monoid.start Monoid.greater Monoid.against Monoid.step Monoid.total Monoid.finish Monoid.foldBy Monoid.ordered Monoid.canonical Monoid.raw Meaning.eval Meaning.meaning Record.andThen Record.require Record.signed Record.isWhole Data.boundsFrom Data.cells Data.rowsFrom Data.fits Data.tableOf Data.tableBy Data.boundsFit Data.cellsWithin Data.rowsWithin Data.bounded Data.tablesFrom Data.readData Reader.noMore Reader.asTerm Reader.oneTerm Reader.filled Reader.terms Reader.inFront Reader.onPart Reader.parts Reader.comprehends Reader.named Reader.content Reader.atRecord Reader.readPart Reader.readQuestion Scope.inScope Scope.binders Scope.member Scope.distinct Scope.namesHold Types.cells Types.typeAt Types.fieldType Types.ofNumber Types.ofTruth Types.binType Types.gathers Types.compType Types.ranges Types.typedAs Types.record″ Types.consType Types.typeOf Types.mayStand Types.isTyped Types.typesFit Types.generatorsFit Form._⊕_ Form.gens Form.value Form.normalValue Normal.quote Normal.idempotent Normal.givesWay Normal.condition Normal.ranges Normal.nth Normal.part Normal.binary Normal.before Normal.norm Normal.normal Size.nodes Size.sizeFits Bound.ownGens Bound.binBound Bound.compBound Bound.bound Bound.within Bound.tablesOf Bound.declared Bound.numbersFit Planner.free Planner.mentions Planner.next Planner.term Planner.nextL Planner.termL Planner.joined Planner.conj Planner.source Planner.gensOf Planner.condsOf Planner.orUnit Planner.planGens Planner.sift Planner.early Planner.late Planner.slot Planner.slots Planner.after Planner.mentioned Planner.lastOf Planner.home Planner.growsAt Planner.grows Planner.ops Planner.planOf Lines.ascii Lines.digits Lines.decimal Lines.signedDecimal Lines.monoidName Lines.binName Lines.truthName Lines.showTerm Lines.showSource Lines.showLast Lines.showOp Lines.showOps Lines.lines Written.truthWord Written.words Accepted.judge Accepted.examine Outcome.settled Outcome.withScratch Outcome.G Outcome.written Outcome.answered Outcome.checked Outcome.byLoops Outcome.byPlan Outcome.printed Outcome.planLines Split.tableBytes Split.tablesEnd Desk.spaced Desk.answerLine Desk.refusalLine Desk.planAndAnswer Desk.orRefusal Desk.asked Desk.desk
 definitions = tt
 
--- the berths, the bollards, the question
+-- the berths (table 0), the bollards (table 1), the question
 unfoldable pub listing : Bytes
 listing =
-    20 ∷ 0 ∷ 20 ∷ 0 ∷ 2 ∷ 2 ∷ 2 ∷ 0 ∷ 1 ∷ 0 ∷ 0 ∷ 0 ∷ 90 ∷ 0 ∷ 0 ∷ 0 ∷ 2 ∷ 0 ∷ 0 ∷ 0 ∷ 70 ∷ 0 ∷ 0 ∷ 0
-    ∷ 20 ∷ 0 ∷ 20 ∷ 0 ∷ 2 ∷ 2 ∷ 2 ∷ 0 ∷ 1 ∷ 0 ∷ 0 ∷ 0 ∷ 50 ∷ 0 ∷ 0 ∷ 0 ∷ 1 ∷ 0 ∷ 0 ∷ 0 ∷ 60 ∷ 0 ∷ 0 ∷ 0
+    29 ∷ 0 ∷ 20 ∷ 0 ∷ 0 ∷ 2 ∷ 2 ∷ 2 ∷ 0 ∷ 0 ∷ 0 ∷ 0 ∷ 128 ∷ 0 ∷ 0 ∷ 0 ∷ 128 ∷ 1 ∷ 0 ∷ 0 ∷ 0 ∷ 90 ∷ 0 ∷ 0 ∷ 0 ∷ 2 ∷ 0 ∷ 0 ∷ 0 ∷ 70 ∷ 0 ∷ 0 ∷ 0
+    ∷ 29 ∷ 0 ∷ 20 ∷ 0 ∷ 1 ∷ 2 ∷ 2 ∷ 2 ∷ 0 ∷ 0 ∷ 0 ∷ 0 ∷ 128 ∷ 0 ∷ 0 ∷ 0 ∷ 128 ∷ 1 ∷ 0 ∷ 0 ∷ 0 ∷ 50 ∷ 0 ∷ 0 ∷ 0 ∷ 1 ∷ 0 ∷ 0 ∷ 0 ∷ 60 ∷ 0 ∷ 0 ∷ 0
     ∷ 84 ∷ 0 ∷ 14 ∷ 0 ∷ 2 ∷ 7 ∷ 0 ∷ 16 ∷ 0 ∷ 0 ∷ 0 ∷ 1 ∷ 0 ∷ 15 ∷ 0 ∷ 0 ∷ 68 ∷ 0 ∷ 5 ∷ 0 ∷ 7 ∷ 0 ∷ 4 ∷ 0 ∷ 0 ∷ 2 ∷ 0 ∷ 3 ∷ 0 ∷ 0 ∷ 0 ∷ 53 ∷ 0 ∷ 14 ∷ 0 ∷ 4 ∷ 7 ∷ 0 ∷ 16 ∷ 0 ∷ 1 ∷ 0 ∷ 1 ∷ 0 ∷ 15 ∷ 0 ∷ 1 ∷ 26 ∷ 0 ∷ 18 ∷ 0 ∷ 22 ∷ 0 ∷ 9 ∷ 0 ∷ 7 ∷ 0 ∷ 4 ∷ 0 ∷ 0 ∷ 2 ∷ 0 ∷ 3 ∷ 0 ∷ 1 ∷ 0 ∷ 7 ∷ 0 ∷ 4 ∷ 0 ∷ 0 ∷ 2 ∷ 0 ∷ 3 ∷ 0 ∷ 0 ∷ 0 ∷ 7 ∷ 0 ∷ 4 ∷ 0 ∷ 1 ∷ 2 ∷ 0 ∷ 3 ∷ 0 ∷ 1 ∷ 0 ∷ []
 
 pub listing-printed : desk listing ≡ ascii "one\njoin 0 true\nouter 1 (= (. 0 $1) (. 0 $0))\nnest 1 sum (. 1 $1) true\nreduce bag (rec (. 0 $0) $1) true\nanswer 2 1 110 2 0\n"

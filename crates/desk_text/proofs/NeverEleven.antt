@@ -1,18 +1,19 @@
 -- The data that the desk splits off is never refused by 11, "a record cut short or not kind 20", for "the question" begins
 -- at "the first record that is not a whole kind 20". Assumes nothing.
 use mathlib.Core.Path.{_≡_, refl, sym, ap, subst, _∙_}
-use mathlib.Core.Bool.{Bool, true, false}
+use mathlib.Core.Bool.{Bool, true, false, not}
 use mathlib.Core.List.{List, [], _∷_}
 use Prim.Native.Nat.{ℕ, zero, suc, _+_}
 use native.Mathlib.Omega.{arith}
 use borrow.Author.Tests.{ltb-true, ltb-false, eqb-false}
-use lib.Dec.{ltb, eqb}
+use lib.Dec.{ltb, leb, eqb}
 use lib.ListN.{length, take, drop, length-append}
 use lib.Seq.{length-take-le, getD-take, take-add, drop-at}
 use Rattle.base_signed.proofs.SignedWords.{by-test}
+use Rattle.spec_calculus.specs.Value.{Tables, isThere}
 use Rattle.spec_calculus.proofs.Lists.{All}
 use Rattle.spec_encoding.specs.Record.{Bytes, Result, refused, got, require, lengthOf, kindOf, contentOf, behind}
-use Rattle.spec_encoding.specs.Data.{isTable, fits, tablesFrom, readData}
+use Rattle.spec_encoding.specs.Data.{isKind, isTable, fits, tableNumber, tableBy, bounded, tablesFrom, noTables, readData}
 use Rattle.spec_encoding.proofs.Refusals.{Only, only-then, only-require}
 use Rattle.base_tables.proofs.DataRecords.{Whole, whole, whole-is, tables-one, tables-none}
 use Rattle.spec_outcome.specs.Acceptance.{examine}
@@ -39,7 +40,7 @@ module _ (l : Bytes) (w : Whole l) (k : ℕ) where
   kept-whole : Whole kept
   kept-whole = record {
     within = omega (arith, same-length, long, ap length (take-add (4 + lengthOf l) k l), length-append (take (4 + lengthOf l) l) (take k (behind l)));
-    kind = same-kind ∙ w .kind;
+    kind = ap isKind same-kind ∙ w .kind;
   }
 
   kept-behind : behind kept ≡ take k (behind l)
@@ -51,38 +52,44 @@ only-met : {A : Type 0} (P : ℕ → Type 0) (n : ℕ) {b : Bool} (r : Result A)
 unfolding require
 only-met P n r e h = subst (λ (t : Bool). Only P (require n t r)) (sym e) h
 
-module _ (P : ℕ → Type 0) (p12 : P 12) (p13 : P 13) where
-  ninth : (l : Bytes) → Only P (tablesFrom zero l)
+module _ (P : ℕ → Type 0) (p12 : P 12) (p13 : P 13) (p43 : P 43) (p50 : P 50) (p51 : P 51) where
+  ninth : (T : Tables) (l : Bytes) → Only P (tablesFrom zero T l)
   unfolding tablesFrom
-  ninth [] = tt
-  ninth (b ∷ l) = p13
+  ninth T [] = tt
+  ninth T (b ∷ l) = p13
 
-  one-more : (n : ℕ) (l : Bytes) → Whole l → Only P (tablesFrom n (behind l)) → Only P (tablesFrom (suc n) l)
-  one-more n l w h = subst (Only P) (sym (tables-one n l (omega (arith, w .within))))
-      (only-met P 11 _ (whole-is l w) (only-require P 12 (fits (contentOf l)) _ p12 (only-then P (tablesFrom n (behind l)) _ h (λ T. tt))))
+  one-more : (n : ℕ) (T : Tables) (l : Bytes) → Whole l → ((U : Tables) → Only P (tablesFrom n U (behind l))) → Only P (tablesFrom (suc n) T l)
+  one-more n T l w h =
+      let c = contentOf l in
+      subst (Only P) (sym (tables-one n T l (omega (arith, w .within))))
+      (only-met P 11 _ (whole-is l w)
+      (only-require P 12 (fits c) _ p12
+      (only-require P 50 (leb (tableNumber c) 7) _ p50
+      (only-require P 51 (not (isThere T (tableNumber c))) _ p51
+      (only-require P 43 (bounded (tableBy (kindOf l) c)) _ p43 (h _))))))
 
-  tables-split : (n : ℕ) (l : Bytes) → Only P (tablesFrom n (take (tablesEnd l) l))
-  tables-split zero l = ninth (take (tablesEnd l) l)
-  tables-split (suc n) l = by-test (isTable l)
+  tables-split : (n : ℕ) (T : Tables) (l : Bytes) → Only P (tablesFrom n T (take (tablesEnd l) l))
+  tables-split zero T l = ninth T (take (tablesEnd l) l)
+  tables-split (suc n) T l = by-test (isTable l)
       (λ e.
       let w = whole l e in
       let k = tablesEnd (behind l) in
-      subst (λ (m : ℕ). Only P (tablesFrom (suc n) (take m l))) (sym (end-more l e))
-      (one-more n (kept l w k) (kept-whole l w k) (subst (λ (r : Bytes). Only P (tablesFrom n r)) (sym (kept-behind l w k)) (tables-split n (behind l)))))
-      (λ e. subst (λ (m : ℕ). Only P (tablesFrom (suc n) (take m l))) (sym (end-none l e)) (subst (Only P) (sym (tables-none (suc n))) tt))
+      subst (λ (m : ℕ). Only P (tablesFrom (suc n) T (take m l))) (sym (end-more l e))
+      (one-more n T (kept l w k) (kept-whole l w k) (λ U. subst (λ (r : Bytes). Only P (tablesFrom n U r)) (sym (kept-behind l w k)) (tables-split n U (behind l)))))
+      (λ e. subst (λ (m : ℕ). Only P (tablesFrom (suc n) T (take m l))) (sym (end-none l e)) (subst (Only P) (sym (tables-none (suc n) T)) tt))
 
   -- the checks, over the input as the desk splits it
   pub split-only : All P questionNumbers → (b : Bytes) → Only P (examine (take (tablesEnd b) b) (drop (tablesEnd b) b))
   unfolding readData
-  split-only p b = examine-behind P p (take (tablesEnd b) b) (drop (tablesEnd b) b) (tables-split 8 b)
+  split-only p b = examine-behind P p (take (tablesEnd b) b) (drop (tablesEnd b) b) (tables-split 8 noTables b)
 
 -- ---- the checker's number
-settled-only : {A : Type 0} (P : ℕ → Type 0) → P 0 → (s : List ℕ) (b : List A) (r : Result (Answer A)) → Only P r → P (settled s b r .number)
+settled-only : {A : Type 0} (P : ℕ → Type 0) → P 0 → (s : List ℕ) (b : List A) (r : Result (Answer A)) → Only P r → P (settled scratchWords s b r .number)
 unfolding settled
 settled-only P p0 s b (refused n) h = h
 settled-only P p0 s b (got a) h = p0
 
-number-only : {A : Type 0} (P : ℕ → Type 0) → P 0 → P 31 → (s : List ℕ) (b : List A) (r : Result (Answer A)) → Only P r → P (withScratch s b r .number)
+number-only : {A : Type 0} (P : ℕ → Type 0) → P 0 → P 31 → (s : List ℕ) (b : List A) (r : Result (Answer A)) → Only P r → P (withScratch scratchWords s b r .number)
 number-only {A} P p0 p31 s b r h = by-test (ltb (length s) scratchWords)
     (λ e. subst (λ (o : Outcome A). P (o .number)) (sym (scratch-short s b r (ltb-true (length s) scratchWords e))) p31)
     (λ e. subst (λ (o : Outcome A). P (o .number)) (sym (scratch-long s b r (ltb-false (length s) scratchWords e))) (settled-only P p0 s b r h))
@@ -93,4 +100,4 @@ Other n = eqb n 11 ≡ false
 -- whatever the input and the scratch, it is not 11
 pub never-eleven : (b : Bytes) (s : List ℕ) → checked (take (tablesEnd b) b) (drop (tablesEnd b) b) s .number ≡ 11 → ⊥
 unfolding checked
-never-eleven b s = eqb-false _ 11 (number-only Other refl refl s [] _ (only-then Other (examine (take (tablesEnd b) b) (drop (tablesEnd b) b)) _ (split-only Other refl refl (refl, (refl, (refl, (refl, (refl, (refl, (refl, (refl, tt)))))))) b) (λ a. tt)))
+never-eleven b s = eqb-false _ 11 (number-only Other refl refl s [] _ (only-then Other (examine (take (tablesEnd b) b) (drop (tablesEnd b) b)) _ (split-only Other refl refl refl refl refl (refl, (refl, (refl, (refl, (refl, (refl, (refl, (refl, tt)))))))) b) (λ a. tt)))

@@ -62,7 +62,7 @@ plan-first (plan os m h c) l = refl
 -- ---- what is printed
 -- the numbers of whoever packs the data but 11, of whoever types the question, and of a G over 4,096
 abbrev pub deskNumbers : List ℕ
-deskNumbers = 12 ∷ 13 ∷ 21 ∷ 22 ∷ 23 ∷ 24 ∷ 25 ∷ 26 ∷ 27 ∷ 28 ∷ 32 ∷ []
+deskNumbers = 12 ∷ 13 ∷ 43 ∷ 50 ∷ 51 ∷ 21 ∷ 22 ∷ 23 ∷ 24 ∷ 25 ∷ 26 ∷ 27 ∷ 28 ∷ 32 ∷ []
 
 module _ (b : Bytes) (n : ℕ) where
   abbrev Told : ℕ → Type 0
@@ -82,7 +82,7 @@ module _ (b : Bytes) (n : ℕ) where
 
   asked-number : asked (take (tablesEnd b) b) (drop (tablesEnd b) b) ≡ refusalLine n → member n deskNumbers ≡ true
   unfolding asked member
-  asked-number = reply-number (examine (take (tablesEnd b) b) (drop (tablesEnd b) b)) (split-only Told (told 12 refl) (told 13 refl)
+  asked-number = reply-number (examine (take (tablesEnd b) b) (drop (tablesEnd b) b)) (split-only Told (told 12 refl) (told 13 refl) (told 43 refl) (told 50 refl) (told 51 refl)
       (told 21 refl, (told 22 refl, (told 23 refl, (told 24 refl, (told 25 refl, (told 26 refl, (told 27 refl, (told 28 refl, tt)))))))) b)
 
   -- A refusal that is printed is by one of these numbers.

@@ -53,7 +53,7 @@ checks-count : (d l : Bytes) (n : ℕ) → examine d l ≡ refused n → Number 
 checks-count d l n e = subst (Only Number) e (examine-only Number all d l)
   where
     all : All Number numbers
-    all = ((omega arith, omega arith), ((omega arith, omega arith), ((omega arith, omega arith), ((omega arith, omega arith), ((omega arith, omega arith), ((omega arith, omega arith), ((omega arith, omega arith), ((omega arith, omega arith), ((omega arith, omega arith), ((omega arith, omega arith), ((omega arith, omega arith), tt)))))))))))
+    all = ((omega arith, omega arith), ((omega arith, omega arith), ((omega arith, omega arith), ((omega arith, omega arith), ((omega arith, omega arith), ((omega arith, omega arith), ((omega arith, omega arith), ((omega arith, omega arith), ((omega arith, omega arith), ((omega arith, omega arith), ((omega arith, omega arith), ((omega arith, omega arith), ((omega arith, omega arith), ((omega arith, omega arith), tt))))))))))))))
 
 -- ---- what the answering call says
 pub record Refuses (d l : Bytes) (k : ℕ) : Type 0 where
@@ -73,24 +73,24 @@ abbrev answerIn : Accepted → Answer ℤ
 answerIn a = record { size = length (words (looped a)); front = words (looped a) ++ replicate (G a - length (words (looped a))) (pos 0) }
 
 module _ (d l : Bytes) (s : List ℕ) (b : List ℤ) {s′ : List ℕ} {b′ : List ℤ} {k n : ℕ} (room : scratchWords ≤ length s) (long : length b ≡ 4096) (X : Gives (byLoops d l s b) k n b′ s′) where
-  outcome : Gives (settled s b (andThen (examine d l) (written looped b))) k n b′ s′
+  outcome : Gives (settled scratchWords s b (andThen (examine d l) (written looped b))) k n b′ s′
   unfolding byLoops answered
   outcome = subst (λ (o : Outcome ℤ). Gives o k n b′ s′) (scratch-long s b (andThen (examine d l) (written looped b)) room) X
 
   -- by what the checks say, and by whether the answer fits
   by-checks : (Q : Type 0) →
       ((m : ℕ) → k ≡ m → Number m → asked d l ≡ refusalLine m → Q) →
-      ((a : Accepted) → examine d l ≡ got a → leb (G a) 4096 ≡ true → Gives (settled s b (got (answerIn a))) k n b′ s′ → Q) → Q
+      ((a : Accepted) → examine d l ≡ got a → leb (G a) 4096 ≡ true → Gives (settled scratchWords s b (got (answerIn a))) k n b′ s′ → Q) → Q
   unfolding asked andThen written require settled orRefusal planAndAnswer
   by-checks Q refusal answer = go (examine d l) refl outcome
     where
-      fits : (a : Accepted) → examine d l ≡ got a → (t : Bool) → leb (G a) 4096 ≡ t → Gives (settled s b (require 32 t (got (answerIn a)))) k n b′ s′ → Q
+      fits : (a : Accepted) → examine d l ≡ got a → (t : Bool) → leb (G a) 4096 ≡ t → Gives (settled scratchWords s b (require 32 t (got (answerIn a)))) k n b′ s′ → Q
       fits a e true q Y = answer a e q Y
       fits a e false q Y = refusal 32 (Y .number) (omega arith, omega arith) (ap (λ (x : Result Accepted). orRefusal (andThen x planAndAnswer)) e ∙ ap (λ (t : Bool). orRefusal (require 32 t (got (lines (planOf (a .form)) ++ answerLine (words (looped a)))))) q)
 
-      go : (x : Result Accepted) → examine d l ≡ x → Gives (settled s b (andThen x (written looped b))) k n b′ s′ → Q
+      go : (x : Result Accepted) → examine d l ≡ x → Gives (settled scratchWords s b (andThen x (written looped b))) k n b′ s′ → Q
       go (refused m) e Y = refusal m (Y .number) (checks-count d l m e) (ap (λ (x : Result Accepted). orRefusal (andThen x planAndAnswer)) e)
-      go (got a) e Y = fits a e (leb (G a) 4096) refl (subst (λ (w : ℕ). Gives (settled s b (require 32 (leb (G a) w) (got (answerIn a)))) k n b′ s′) long Y)
+      go (got a) e Y = fits a e (leb (G a) 4096) refl (subst (λ (w : ℕ). Gives (settled scratchWords s b (require 32 (leb (G a) w) (got (answerIn a)))) k n b′ s′) long Y)
 
   pub refuses : (k ≡ 0 → ⊥) → Refuses d l k
   unfolding settled
@@ -130,11 +130,11 @@ module _ {d l : Bytes} {n : ℕ} {b : List ℤ} (A : Answers d l n b) where
       ∙ ap (λ (ws : List ℤ). plan ++ answerLine ws) (sym (A .front))
 
   module _ (s : List ℕ) (t : Bytes) {s′ : List ℕ} {t′ : Bytes} {k m : ℕ} (room : scratchWords ≤ length s) (h : textBytes ≤ length t) (Y : Gives (planLines d l s t) k m t′ s′) where
-    plan-given : Gives (settled s t (got (record { size = length plan; front = plan }))) k m t′ s′
+    plan-given : Gives (settled scratchWords s t (got (record { size = length plan; front = plan }))) k m t′ s′
     unfolding planLines andThen printed require
     plan-given =
-        subst (λ (x : Bool). Gives (settled s t (require 33 x (got (record { size = length plan; front = plan })))) k m t′ s′) (le-leb (length plan) (length t) (omega (arith, plan-room d l (A .accepted) (A .is), h)))
-        (subst (λ (x : Result Accepted). Gives (settled s t (andThen x (printed t))) k m t′ s′) (A .is)
+        subst (λ (x : Bool). Gives (settled scratchWords s t (require 33 x (got (record { size = length plan; front = plan })))) k m t′ s′) (le-leb (length plan) (length t) (omega (arith, plan-room d l (A .accepted) (A .is), h)))
+        (subst (λ (x : Result Accepted). Gives (settled scratchWords s t (andThen x (printed t))) k m t′ s′) (A .is)
         (subst (λ (o : Outcome ℕ). Gives o k m t′ s′) (scratch-long s t (andThen (examine d l) (printed t)) room) Y))
 
     pub prints-answer : {lim r : ℕ} {t″ : Bytes} → Lays lim (answerLine (take n b)) t′ m t″ r → length (answerLine (take n b)) ≤ 7 + 21 * length (take n b) → length b ≡ 4096 → lim ≡ length t → length t < textLimit → Prints (asked d l) t t″ r

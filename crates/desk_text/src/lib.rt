@@ -2,7 +2,7 @@
 ghost use mathlib.Core.Path.{_≡_};
 ghost use Prim.Native.Nat.{_+_, _*_, _≤_};
 ghost use lib.ListN.{length};
-ghost use Rattle.spec_outcome.specs.Outcome.{cleared, byLoops};
+ghost use Rattle.spec_outcome.specs.Outcome.{scratchWords, cleared, byLoops};
 ghost use Rattle.spec_outcome.specs.Gives.{Gives};
 ghost use Rattle.base_scratch.specs.Map.{scratchSize};
 ghost use Rattle.base_text.specs.LaidText.{Lays};
@@ -91,7 +91,7 @@ fn reply(
     requires { ⌜ (scratchSize ≤ length (now scratch)) × (length (now words) ≡ 4096) × (textBytes ≤ length (now text)) ⌝ }
     ensures { λ r. ⌜ Prints (asked (now (tables .entry)) (now (question .entry))) (now (text .entry)) (now (text .exit)) r ⌝ }
     ensures { λ _. ⌜ now (words .exit) ≡ byLoops (now (tables .entry)) (now (question .entry)) (now (scratch .entry)) (now (words .entry)) .buffer ⌝ }
-    ensures { λ _. ⌜ now (scratch .exit) ≡ cleared (now (scratch .entry)) ⌝ }
+    ensures { λ _. ⌜ now (scratch .exit) ≡ cleared scratchWords (now (scratch .entry)) ⌝ }
 {
     let limit = text.len();
     let given = answer(tables, question, scratch, words);

@@ -29,13 +29,13 @@ use Rattle.engine.specs.declared.Admitted.the-variants as Admitted
 use Rattle.engine.specs.declared.Reply.{Reply}
 
 -- ---- scratch
-pub spares-all : (s : List ℕ) → Spares s s
+pub spares-all : (s : List ℕ) → Spares scratchWords s s
 spares-all s = record { long = refl; above = λ j h. refl }
 
-pub apart-spares : {s t : List ℕ} → Apart s t → Spares s t
+pub apart-spares : {s t : List ℕ} → Apart s t → Spares scratchWords s t
 apart-spares A = record { long = A .long; above = λ j h. A .above j (omega arith) }
 
-pub cleared-same : {s t : List ℕ} → Spares s t → cleared t ≡ cleared s
+pub cleared-same : {s t : List ℕ} → Spares scratchWords s t → cleared scratchWords t ≡ cleared scratchWords s
 cleared-same {s} {t} S = ap (λ (l : List ℕ). replicate scratchWords 0 ++ l) (ext-getD 0 (drop scratchWords t) (drop scratchWords s) long word)
   where
     long : length (drop scratchWords t) ≡ length (drop scratchWords s)
@@ -46,12 +46,12 @@ cleared-same {s} {t} S = ap (λ (l : List ℕ). replicate scratchWords 0 ++ l) (
 
 -- ---- 31
 module _ {A : Type 0} (s : List ℕ) (b : List A) (x : Result (Answer A)) where
-  pub too-short : length s < scratchWords → Gives (withScratch s b x) 31 0 b s
+  pub too-short : length s < scratchWords → Gives (withScratch scratchWords s b x) 31 0 b s
   too-short h = subst (λ (o : Outcome A). Gives o 31 0 b s) (sym (scratch-short s b x h)) (record { number = refl; size = refl; buffer = refl; scratch = refl })
 
 -- ---- behind 31
-module _ {A : Type 0} {s t u : List ℕ} {b b′ : List A} {x : Result (Answer A)} {k n : ℕ} {r : Reply} (room : scratchWords ≤ length s) (S : Spares s t) (R : Replies t u k n r) where
-  pub replied : Settles x b k n b′ → Gives (withScratch s b x) (r .number) (r .length) b′ u
+module _ {A : Type 0} {s t u : List ℕ} {b b′ : List A} {x : Result (Answer A)} {k n : ℕ} {r : Reply} (room : scratchWords ≤ length s) (S : Spares scratchWords s t) (R : Replies t u k n r) where
+  pub replied : Settles x b k n b′ → Gives (withScratch scratchWords s b x) (r .number) (r .length) b′ u
   replied P =
       let g = P .gives s in
       subst (λ (o : Outcome A). Gives o (r .number) (r .length) b′ u) (sym (scratch-long s b x room))
@@ -84,18 +84,18 @@ module _ {d l : Bytes} {s t : List ℕ} {x : Admitted} (B : AdmitPost d l s t x)
 
   -- The checks, then a part over what they hand on.
   module _ {A : Type 0} (part : Accepted → Result (Answer A)) (b : List A) where
-    pub scant-by : x ≡ Admitted.Scant → Gives (withScratch s b (andThen (examine d l) part)) 31 0 b t
-    scant-by e = let p = scant e in subst (Gives (withScratch s b (andThen (examine d l) part)) 31 0 b) (sym (p .1)) (too-short s b (andThen (examine d l) part) (p .0))
+    pub scant-by : x ≡ Admitted.Scant → Gives (withScratch scratchWords s b (andThen (examine d l) part)) 31 0 b t
+    scant-by e = let p = scant e in subst (Gives (withScratch scratchWords s b (andThen (examine d l) part)) 31 0 b) (sym (p .1)) (too-short s b (andThen (examine d l) part) (p .0))
 
-    pub refused-by : {k : ℕ} → x ≡ Admitted.Refused k → {u : List ℕ} {r : Reply} → Replies t u k 0 r → Gives (withScratch s b (andThen (examine d l) part)) (r .number) (r .length) b u
+    pub refused-by : {k : ℕ} → x ≡ Admitted.Refused k → {u : List ℕ} {r : Reply} → Replies t u k 0 r → Gives (withScratch scratchWords s b (andThen (examine d l) part)) (r .number) (r .length) b u
     unfolding andThen
     refused-by {k} e R =
         let p = refuses e in
         replied (p .0) (apart-spares (p .1 .away)) R
         (subst (λ y. Settles (andThen y part) b k 0 b) (sym (p .1 .is)) (settles-refused k refl))
 
-    pub settled-by : x ≡ Admitted.Accepted → {b′ : List A} {u v : List ℕ} {k n : ℕ} {r : Reply} → Spares t u → ((y : Accepts d l t) → Settles (part (y .accepted)) b k n b′) → Replies u v k n r
-        → Gives (withScratch s b (andThen (examine d l) part)) (r .number) (r .length) b′ v
+    pub settled-by : x ≡ Admitted.Accepted → {b′ : List A} {u v : List ℕ} {k n : ℕ} {r : Reply} → Spares scratchWords t u → ((y : Accepts d l t) → Settles (part (y .accepted)) b k n b′) → Replies u v k n r
+        → Gives (withScratch scratchWords s b (andThen (examine d l) part)) (r .number) (r .length) b′ v
     unfolding andThen
     settled-by e {b′} {k = k} {n} S f R =
         let p = accepts e in
@@ -118,18 +118,18 @@ module _ {d l : Bytes} {s t : List ℕ} {x : Admitted} (B : AdmitPost d l s t x)
 
   -- ---- answering, by the value that is to be answered
   module _ (value : Accepted → Value) {b : List ℤ} where
-    pub answer-scant : x ≡ Admitted.Scant → Gives (answered value d l s b) 31 0 b t
+    pub answer-scant : x ≡ Admitted.Scant → Gives (answered scratchWords value d l s b) 31 0 b t
     unfolding answered
     answer-scant e = scant-by (written value b) b e
 
-    pub answer-refused : {k : ℕ} → x ≡ Admitted.Refused k → {u : List ℕ} {r : Reply} → Replies t u k 0 r → Gives (answered value d l s b) (r .number) (r .length) b u
+    pub answer-refused : {k : ℕ} → x ≡ Admitted.Refused k → {u : List ℕ} {r : Reply} → Replies t u k 0 r → Gives (answered scratchWords value d l s b) (r .number) (r .length) b u
     unfolding answered
     answer-refused e R = refused-by (written value b) b e R
 
     pub room-answered : x ≡ Admitted.Accepted → {b′ : List ℤ} {u : List ℕ} {y : Ended} → An.Answers value d t b u b′ y → scratchWords ≤ length u
     room-answered e A = omega (arith, room-accepted e, A .long)
 
-    pub answer-given : x ≡ Admitted.Accepted → {b′ : List ℤ} {u v : List ℕ} {y z : Ended} {r : Reply} → An.Answers value d t b u b′ y → y ≡ z → Replies u v (numberOf z) (lengthOf z) r → Gives (answered value d l s b) (r .number) (r .length) b′ v
+    pub answer-given : x ≡ Admitted.Accepted → {b′ : List ℤ} {u v : List ℕ} {y z : Ended} {r : Reply} → An.Answers value d t b u b′ y → y ≡ z → Replies u v (numberOf z) (lengthOf z) r → Gives (answered scratchWords value d l s b) (r .number) (r .length) b′ v
     unfolding answered
     answer-given e {b′} {u} A₀ q R =
         let A = subst (An.Answers value d t b u b′) q A₀ in

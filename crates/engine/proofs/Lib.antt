@@ -6,4 +6,8 @@ pub mod Outcomes
 pub mod BothWays
 pub mod RowOrder
 pub mod Portions
+pub mod SameTables
+pub mod RecordOrder
+pub mod Directions
 pub mod Rota
+pub mod ScratchLimit

@@ -16,15 +16,15 @@ use Rattle.spec_outcome.proofs.Checks.{examine-only}
 module _ {A : Type 0} (s : List ℕ) (b : List A) where
   -- what 31 gives, or what stands behind it
   abbrev Behind : Bool → Result (Answer A) → Outcome A
-  Behind t x = elim t [ true ↦ record { number = 31; size = 0; buffer = b; scratch = s } | false ↦ settled s b x ]
+  Behind t x = elim t [ true ↦ record { number = 31; size = 0; buffer = b; scratch = s } | false ↦ settled scratchWords s b x ]
 
-  settled-refusal : (x : Result (Answer A)) → (settled s b x .number ≡ 0 → ⊥) → settled s b x .buffer ≡ b
+  settled-refusal : (x : Result (Answer A)) → (settled scratchWords s b x .number ≡ 0 → ⊥) → settled scratchWords s b x .buffer ≡ b
   unfolding settled
   settled-refusal (refused n) h = refl
   settled-refusal (got a) h = absurd (h refl)
 
   -- "a refusal its number and length 0, the answer or byte buffer unchanged"
-  pub refusal : (x : Result (Answer A)) → (withScratch s b x .number ≡ 0 → ⊥) → withScratch s b x .buffer ≡ b
+  pub refusal : (x : Result (Answer A)) → (withScratch scratchWords s b x .number ≡ 0 → ⊥) → withScratch scratchWords s b x .buffer ≡ b
   unfolding withScratch
   refusal x = go (ltb (length s) scratchWords)
     where
@@ -39,12 +39,12 @@ module _ {A : Type 0} (s : List ℕ) (b : List A) where
     pub size : o .size ≡ answer .size
     pub buffer : o .buffer ≡ answer .front ++ drop (length (answer .front)) b
 
-  settled-answer : (x : Result (Answer A)) → Only (λ n. n ≡ 0 → ⊥) x → settled s b x .number ≡ 0 → Got x (settled s b x)
+  settled-answer : (x : Result (Answer A)) → Only (λ n. n ≡ 0 → ⊥) x → settled scratchWords s b x .number ≡ 0 → Got x (settled scratchWords s b x)
   unfolding settled
   settled-answer (refused n) h e = absurd (h e)
   settled-answer (got a) h e = record { answer = a; is = refl; size = refl; buffer = refl }
 
-  pub answers : (x : Result (Answer A)) → Only (λ n. n ≡ 0 → ⊥) x → withScratch s b x .number ≡ 0 → Got x (withScratch s b x)
+  pub answers : (x : Result (Answer A)) → Only (λ n. n ≡ 0 → ⊥) x → withScratch scratchWords s b x .number ≡ 0 → Got x (withScratch scratchWords s b x)
   unfolding withScratch
   answers x h = go (ltb (length s) scratchWords)
     where
@@ -54,7 +54,7 @@ module _ {A : Type 0} (s : List ℕ) (b : List A) where
 
 -- no check refuses by 0
 examine-above : (d l : Bytes) → Only (λ n. ltb 0 n ≡ true) (examine d l)
-examine-above d l = examine-only (λ n. ltb 0 n ≡ true) (refl, (refl, (refl, (refl, (refl, (refl, (refl, (refl, (refl, (refl, (refl, tt))))))))))) d l
+examine-above d l = examine-only (λ n. ltb 0 n ≡ true) (refl, (refl, (refl, (refl, (refl, (refl, (refl, (refl, (refl, (refl, (refl, (refl, (refl, (refl, tt)))))))))))))) d l
 
 pub checks-only : (d l : Bytes) → Only (λ n. n ≡ 0 → ⊥) (examine d l)
 checks-only d l = go (examine d l) (examine-above d l)

@@ -16,7 +16,7 @@ use Rattle.spec_encoding.proofs.Refusals.{Only}
 use Rattle.spec_calculus.specs.Syntax.{Question}
 use Rattle.spec_calculus.specs.Value.{Tables}
 use Rattle.spec_outcome.specs.Acceptance.{Accepted, judge, examine}
-use Rattle.spec_outcome.specs.Outcome.{scratchWords, cleared, checked, written, answered, planned, byPlan}
+use Rattle.spec_outcome.specs.Outcome.{scratchWords, cleared, checked, written, answered, planned}
 use Rattle.spec_outcome.proofs.Checks.{got-is}
 use Rattle.spec_outcome.specs.Gives.{Gives, Settles}
 use Rattle.front_end.specs.PrepareContract.{Accepts}
@@ -39,10 +39,11 @@ use Rattle.engine.proofs.Outcomes.{checks-only}
 
 -- ---- beginning
 module _ {d l : Bytes} {s t : List ℕ} {x : Admitted} (B : AdmitPost d l s t x) where
-  begin-refusal : {u : List ℕ} (r : Reply) → Gives (checked d l s) (r .number) (r .length) [] u → (r .number ≡ 0 → ⊥) → BeginPost d l s u r
+  begin-refusal : {u : List ℕ} (r : Reply) → Gives (checked d l s) (r .number) (r .length) [] u → (r .number ≡ 0 → ⊥) → BeginPost scratchWords d l s u r
+  unfolding checked
   begin-refusal r C h = record { number = C .number; size = C .size; refused = λ n. C .scratch; begins = λ e. absurd (h e); spares = λ e. absurd (h e) }
 
-  pub begin-scant : x ≡ Admitted.Scant → (r : Reply) → r .number ≡ 31 → r .length ≡ 0 → BeginPost d l s t r
+  pub begin-scant : x ≡ Admitted.Scant → (r : Reply) → r .number ≡ 31 → r .length ≡ 0 → BeginPost scratchWords d l s t r
   begin-scant e r en ez =
       let C = check-scant B e in
       begin-refusal r (record { number = en ∙ C .number; size = ez ∙ C .size; buffer = C .buffer; scratch = C .scratch }) (λ z. omega (arith, z, en))
@@ -51,10 +52,11 @@ module _ {d l : Bytes} {s t : List ℕ} {x : Admitted} (B : AdmitPost d l s t x)
   refuses-above : {k : ℕ} → x ≡ Admitted.Refused k → k ≡ 0 → ⊥
   refuses-above e = subst (Only (λ n. n ≡ 0 → ⊥)) (refuses B e .1 .is) (checks-only d l)
 
-  pub begin-refused : {k : ℕ} → x ≡ Admitted.Refused k → {u : List ℕ} {r : Reply} → Replies t u k 0 r → BeginPost d l s u r
+  pub begin-refused : {k : ℕ} → x ≡ Admitted.Refused k → {u : List ℕ} {r : Reply} → Replies t u k 0 r → BeginPost scratchWords d l s u r
   begin-refused e {r = r} R = begin-refusal r (check-refused B e R) (λ z. refuses-above e (sym (R .number) ∙ z))
 
-  pub begin-accepted : x ≡ Admitted.Accepted → {u : List ℕ} → Un.BeginPost t u → (r : Reply) → r .number ≡ 0 → r .length ≡ 0 → BeginPost d l s u r
+  pub begin-accepted : x ≡ Admitted.Accepted → {u : List ℕ} → Un.BeginPost t u → (r : Reply) → r .number ≡ 0 → r .length ≡ 0 → BeginPost scratchWords d l s u r
+  unfolding checked
   begin-accepted e {u} P r en ez = record {
     number = en ∙ C .number;
     size = ez ∙ C .size;
@@ -68,7 +70,7 @@ module _ {d l : Bytes} {s t : List ℕ} {x : Admitted} (B : AdmitPost d l s t x)
       Y : Accepts d l t
       Y = accepts B e .1 .is
 
-      C : Gives (checked d l s) 0 0 [] (cleared t)
+      C : Gives (checked d l s) 0 0 [] (cleared scratchWords t)
       C = check-accepted B e {r = record { number = 0; length = 0 }} (record { number = refl; length = refl; scratch = refl })
 
 -- ---- which refusal a portion has
@@ -90,41 +92,42 @@ pub inside-some : (n : ℕ) → outside n ≡ false → 0 < n
 inside-some zero h = no (sym (outside-none 0 refl) ∙ h)
 inside-some (suc n) h = omega arith
 
-module _ (n : ℕ) (s : List ℕ) where
-  refusal-by : {a c e : Bool} → outside n ≡ a → ltb (length s) scratchWords ≡ c → idle (getD s stageAt 0) ≡ e → refusal n s ≡ pick a 47 (pick c 31 (pick e 48 0))
+module _ (least n : ℕ) (s : List ℕ) where
+  refusal-by : {a c e : Bool} → outside n ≡ a → ltb (length s) least ≡ c → idle (getD s stageAt 0) ≡ e → refusal least n s ≡ pick a 47 (pick c 31 (pick e 48 0))
   unfolding refusal
   refusal-by {a} {c} {e} p q r =
-      ap (λ (x : Bool). pick x 47 (pick (ltb (length s) scratchWords) 31 (pick (idle (getD s stageAt 0)) 48 0))) p
+      ap (λ (x : Bool). pick x 47 (pick (ltb (length s) least) 31 (pick (idle (getD s stageAt 0)) 48 0))) p
       ∙ ap (λ (x : Bool). pick a 47 (pick x 31 (pick (idle (getD s stageAt 0)) 48 0))) q
       ∙ ap (λ (x : Bool). pick a 47 (pick c 31 (pick x 48 0))) r
 
-  pub outside-refused : outside n ≡ true → refusal n s ≡ 47
+  pub outside-refused : outside n ≡ true → refusal least n s ≡ 47
   unfolding pick
   outside-refused h = refusal-by h refl refl
 
-  pub no-rows : n ≡ 0 → refusal n s ≡ 47
-  no-rows h = outside-refused (outside-none n h)
-
-  module _ (room : scratchWords ≤ length s) where
-    pub no-question : idle (getD s stageAt 0) ≡ true → refusal n s ≡ pick (outside n) 47 48
+  module _ (room : least ≤ length s) where
+    pub no-question : idle (getD s stageAt 0) ≡ true → refusal least n s ≡ pick (outside n) 47 48
     unfolding pick
-    no-question h = refusal-by refl (le-ltb (length s) scratchWords room) h
+    no-question h = refusal-by refl (le-ltb (length s) least room) h
 
-    pub no-refusal : idle (getD s stageAt 0) ≡ false → refusal n s ≡ pick (outside n) 47 0
+    pub no-refusal : idle (getD s stageAt 0) ≡ false → refusal least n s ≡ pick (outside n) 47 0
     unfolding pick
-    no-refusal h = refusal-by refl (le-ltb (length s) scratchWords room) h
+    no-refusal h = refusal-by refl (le-ltb (length s) least room) h
+
+module _ (n : ℕ) (s : List ℕ) where
+  pub no-rows : n ≡ 0 → refusal scratchWords n s ≡ 47
+  no-rows h = outside-refused scratchWords n s (outside-none n h)
 
   module _ (some : n ≡ 0 → ⊥) where
-    pub many-rows : 65535 < n → refusal n s ≡ 47
-    many-rows h = outside-refused (outside-above n some h)
+    pub many-rows : 65535 < n → refusal scratchWords n s ≡ 47
+    many-rows h = outside-refused scratchWords n s (outside-above n some h)
 
     module _ (few : n ≤ 65535) where
-      pub scant-scratch : length s < scratchWords → refusal n s ≡ 31
+      pub scant-scratch : length s < scratchWords → refusal scratchWords n s ≡ 31
       unfolding pick
-      scant-scratch h = refusal-by (inside n some few) (lt-ltb (length s) scratchWords h) refl
+      scant-scratch h = refusal-by scratchWords n s (inside n some few) (lt-ltb (length s) scratchWords h) refl
 
 -- ---- a portion that is refused
-pub portion-refused : {d : Bytes} {n k : ℕ} {s : List ℕ} {o : List ℤ} {r : Portioned} → refusal n s ≡ k → (k ≡ 0 → ⊥) → Says r 0 0 k 0 → PortionPost d n s o s o r
+pub portion-refused : {d : Bytes} {n k : ℕ} {s : List ℕ} {o : List ℤ} {r : Portioned} → refusal scratchWords n s ≡ k → (k ≡ 0 → ⊥) → Says r 0 0 k 0 → PortionPost scratchWords d n s o s o r
 portion-refused {r = r} e h S = record {
   within = (omega (arith, S .offered), omega (arith, S .size));
   refused = λ g. (subst (λ (k : ℕ). Says r 0 0 k 0) (sym e) S, (refl, refl));
@@ -149,28 +152,28 @@ module _ {d : Bytes} (n : ℕ) (s : List ℕ) {s′ : List ℕ} {o o′ : List �
   unfolding pick
   sized k = ap (λ (b : Bool). pick b 47 k) (inside n some few)
 
-  pub portion-nothing : x ≡ Progress.Nothing → {r : Portioned} → Says r 0 0 48 0 → PortionPost d n s o s′ o′ r
+  pub portion-nothing : x ≡ Progress.Nothing → {r : Portioned} → Says r 0 0 48 0 → PortionPost scratchWords d n s o s′ o′ r
   portion-nothing e {r} S =
       let p = by e in
-      let P : PortionPost d n s o s o r = portion-refused (no-question n s room (p .0) ∙ sized 48) (λ z. omega (arith, z)) S in
-      subst (λ (y : List ℤ). PortionPost d n s o s′ y r) (sym (p .1 .1)) (subst (λ (y : List ℕ). PortionPost d n s o y o r) (sym (p .1 .0)) P)
+      let P : PortionPost scratchWords d n s o s o r = portion-refused (no-question scratchWords n s room (p .0) ∙ sized 48) (λ z. omega (arith, z)) S in
+      subst (λ (y : List ℤ). PortionPost scratchWords d n s o s′ y r) (sym (p .1 .1)) (subst (λ (y : List ℕ). PortionPost scratchWords d n s o y o r) (sym (p .1 .0)) P)
 
-  pub portion-on : x ≡ Progress.Unfinished → {r : Portioned} → Says r 0 n 0 0 → PortionPost d n s o s′ o′ r
+  pub portion-on : x ≡ Progress.Unfinished → {r : Portioned} → Says r 0 n 0 0 → PortionPost scratchWords d n s o s′ o′ r
   portion-on e {r} S =
       let p = by e in
       let C : Continues d n s o s′ o′ = p .1 in
       record {
         within = (omega (arith, S .offered), omega (arith, S .size));
-        refused = λ h. absurd (h (no-refusal n s room (p .0) ∙ sized 0));
+        refused = λ h. absurd (h (no-refusal scratchWords n s room (p .0) ∙ sized 0));
         unended = λ z q R U l. record { says = S; unfinished = C .is q R U; spares = C .spares q R U };
         ended = λ z q R U l. absurd (omega (arith, l, C .fewer q R U));
       }
 
-  portion-ends : idle (getD s stageAt 0) ≡ false → {k a b : ℕ} → k ≤ n → b ≤ length o′ → Finishes d n s o s′ o′ k a b → {u : List ℕ} {r : Portioned} → EndedPost s′ u k a b r → PortionPost d n s o u o′ r
-  unfolding byPlan answered andThen
+  portion-ends : idle (getD s stageAt 0) ≡ false → {k a b : ℕ} → k ≤ n → b ≤ length o′ → Finishes d n s o s′ o′ k a b → {u : List ℕ} {r : Portioned} → EndedPost s′ u k a b r → PortionPost scratchWords d n s o u o′ r
+  unfolding answered andThen
   portion-ends h {k} {a} {b} few-rows fits F {u} {r} E = record {
     within = (omega (arith, E .offered, few-rows), omega (arith, E .replies .length, fits));
-    refused = λ g. absurd (g (no-refusal n s room h ∙ sized 0));
+    refused = λ g. absurd (g (no-refusal scratchWords n s room h ∙ sized 0));
     unended = λ z q R U l. absurd (omega (arith, l, F .enough q R U));
     ended = λ z q R U l. record {
       end = E .end;
@@ -180,8 +183,8 @@ module _ {d : Bytes} (n : ℕ) (s : List ℕ) {s′ : List ℕ} {o o′ : List �
     };
   }
 
-  pub portion-short : {k : ℕ} → x ≡ Progress.Short k → {u : List ℕ} {r : Portioned} → EndedPost s′ u k 32 0 r → PortionPost d n s o u o′ r
+  pub portion-short : {k : ℕ} → x ≡ Progress.Short k → {u : List ℕ} {r : Portioned} → EndedPost s′ u k 32 0 r → PortionPost scratchWords d n s o u o′ r
   portion-short e E = let p = by e in portion-ends (p .0) (p .1 .0) (omega arith) (p .1 .1) E
 
-  pub portion-full : {k m : ℕ} → x ≡ Progress.Length k m → {u : List ℕ} {r : Portioned} → EndedPost s′ u k 0 m r → PortionPost d n s o u o′ r
+  pub portion-full : {k m : ℕ} → x ≡ Progress.Length k m → {u : List ℕ} {r : Portioned} → EndedPost s′ u k 0 m r → PortionPost scratchWords d n s o u o′ r
   portion-full e E = let p = by e in portion-ends (p .0) (p .1 .0) (p .1 .1 .0) (p .1 .1 .1) E

@@ -47,9 +47,9 @@ pub record Call : Type 0 where
   pub rows : ℕ
   pub said : Portioned
 
-abbrev pub Portions : Bytes → List Call → List ℕ → List ℤ → List ℕ → List ℤ → Type 0
-Portions d [] s o s′ o′ = (s′ ≡ s) × (o′ ≡ o)
-Portions d (c ∷ cs) s o s′ o′ = (t : List ℕ) × ((p : List ℤ) × (PortionPost d (c .rows) s o t p (c .said) × Portions d cs t p s′ o′))
+abbrev pub Portions : ℕ → Bytes → List Call → List ℕ → List ℤ → List ℕ → List ℤ → Type 0
+Portions least d [] s o s′ o′ = (s′ ≡ s) × (o′ ≡ o)
+Portions least d (c ∷ cs) s o s′ o′ = (t : List ℕ) × ((p : List ℤ) × (PortionPost least d (c .rows) s o t p (c .said) × Portions least d cs t p s′ o′))
 
 -- the rows that they are given, but for those that are refused
 abbrev pub counted : ℕ → ℕ
@@ -77,54 +77,54 @@ pub record Whole (due : ℕ) (cs : List Call) (x : Outcome ℤ) (s′ : List ℕ
   pub scratch : s′ ≡ x .scratch
 
 -- ---- a scratch of 0
-module _ (s : List ℕ) where
-  cleared-stage : idle (getD (cleared s) stageAt 0) ≡ true
+module _ (least : ℕ) (s : List ℕ) where
+  pub cleared-stage : stageAt < least → idle (getD (cleared least s) stageAt 0) ≡ true
   unfolding idle pick
-  cleared-stage = ap idle (List·getD-append (replicate scratchWords 0) (drop scratchWords s) 0 stageAt (omega (arith, length-replicate {A = ℕ} scratchWords 0)) ∙ getD-replicate scratchWords stageAt 0 0 (omega arith))
+  cleared-stage h = ap idle (List·getD-append (replicate least 0) (drop least s) 0 stageAt (omega (arith, h, length-replicate {A = ℕ} least 0)) ∙ getD-replicate least stageAt 0 0 h)
 
-  cleared-long : scratchWords ≤ length (cleared s)
-  cleared-long = omega (arith, length-append (replicate scratchWords 0) (drop scratchWords s), length-replicate {A = ℕ} scratchWords 0)
+  pub cleared-long : least ≤ length (cleared least s)
+  cleared-long = omega (arith, length-append (replicate least 0) (drop least s), length-replicate {A = ℕ} least 0)
 
 -- there a portion is 48, if it is not 47, and changes nothing
-never : (b : Bool) {k : ℕ} → k ≡ pick b 47 48 → k ≡ 0 → ⊥
+pub never : (b : Bool) {k : ℕ} → k ≡ pick b 47 48 → k ≡ 0 → ⊥
 unfolding pick
 never true e z = omega (arith, e, z)
 never false e z = omega (arith, e, z)
 
-none-left : (d : Bytes) (cs : List Call) (s : List ℕ) (o : List ℤ) (s′ : List ℕ) (o′ : List ℤ) → scratchWords ≤ length s → idle (getD s stageAt 0) ≡ true → Portions d cs s o s′ o′
+none-left : (d : Bytes) (cs : List Call) (s : List ℕ) (o : List ℤ) (s′ : List ℕ) (o′ : List ℤ) → scratchWords ≤ length s → idle (getD s stageAt 0) ≡ true → Portions scratchWords d cs s o s′ o′
     → All (λ c. Says (c .said) 0 0 (pick (outside (c .rows)) 47 48) 0) cs × ((s′ ≡ s) × (o′ ≡ o))
 none-left d [] s o s′ o′ b z P = (tt, P)
 none-left d (c ∷ cs) s o s′ o′ b z (t, (p, (F, P))) =
-    let e = no-question (c .rows) s b z in
+    let e = no-question scratchWords (c .rows) s b z in
     let N = F .refused (λ y. never (outside (c .rows)) e y) in
-    let rest = none-left d cs s o s′ o′ b z (subst (λ (y : List ℤ). Portions d cs s y s′ o′) (N .1 .1) (subst (λ (y : List ℕ). Portions d cs y p s′ o′) (N .1 .0) P)) in
+    let rest = none-left d cs s o s′ o′ b z (subst (λ (y : List ℤ). Portions scratchWords d cs s y s′ o′) (N .1 .1) (subst (λ (y : List ℕ). Portions scratchWords d cs y p s′ o′) (N .1 .0) P)) in
     ((subst (λ (k : ℕ). Says (c .said) 0 0 k 0) e (N .0), rest .0), rest .1)
 
--- ---- the outcome does not turn on what scratch held below 8,192
-settled-same : (s t : List ℕ) (b : List ℤ) (x : Result (Answer ℤ)) → cleared t ≡ cleared s → settled t b x ≡ settled s b x
+-- ---- the outcome does not turn on what scratch held
+settled-same : (s t : List ℕ) (b : List ℤ) (x : Result (Answer ℤ)) → cleared scratchWords t ≡ cleared scratchWords s → settled scratchWords t b x ≡ settled scratchWords s b x
 unfolding settled
 settled-same s t b (refused n) e = ap (λ (u : List ℕ). record { number = n; size = 0; buffer = b; scratch = u }) e
 settled-same s t b (got a) e = ap (λ (u : List ℕ). record { number = 0; size = a .size; buffer = a .front ++ drop (length (a .front)) b; scratch = u }) e
 
-same-outcome : (d l : Bytes) {s t : List ℕ} (b : List ℤ) → scratchWords ≤ length s → Spares s t → byPlan d l t b ≡ byPlan d l s b
+same-outcome : (d l : Bytes) {s t : List ℕ} (b : List ℤ) → scratchWords ≤ length s → Spares scratchWords s t → byPlan d l t b ≡ byPlan d l s b
 unfolding byPlan answered
 same-outcome d l {s} {t} b r S =
     let x : Result (Answer ℤ) = andThen (examine d l) (written planned b) in
-    scratch-long t b x (omega (arith, r, S .long)) ∙ settled-same s t b x (cleared-same S) ∙ sym (scratch-long s b x r)
+    scratch-long {least = scratchWords} t b x (omega (arith, r, S .long)) ∙ settled-same s t b x (cleared-same S) ∙ sym (scratch-long s b x r)
 
-outcome-scratch : (d l : Bytes) (s : List ℕ) (b : List ℤ) → scratchWords ≤ length s → byPlan d l s b .scratch ≡ cleared s
-unfolding byPlan answered settled
-outcome-scratch d l s b r = ap (λ (y : Outcome ℤ). y .scratch) (scratch-long s b (andThen (examine d l) (written planned b)) r) ∙ go (andThen (examine d l) (written planned b))
+pub outcome-scratch : {least : ℕ} (d l : Bytes) (s : List ℕ) (b : List ℤ) → least ≤ length s → answered least planned d l s b .scratch ≡ cleared least s
+unfolding answered settled
+outcome-scratch {least} d l s b r = ap (λ (y : Outcome ℤ). y .scratch) (scratch-long s b (andThen (examine d l) (written planned b)) r) ∙ go (andThen (examine d l) (written planned b))
   where
-    go : (x : Result (Answer ℤ)) → settled s b x .scratch ≡ cleared s
+    go : (x : Result (Answer ℤ)) → settled least s b x .scratch ≡ cleared least s
     go (refused n) = refl
     go (got a) = refl
 
 -- ---- an unfinished question
 -- its portions are refused by 47 alone: by 48 never
-pub unrefused : {d : Bytes} {q : Pending} {s : List ℕ} {o : List ℤ} {R : Run} → Unfinished d q s o R → (n : ℕ) → outside n ≡ false → refusal n s ≡ 0
+pub unrefused : {d : Bytes} {q : Pending} {s : List ℕ} {o : List ℤ} {R : Run} → Unfinished d q s o R → (n : ℕ) → outside n ≡ false → refusal scratchWords n s ≡ 0
 unfolding pick
-unrefused {s = s} U n h = no-refusal n s (long-unfinished U) (unfinished-stage U) ∙ ap (λ (b : Bool). pick b 47 0) h
+unrefused {s = s} U n h = no-refusal scratchWords n s (long-unfinished U) (unfinished-stage U) ∙ ap (λ (b : Bool). pick b 47 0) h
 
 -- "32 is found before the first word is written"
 pub unwritten-yet : {d : Bytes} {q : Pending} {s : List ℕ} {o : List ℤ} {S : State} → Unfinished d q s o (counting S) → o ≡ q .lent
@@ -185,11 +185,11 @@ module _ (d : Bytes) (q : Pending) where
 
   module _ (c : Call) (cs : List Call) {s t s′ : List ℕ} {o p o′ : List ℤ} {R : Run} (U : Unfinished d q s o R) where
     -- the last
-    ends-here : outside (c .rows) ≡ false → Due R ≤ c .rows → Ended d q R s t p (c .said) → Portions d cs t p s′ o′ → Whole (Due R) (c ∷ cs) (Result′ s) s′ o′
-    unfolding given
+    ends-here : outside (c .rows) ≡ false → Due R ≤ c .rows → Ended scratchWords d q R s t p (c .said) → Portions scratchWords d cs t p s′ o′ → Whole (Due R) (c ∷ cs) (Result′ s) s′ o′
+    unfolding given byPlan
     ends-here sized h E P =
-        let z : t ≡ cleared s = E .gives .scratch ∙ outcome-scratch d (q .bytes) s (q .lent) (long-unfinished U) in
-        let N = none-left d cs t p s′ o′ (subst (λ (y : List ℕ). scratchWords ≤ length y) (sym z) (cleared-long s)) (ap (λ (y : List ℕ). idle (getD y stageAt 0)) z ∙ cleared-stage s) P in
+        let z : t ≡ cleared scratchWords s = E .gives .scratch ∙ outcome-scratch d (q .bytes) s (q .lent) (long-unfinished U) in
+        let N = none-left d cs t p s′ o′ (subst (λ (y : List ℕ). scratchWords ≤ length y) (sym z) (cleared-long scratchWords s)) (ap (λ (y : List ℕ). idle (getD y stageAt 0)) z ∙ cleared-stage scratchWords s (omega arith)) P in
         record {
           before = [];
           last = c;
@@ -206,7 +206,7 @@ module _ (d : Bytes) (q : Pending) where
         }
 
     -- one before the last
-    ends-later : outside (c .rows) ≡ false → c .rows < Due R → Unended d (c .rows) q R s t p (c .said) → Whole (Due R - c .rows) cs (Result′ t) s′ o′ → Whole (Due R) (c ∷ cs) (Result′ s) s′ o′
+    ends-later : outside (c .rows) ≡ false → c .rows < Due R → Unended scratchWords d (c .rows) q R s t p (c .said) → Whole (Due R - c .rows) cs (Result′ t) s′ o′ → Whole (Due R) (c ∷ cs) (Result′ s) s′ o′
     unfolding pick
     ends-later sized h Y W =
         let e : Result′ t ≡ Result′ s = same-outcome d (q .bytes) (q .lent) (long-unfinished U) (Y .spares) in
@@ -231,7 +231,7 @@ module _ (d : Bytes) (q : Pending) where
           scratch = W .scratch ∙ ap (λ (y : Outcome ℤ). y .scratch) e;
         }
 
-  ends : (cs : List Call) {s s′ : List ℕ} {o o′ : List ℤ} {R : Run} → Unfinished d q s o R → Due R ≤ given cs → 0 < given cs → Portions d cs s o s′ o′ → Whole (Due R) cs (Result′ s) s′ o′
+  ends : (cs : List Call) {s s′ : List ℕ} {o o′ : List ℤ} {R : Run} → Unfinished d q s o R → Due R ≤ given cs → 0 < given cs → Portions scratchWords d cs s o s′ o′ → Whole (Due R) cs (Result′ s) s′ o′
   ends [] U e l P = unfold given in absurd (omega (arith, l))
   ends (c ∷ cs) {s} {s′} {o} {o′} {R} U e l (t, (p, (F, P))) = sorted (outside (c .rows)) refl (λ m n N. ends cs U m n N) (λ Y m n. ends cs Y m n P)
     where
@@ -244,30 +244,30 @@ module _ (d : Bytes) (q : Pending) where
           let g : given (c ∷ cs) ≡ c .rows + given cs = given-some c cs h in
           ends-later c cs U h m Y (subst (λ (n : ℕ). Whole n cs (Result′ t) s′ o′) z (f (Y .unfinished) (omega (arith, z, e, g)) (omega (arith, z, e, m, g))))
 
-      sorted : (b : Bool) → outside (c .rows) ≡ b → (Due R ≤ given cs → 0 < given cs → Portions d cs s o s′ o′ → Whole (Due R) cs (Result′ s) s′ o′) → (Unfinished d q t p (Next (c .rows) R) → Due (Next (c .rows) R) ≤ given cs → 0 < given cs → Whole (Due (Next (c .rows) R)) cs (Result′ t) s′ o′) → Whole (Due R) (c ∷ cs) (Result′ s) s′ o′
+      sorted : (b : Bool) → outside (c .rows) ≡ b → (Due R ≤ given cs → 0 < given cs → Portions scratchWords d cs s o s′ o′ → Whole (Due R) cs (Result′ s) s′ o′) → (Unfinished d q t p (Next (c .rows) R) → Due (Next (c .rows) R) ≤ given cs → 0 < given cs → Whole (Due (Next (c .rows) R)) cs (Result′ t) s′ o′) → Whole (Due R) (c ∷ cs) (Result′ s) s′ o′
       sorted true h f k =
-          let r : refusal (c .rows) s ≡ 47 = outside-refused (c .rows) s h in
+          let r : refusal scratchWords (c .rows) s ≡ 47 = outside-refused scratchWords (c .rows) s h in
           let N = F .refused (λ y. omega (arith, r, y)) in
           let g : given (c ∷ cs) ≡ given cs = given-none c cs h in
           ends-past c cs h (subst (λ (k : ℕ). Says (c .said) 0 0 k 0) r (N .0))
-          (f (omega (arith, e, g)) (omega (arith, l, g)) (subst (λ (y : List ℤ). Portions d cs s y s′ o′) (N .1 .1) (subst (λ (y : List ℕ). Portions d cs y p s′ o′) (N .1 .0) P)))
+          (f (omega (arith, e, g)) (omega (arith, l, g)) (subst (λ (y : List ℤ). Portions scratchWords d cs s y s′ o′) (N .1 .1) (subst (λ (y : List ℕ). Portions scratchWords d cs y p s′ o′) (N .1 .0) P)))
       sorted false h f k = go h (leb (Due R) (c .rows)) refl k
 
   -- As long as fewer rows are offered than are due, each says so, and the question stands where they have brought it.
-  pub so-far : (cs : List Call) {s s′ : List ℕ} {o o′ : List ℤ} {R : Run} → Unfinished d q s o R → (0 < given cs → given cs < Due R) → Portions d cs s o s′ o′
+  pub so-far : (cs : List Call) {s s′ : List ℕ} {o o′ : List ℤ} {R : Run} → Unfinished d q s o R → (0 < given cs → given cs < Due R) → Portions scratchWords d cs s o s′ o′
       → All (λ c. Says (c .said) 0 (counted (c .rows)) (pick (outside (c .rows)) 47 0) 0) cs × Unfinished d q s′ o′ (Next (given cs) R)
   so-far [] {s} {s′} {o} {o′} {R} U l P = unfold given portion in (tt, subst (λ (y : List ℤ). Unfinished d q s′ y R) (sym (P .1)) (subst (λ (y : List ℕ). Unfinished d q y o R) (sym (P .0)) U))
   so-far (c ∷ cs) {s} {s′} {o} {o′} {R} U l (t, (p, (F, P))) = sorted (outside (c .rows)) refl (λ m N. so-far cs U m N) (λ Y m. so-far cs Y m P)
     where
       sorted : (b : Bool) → outside (c .rows) ≡ b
-          → ((0 < given cs → given cs < Due R) → Portions d cs s o s′ o′ → All (λ c. Says (c .said) 0 (counted (c .rows)) (pick (outside (c .rows)) 47 0) 0) cs × Unfinished d q s′ o′ (Next (given cs) R))
+          → ((0 < given cs → given cs < Due R) → Portions scratchWords d cs s o s′ o′ → All (λ c. Says (c .said) 0 (counted (c .rows)) (pick (outside (c .rows)) 47 0) 0) cs × Unfinished d q s′ o′ (Next (given cs) R))
           → (Unfinished d q t p (Next (c .rows) R) → (0 < given cs → given cs < Due (Next (c .rows) R)) → All (λ c. Says (c .said) 0 (counted (c .rows)) (pick (outside (c .rows)) 47 0) 0) cs × Unfinished d q s′ o′ (Next (given cs) (Next (c .rows) R)))
           → All (λ c. Says (c .said) 0 (counted (c .rows)) (pick (outside (c .rows)) 47 0) 0) (c ∷ cs) × Unfinished d q s′ o′ (Next (given (c ∷ cs)) R)
       sorted true h f k =
-          let r : refusal (c .rows) s ≡ 47 = outside-refused (c .rows) s h in
+          let r : refusal scratchWords (c .rows) s ≡ 47 = outside-refused scratchWords (c .rows) s h in
           let N = F .refused (λ y. omega (arith, r, y)) in
           let g : given (c ∷ cs) ≡ given cs = given-none c cs h in
-          let rest = f (λ y. omega (arith, g, l (omega (arith, g, y)))) (subst (λ (y : List ℤ). Portions d cs s y s′ o′) (N .1 .1) (subst (λ (y : List ℕ). Portions d cs y p s′ o′) (N .1 .0) P)) in
+          let rest = f (λ y. omega (arith, g, l (omega (arith, g, y)))) (subst (λ (y : List ℤ). Portions scratchWords d cs s y s′ o′) (N .1 .1) (subst (λ (y : List ℕ). Portions scratchWords d cs y p s′ o′) (N .1 .0) P)) in
           ((says-refused c h (subst (λ (k : ℕ). Says (c .said) 0 0 k 0) r (N .0)), rest .0), subst (λ (n : ℕ). Unfinished d q s′ o′ (Next n R)) (sym g) (rest .1))
       sorted false h f k =
           let g : given (c ∷ cs) ≡ c .rows + given cs = given-some c cs h in
@@ -286,7 +286,7 @@ all-due d l a lent e =
     ∙ ap (λ (T : Tables). planOffers raw T (planOf (a .form)) + pick (leb (G a) (length lent)) (planOffers raw T (planOf (a .form))) 0) (tables-in d e)
 
 -- the checks accept a question that was begun
-accepted-begun : (d l : Bytes) (s : List ℕ) → checked d l s .number ≡ 0 → (a : Accepted) × (examine d l ≡ got a)
+pub accepted-begun : (d l : Bytes) (s : List ℕ) → checked d l s .number ≡ 0 → (a : Accepted) × (examine d l ≡ got a)
 unfolding checked
 accepted-begun d l s e =
     let k : Accepted → Result (Answer ℕ) = λ a. got (record { size = 0; front = [] }) in
@@ -295,7 +295,7 @@ accepted-begun d l s e =
     (h .0, h .1 .0)
 
 -- the scratch of a call that was not 31
-long-begun : (d l : Bytes) (s : List ℕ) → checked d l s .number ≡ 0 → scratchWords ≤ length s
+pub long-begun : (d l : Bytes) (s : List ℕ) → checked d l s .number ≡ 0 → scratchWords ≤ length s
 unfolding checked
 long-begun d l s e = by-test (ltb (length s) scratchWords)
     (λ h. absurd (omega (arith, e, ap (λ (y : Outcome ℕ). y .number) (scratch-short s [] (andThen (examine d l) (λ a. got (record { size = 0; front = [] }))) (ltb-true (length s) scratchWords h)))))
@@ -308,8 +308,9 @@ pub record InPortions (d l : Bytes) (s₀ : List ℕ) (lent : List ℤ) (cs : Li
   pub is : examine d l ≡ got accepted
   pub whole : rowsInAll accepted lent ≤ given cs → Whole (rowsInAll accepted lent) cs (byPlan d l s₀ lent) s′ o′
 
-pub in-portions : (d l : Bytes) {s₀ s : List ℕ} {b : Reply} → BeginPost d l s₀ s b → b .number ≡ 0 → (lent : List ℤ) → length lent < numberLimit → (cs : List Call) → 0 < given cs → {s′ : List ℕ} {o′ : List ℤ} → Portions d cs s lent s′ o′
+pub in-portions : (d l : Bytes) {s₀ s : List ℕ} {b : Reply} → BeginPost scratchWords d l s₀ s b → b .number ≡ 0 → (lent : List ℤ) → length lent < numberLimit → (cs : List Call) → 0 < given cs → {s′ : List ℕ} {o′ : List ℤ} → Portions scratchWords d cs s lent s′ o′
     → InPortions d l s₀ lent cs s′ o′
+unfolding checked
 in-portions d l {s₀} {s} {b} B z lent short cs some {s′} {o′} P =
     let n : checked d l s₀ .number ≡ 0 = sym (B .number) ∙ z in
     let A = accepted-begun d l s₀ n in
@@ -336,7 +337,7 @@ seatOf (another-at i) = i
 
 -- what a portion leaves at its seat
 abbrev pub Leaves : Bytes → Turn → List ℕ → List ℤ → List ℕ → List ℤ → Type 0
-Leaves d (portion-at i c) s o s′ o′ = PortionPost d (c .rows) s o s′ o′ (c .said)
+Leaves d (portion-at i c) s o s′ o′ = PortionPost scratchWords d (c .rows) s o s′ o′ (c .said)
 Leaves d (another-at i) s o s′ o′ = Unit {0}
 
 -- no call changes what another seat has
@@ -365,21 +366,21 @@ Undisturbed i (portion-at j c ∷ cs) = Undisturbed i cs
 Undisturbed i (another-at j ∷ cs) = (i ≡ j → ⊥) × Undisturbed i cs
 
 -- "However their portions interleave", the portions of each seat are those of its question alone.
-pub alone : (d : Bytes) (cs : List Turn) (s : ℕ → List ℕ) (o : ℕ → List ℤ) (s′ : ℕ → List ℕ) (o′ : ℕ → List ℤ) → Interleaved d cs s o s′ o′ → (i : ℕ) → Undisturbed i cs → Portions d (portionsOf i cs) (s i) (o i) (s′ i) (o′ i)
+pub alone : (d : Bytes) (cs : List Turn) (s : ℕ → List ℕ) (o : ℕ → List ℤ) (s′ : ℕ → List ℕ) (o′ : ℕ → List ℤ) → Interleaved d cs s o s′ o′ → (i : ℕ) → Undisturbed i cs → Portions scratchWords d (portionsOf i cs) (s i) (o i) (s′ i) (o′ i)
 unfolding portionsOf pick
 alone d [] s o s′ o′ I i u = I i
 alone d (portion-at j c ∷ cs) s o s′ o′ (t, (p, (F, (N, I)))) i u = go (eqb i j) refl (alone d cs t p s′ o′ I i u)
   where
-    go : (b : Bool) → eqb i j ≡ b → Portions d (portionsOf i cs) (t i) (p i) (s′ i) (o′ i) → Portions d (pick b (c ∷ portionsOf i cs) (portionsOf i cs)) (s i) (o i) (s′ i) (o′ i)
-    go true h rest = (t i, (p i, (subst (λ (k : ℕ). PortionPost d (c .rows) (s k) (o k) (t k) (p k) (c .said)) (sym (eqb-true i j h)) F, rest)))
+    go : (b : Bool) → eqb i j ≡ b → Portions scratchWords d (portionsOf i cs) (t i) (p i) (s′ i) (o′ i) → Portions scratchWords d (pick b (c ∷ portionsOf i cs) (portionsOf i cs)) (s i) (o i) (s′ i) (o′ i)
+    go true h rest = (t i, (p i, (subst (λ (k : ℕ). PortionPost scratchWords d (c .rows) (s k) (o k) (t k) (p k) (c .said)) (sym (eqb-true i j h)) F, rest)))
     go false h rest =
         let n = N i (eqb-false i j h) in
-        subst (λ (y : List ℤ). Portions d (portionsOf i cs) (s i) y (s′ i) (o′ i)) (n .1) (subst (λ (y : List ℕ). Portions d (portionsOf i cs) y (p i) (s′ i) (o′ i)) (n .0) rest)
+        subst (λ (y : List ℤ). Portions scratchWords d (portionsOf i cs) (s i) y (s′ i) (o′ i)) (n .1) (subst (λ (y : List ℕ). Portions scratchWords d (portionsOf i cs) y (p i) (s′ i) (o′ i)) (n .0) rest)
 alone d (another-at j ∷ cs) s o s′ o′ (t, (p, (F, (N, I)))) i (h, u) =
     let n = N i h in
-    subst (λ (y : List ℤ). Portions d (portionsOf i cs) (s i) y (s′ i) (o′ i)) (n .1) (subst (λ (y : List ℕ). Portions d (portionsOf i cs) y (p i) (s′ i) (o′ i)) (n .0) (alone d cs t p s′ o′ I i u))
+    subst (λ (y : List ℤ). Portions scratchWords d (portionsOf i cs) (s i) y (s′ i) (o′ i)) (n .1) (subst (λ (y : List ℕ). Portions scratchWords d (portionsOf i cs) y (p i) (s′ i) (o′ i)) (n .0) (alone d cs t p s′ o′ I i u))
 
 -- "However their portions interleave, each ends with the words and refusal of a single call alone."
-pub interleaved : (d l : Bytes) (i : ℕ) (cs : List Turn) {s₀ : List ℕ} {b : Reply} (s : ℕ → List ℕ) (o : ℕ → List ℤ) (s′ : ℕ → List ℕ) (o′ : ℕ → List ℤ) → BeginPost d l s₀ (s i) b → b .number ≡ 0 → length (o i) < numberLimit
+pub interleaved : (d l : Bytes) (i : ℕ) (cs : List Turn) {s₀ : List ℕ} {b : Reply} (s : ℕ → List ℕ) (o : ℕ → List ℤ) (s′ : ℕ → List ℕ) (o′ : ℕ → List ℤ) → BeginPost scratchWords d l s₀ (s i) b → b .number ≡ 0 → length (o i) < numberLimit
     → Interleaved d cs s o s′ o′ → Undisturbed i cs → 0 < given (portionsOf i cs) → InPortions d l s₀ (o i) (portionsOf i cs) (s′ i) (o′ i)
 interleaved d l i cs s o s′ o′ B z short I u some = in-portions d l B z (o i) short (portionsOf i cs) some (alone d cs s o s′ o′ I i u)

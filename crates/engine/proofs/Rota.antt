@@ -11,7 +11,7 @@ use lib.IntN.{ℤ}
 use Rattle.spec_calculus.specs.Lists.{pick}
 use Rattle.spec_calculus.proofs.Lists.{All}
 use Rattle.spec_encoding.specs.Record.{Bytes}
-use Rattle.spec_outcome.specs.Outcome.{Outcome}
+use Rattle.spec_outcome.specs.Outcome.{Outcome, scratchWords}
 use Rattle.base_signed.specs.Limit.{numberLimit}
 use Rattle.spec_outcome.specs.Rota.{rotaFits}
 use Rattle.base_rota.proofs.Laws.{quota-within}
@@ -32,7 +32,7 @@ positive (suc k) q h j = omega (arith, times k q)
 -- seats may be lent to any call.
 abbrev pub Visits : Bytes → List ℕ → ℕ → List Portioned → Seat → Seat → Type 0
 Visits d qs i [] x y = y ≡ x
-Visits d qs i (r ∷ rs) x y = (z : Seat) × (SeatPost d qs i x z r × Visits d qs i rs z y)
+Visits d qs i (r ∷ rs) x y = (z : Seat) × (SeatPost scratchWords d qs i x z r × Visits d qs i rs z y)
 
 module _ (qs : List ℕ) (i : ℕ) (f : rotaFits qs ≡ true) (l : i < length qs) where
   abbrev quota : ℕ
@@ -43,7 +43,7 @@ module _ (qs : List ℕ) (i : ℕ) (f : rotaFits qs ≡ true) (l : i < length qs
   calls [] = []
   calls (r ∷ rs) = record { rows = quota; said = r } ∷ calls rs
 
-  visited : (d : Bytes) (rs : List Portioned) (x y : Seat) → Visits d qs i rs x y → Portions d (calls rs) (x .scratch) (x .answer) (y .scratch) (y .answer)
+  visited : (d : Bytes) (rs : List Portioned) (x y : Seat) → Visits d qs i rs x y → Portions scratchWords d (calls rs) (x .scratch) (x .answer) (y .scratch) (y .answer)
   unfolding calls
   visited d [] x y e = (ap (λ (z : Seat). z .scratch) e, ap (λ (z : Seat). z .answer) e)
   visited d (r ∷ rs) x y (z, (S, N)) = (z .scratch, (z .answer, (S .visited l, visited d rs z y N)))
@@ -103,7 +103,7 @@ module _ (qs : List ℕ) (i : ℕ) (f : rotaFits qs ≡ true) (l : i < length qs
 
   -- A question that was begun at this seat, and rounds of which there are enough for its rows: it is told unfinished with its quota in
   -- each round before the last, and ends in the last of them as a single call does (`Whole`); `ends-within` has which round that is.
-  pub seat-ends : (d m : Bytes) {s₀ s : List ℕ} {b : Reply} → BeginPost d m s₀ s b → b .number ≡ 0 → (lent : List ℤ) → length lent < numberLimit → (rs : List Portioned) → 1 ≤ length rs → (y : Seat)
+  pub seat-ends : (d m : Bytes) {s₀ s : List ℕ} {b : Reply} → BeginPost scratchWords d m s₀ s b → b .number ≡ 0 → (lent : List ℤ) → length lent < numberLimit → (rs : List Portioned) → 1 ≤ length rs → (y : Seat)
       → Visits d qs i rs (record { scratch = s; answer = lent }) y → InPortions d m s₀ lent (calls rs) (y .scratch) (y .answer)
   seat-ends d m {s₀} {s} B z lent short rs h y N =
       in-portions d m B z lent short (calls rs) (subst (λ k. 0 < k) (sym (given-quota (calls rs) (all-quota rs) ∙ ap (λ k. k * quota) (length-calls rs))) (positive (length rs) quota h (quota-within qs i f l .0)))

@@ -34,7 +34,7 @@ pub record SameCall {A : Type 0} (r r′ : Reply) (c c′ : List A) (u u′ : Li
   pub buffers : c ≡ c′
   pub scratches : u ≡ u′
 
-same-call : {A : Type 0} {o p : Outcome A} {r r′ : Reply} {c c′ : List A} {u u′ : List ℕ} → o ≡ p → Gives o (r .number) (r .length) c u → Gives p (r′ .number) (r′ .length) c′ u′ → SameCall r r′ c c′ u u′
+pub same-call : {A : Type 0} {o p : Outcome A} {r r′ : Reply} {c c′ : List A} {u u′ : List ℕ} → o ≡ p → Gives o (r .number) (r .length) c u → Gives p (r′ .number) (r′ .length) c′ u′ → SameCall r r′ c c′ u u′
 same-call e P Q = record {
   numbers = P .number ∙ ap (λ (o : Outcome _). o .number) e ∙ sym (Q .number);
   lengths = P .size ∙ ap (λ (o : Outcome _). o .size) e ∙ sym (Q .size);

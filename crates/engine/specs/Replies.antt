@@ -11,7 +11,7 @@ use Rattle.engine.specs.declared.Reply.{Reply}
 use Rattle.engine.specs.declared.Admitted.{Admitted}
 use Rattle.engine.specs.declared.Admitted.the-variants as Admitted
 
--- "31: scratch under 8,192 words. Scratch stays untouched"; else what the checks say
+-- "31: scratch under .. words. Scratch stays untouched"; else what the checks say
 abbrev pub AdmittedBy : Bytes → Bytes → List ℕ → List ℕ → Admitted → Type 0
 AdmittedBy d l s s′ Admitted.Scant = (length s < scratchWords) × (s′ ≡ s)
 AdmittedBy d l s s′ (Admitted.Refused k) = (scratchWords ≤ length s) × PreparePost d l s s′ (Checked.Refused k)
@@ -24,4 +24,4 @@ pub record AdmitPost (d l : Bytes) (s s′ : List ℕ) (r : Admitted) : Type 0 w
 pub record Replies (s s′ : List ℕ) (k n : ℕ) (r : Reply) : Type 0 where
   pub number : r .number ≡ k
   pub length : r .length ≡ n
-  pub scratch : s′ ≡ cleared s
+  pub scratch : s′ ≡ cleared scratchWords s

@@ -4,6 +4,7 @@ ghost use Prim.Native.Nat.{_≤_, _<_};
 ghost use lib.ListN.{length};
 ghost use Rattle.spec_outcome.specs.Outcome.{byLoops, byPlan, checked, planLines, scratchWords};
 ghost use Rattle.spec_outcome.specs.Gives.{Gives};
+ghost use Rattle.spec_outcome.specs.Directions.{tableToColumns, tableToRows, Fills};
 ghost use Rattle.engine.specs.Replies.{AdmitPost, Replies};
 ghost use Rattle.engine.specs.Portions.{BeginPost, PortionPost, Says, EndedPost};
 ghost use Rattle.engine.specs.Rota.{seatOf, SeatPost, TwoSeatsPost, RoundPost};
@@ -31,7 +32,7 @@ pub enum Admitted {
     Accepted,
 }
 
-// "31: scratch under 8,192 words. Scratch stays untouched." Then the checks.
+// "31: scratch under .. words. Scratch stays untouched": under 2,048 by document 02, E13. Then the checks.
 pub fn admit(tables: &[u8], question: &[u8], scratch: &mut [u64]) -> Admitted
     ensures { λ r. ⌜ AdmitPost (now (tables .entry)) (now (question .entry)) (now (scratch .entry)) (now (scratch .exit)) r ⌝ }
 {
@@ -153,7 +154,7 @@ pub struct Portioned {
 // "One call begins, with all refusals to 28." Then scratch holds the unfinished question.
 #[no_mangle]
 pub extern "C" fn dislogha_begin(tables: &[u8], question: &[u8], scratch: &mut [u64]) -> Reply
-    ensures { λ r. ⌜ BeginPost (now (tables .entry)) (now (question .entry)) (now (scratch .entry)) (now (scratch .exit)) r ⌝ }
+    ensures { λ r. ⌜ BeginPost scratchWords (now (tables .entry)) (now (question .entry)) (now (scratch .entry)) (now (scratch .exit)) r ⌝ }
 {
     match admit(tables, question, scratch) {
         Admitted::Scant => Reply {
@@ -206,7 +207,7 @@ pub extern "C" fn dislogha_portion(
     answer: &mut [i64],
     rows: u64,
 ) -> Portioned
-    ensures { λ r. ⌜ PortionPost (now (tables .entry)) rows (now (scratch .entry)) (now (answer .entry)) (now (scratch .exit)) (now (answer .exit)) r ⌝ }
+    ensures { λ r. ⌜ PortionPost scratchWords (now (tables .entry)) rows (now (scratch .entry)) (now (answer .entry)) (now (scratch .exit)) (now (answer .exit)) r ⌝ }
 {
     if rows == 0 {
         return declined(base_refusals::ROWS_OUT_OF_RANGE);
@@ -232,7 +233,7 @@ pub extern "C" fn dislogha_portion(
 
 // A round at seat i: a portion of its quota, if the rota has that seat.
 fn seat(tables: &[u8], quotas: &[u64], i: usize, s: &mut [u64], o: &mut [i64]) -> Portioned
-    ensures { λ r. ⌜ SeatPost (now (tables .entry)) (now (quotas .entry)) i (seatOf (now (s .entry)) (now (o .entry))) (seatOf (now (s .exit)) (now (o .exit))) r ⌝ }
+    ensures { λ r. ⌜ SeatPost scratchWords (now (tables .entry)) (now (quotas .entry)) i (seatOf (now (s .entry)) (now (o .entry))) (seatOf (now (s .exit)) (now (o .exit))) r ⌝ }
 {
     if quotas.len() <= i {
         return declined(0);
@@ -258,7 +259,7 @@ fn two_seats(
     o1: &mut [i64],
 ) -> TwoSeats
     requires { ⌜ i < 4 ⌝ }
-    ensures { λ r. ⌜ TwoSeatsPost (now (tables .entry)) (now (quotas .entry)) i (seatOf (now (s0 .entry)) (now (o0 .entry))) (seatOf (now (s1 .entry)) (now (o1 .entry))) (seatOf (now (s0 .exit)) (now (o0 .exit))) (seatOf (now (s1 .exit)) (now (o1 .exit))) r ⌝ }
+    ensures { λ r. ⌜ TwoSeatsPost scratchWords (now (tables .entry)) (now (quotas .entry)) i (seatOf (now (s0 .entry)) (now (o0 .entry))) (seatOf (now (s1 .entry)) (now (o1 .entry))) (seatOf (now (s0 .exit)) (now (o0 .exit))) (seatOf (now (s1 .exit)) (now (o1 .exit))) r ⌝ }
 {
     let first = seat(tables, quotas, i, s0, o0);
     let second = seat(tables, quotas, i + 1, s1, o1);
@@ -289,7 +290,7 @@ pub extern "C" fn dislogha_round(
     scratch4: &mut [u64],
     answer4: &mut [i64],
 ) -> Round
-    ensures { λ r. ⌜ RoundPost (now (tables .entry)) (now (quotas .entry)) (seatOf (now (scratch1 .entry)) (now (answer1 .entry))) (seatOf (now (scratch2 .entry)) (now (answer2 .entry))) (seatOf (now (scratch3 .entry)) (now (answer3 .entry))) (seatOf (now (scratch4 .entry)) (now (answer4 .entry))) (seatOf (now (scratch1 .exit)) (now (answer1 .exit))) (seatOf (now (scratch2 .exit)) (now (answer2 .exit))) (seatOf (now (scratch3 .exit)) (now (answer3 .exit))) (seatOf (now (scratch4 .exit)) (now (answer4 .exit))) r ⌝ }
+    ensures { λ r. ⌜ RoundPost scratchWords (now (tables .entry)) (now (quotas .entry)) (seatOf (now (scratch1 .entry)) (now (answer1 .entry))) (seatOf (now (scratch2 .entry)) (now (answer2 .entry))) (seatOf (now (scratch3 .entry)) (now (answer3 .entry))) (seatOf (now (scratch4 .entry)) (now (answer4 .entry))) (seatOf (now (scratch1 .exit)) (now (answer1 .exit))) (seatOf (now (scratch2 .exit)) (now (answer2 .exit))) (seatOf (now (scratch3 .exit)) (now (answer3 .exit))) (seatOf (now (scratch4 .exit)) (now (answer4 .exit))) r ⌝ }
 {
     let fits = rota_fits(quotas);
     if !fits {
@@ -314,5 +315,29 @@ pub extern "C" fn dislogha_round(
         second,
         third,
         fourth,
+    }
+}
+
+// "Give both directions into a lent buffer": a table's record of kind 20 as kind 23.
+#[no_mangle]
+pub extern "C" fn dislogha_table_to_columns(source: &[u8], target: &mut [u8]) -> Reply
+    ensures { λ r. ⌜ Fills (tableToColumns (now (source .entry)) (now (target .entry))) (r .number) (r .length) (now (target .exit)) ⌝ }
+{
+    let t = base_columns::to_columns(source, target);
+    Reply {
+        number: t.number,
+        length: t.length as u64,
+    }
+}
+
+// And of kind 23 as kind 20: "each undoes the other".
+#[no_mangle]
+pub extern "C" fn dislogha_table_to_rows(source: &[u8], target: &mut [u8]) -> Reply
+    ensures { λ r. ⌜ Fills (tableToRows (now (source .entry)) (now (target .entry))) (r .number) (r .length) (now (target .exit)) ⌝ }
+{
+    let t = base_columns::to_rows(source, target);
+    Reply {
+        number: t.number,
+        length: t.length as u64,
     }
 }

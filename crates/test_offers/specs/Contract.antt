@@ -6,7 +6,7 @@ use lib.ListN.{length, getD}
 use lib.IntN.{ℤ}
 use Rattle.spec_encoding.specs.Record.{Bytes}
 use Rattle.spec_outcome.specs.Acceptance.{Accepted}
-use Rattle.base_scratch.specs.Map.{unusedAt}
+use Rattle.base_scratch.specs.Map.{scratchSize}
 use Rattle.form_prepared.specs.PreparedQuestion.{Prepared}
 use Rattle.plan_machine.specs.Machine.{State, due}
 use Rattle.form_env.specs.Environment.{tablesIn}
@@ -28,4 +28,4 @@ pub record CountPost (d : Bytes) (s : List ℕ) (o : List ℤ) (code : ℕ) (s�
 pub record RowsOfPost (d : Bytes) (s s′ : List ℕ) (r : ℕ) : Type 0 where
   pub is : (a : Accepted) → Prepared d a s → r ≡ offeredRows a
   pub long : length s′ ≡ length s
-  pub above : (j : ℕ) → unusedAt ≤ j → getD s′ j 0 ≡ getD s j 0
+  pub above : (j : ℕ) → scratchSize ≤ j → getD s′ j 0 ≡ getD s j 0

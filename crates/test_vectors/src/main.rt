@@ -110,10 +110,10 @@ fn ask_all(s: &[u8], scratch: &mut [u64], words: &mut [i64]) {
     }
 }
 
-fn space() -> [u8; 262144]
-    ensures { λ r. ⌜ (262144 ≡ length r) × (r ≡ replicate 262144 0) ⌝ }
+fn space() -> [u8; 524288]
+    ensures { λ r. ⌜ (524288 ≡ length r) × (r ≡ replicate 524288 0) ⌝ }
 {
-    [0; 262144]
+    [0; 524288]
 }
 
 fn main() {

@@ -2,6 +2,7 @@
 // The input is the listing: the data, then the question.
 ghost use Prim.Native.Nat.{_<_, _≤_};
 ghost use lib.ListN.{length};
+ghost use Rattle.base_scratch.specs.Map.{scratchSize};
 use base_scratch::BINDERS;
 use base_scratch::DESCRIPTIONS;
 use base_scratch::ENVIRONMENT;
@@ -15,7 +16,7 @@ use base_scratch::TOTALS;
 use front_end::FrontResult;
 
 // The bytes of the listing's data.
-const DATA: usize = 48;
+const DATA: usize = 66;
 
 // How a word is taken apart.
 enum Format {
@@ -153,7 +154,6 @@ fn show(s: &[u64], a: usize, b: usize, f: Format) {
 // The front end: what stands in scratch when 27 has passed.
 fn show_question(s: &[u64], n: usize) {
     say(b"tables (base_tables::read_data)\n");
-    show(s, 0, DESCRIPTIONS, Format::Whole);
     show(s, DESCRIPTIONS, NODES, Format::Description);
     say(b"nodes (front_parser::read_question)\n");
     show(s, NODES, BINDERS, Format::Node);
@@ -299,7 +299,7 @@ fn written(data: &[u8], question: &[u8], s: &mut [u64]) {
 }
 
 fn walk(data: &[u8], question: &[u8], s: &mut [u64])
-    requires { ⌜ 8192 ≤ length (now s) ⌝ }
+    requires { ⌜ scratchSize ≤ length (now s) ⌝ }
 {
     match front_end::front_end(data, question, s) {
         FrontResult::Refused(_) => {}
@@ -314,7 +314,7 @@ fn walk(data: &[u8], question: &[u8], s: &mut [u64])
 }
 
 fn listing(input: &[u8], s: &mut [u64])
-    requires { ⌜ 8192 ≤ length (now s) ⌝ }
+    requires { ⌜ scratchSize ≤ length (now s) ⌝ }
 {
     if input.len() < DATA {
         return;
@@ -325,6 +325,6 @@ fn listing(input: &[u8], s: &mut [u64])
 fn main() {
     let mut input = [0u8; 4096];
     let n = io::read_full(0, &mut input);
-    let mut scratch = [0u64; 8192];
+    let mut scratch = [0u64; base_scratch::WORDS];
     listing(&input[..n], &mut scratch);
 }
