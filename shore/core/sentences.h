@@ -1,0 +1,40 @@
+// What the engine's numbers say, in the papers' words.
+#ifndef SHORE_SENTENCES_H
+#define SHORE_SENTENCES_H
+
+#include <cstdint>
+
+namespace shore {
+
+inline const char *sentence(std::uint64_t number) {
+    switch (number) {
+    case 11: return "a record of the data cut short or not a table";
+    case 12: return "collection, columns or rows outside their ranges, or a length that does not match";
+    case 13: return "a ninth table";
+    case 21: return "a question over 4,096 bytes";
+    case 22: return "a record that breaks the byte rules, none at all, or bytes left over";
+    case 23: return "a 33rd level or a 257th record";
+    case 24: return "a name out of scope or bound twice";
+    case 25: return "a type, field or table that does not fit";
+    case 26: return "a generator its monoid may not have";
+    case 27: return "a normal form over 512 nodes";
+    case 28: return "a number with a bound over 2^62";
+    case 31: return "scratch under 2,048 words";
+    case 32: return "the answer has more words than the buffer";
+    case 33: return "the plan's lines are longer than the buffer";
+    case 41: return "a calendar that breaks its layout, or a date that does not exist";
+    case 42: return "a calendar that is not there";
+    case 43: return "a bound over 2^31, or a cell beyond its column's";
+    case 47: return "a portion of 0 rows or above 65,535";
+    case 48: return "a portion where no question is unfinished";
+    case 49: return "seats or quota outside their ranges";
+    case 50: return "a table's number above 7";
+    case 51: return "a table's number that an earlier one has";
+    case 52: return "the target is shorter than the record";
+    default: return "a number that the desk does not know";
+    }
+}
+
+} // namespace shore
+
+#endif

@@ -1,0 +1,41 @@
+"""one_file.py MODULE PAGE: page.html with all that it needs in it, as one file."""
+import base64
+import json
+import sys
+from pathlib import Path
+
+HERE = Path(__file__).resolve().parent
+SCRIPTS = ['engine.js', 'values.js', 'tables.js', 'plan.js', 'question.js', 'seats.js', 'page.js']
+EXAMPLES = HERE.parent / 'examples'
+
+
+def script(value):
+    """A value of JavaScript, such that no tag ends in it."""
+    return json.dumps(value).replace('</', '<\\/')
+
+
+def examples():
+    """The tables and questions that the page begins with."""
+    tables = []
+    for name, collection in (('berths', 'bag'), ('bollards', 'bag'), ('locks', 'set')):
+        lines = (EXAMPLES / (name + '.csv')).read_text().split()
+        tables.append({'name': name, 'collection': collection, 'columns': lines[0].split(','),
+                       'rows': [line.split(',') for line in lines[1:]]})
+    questions = [line.split(': ', 1) for line in (HERE / 'questions').read_text().splitlines() if line]
+    return {'tables': tables, 'questions': questions}
+
+
+def main(module, page):
+    parts = {name: (HERE / name).read_text() for name in ('page.css', 'proved.html')}
+    parts['engine'] = base64.b64encode(Path(module).read_bytes()).decode()
+    parts['examples'] = script(examples())
+    parts['worker'] = script((HERE / 'worker.js').read_text())
+    parts['script'] = '\n'.join((HERE / name).read_text() for name in SCRIPTS)
+    text = (HERE / 'page.html').read_text()
+    for name, part in parts.items():
+        text = text.replace('@%s@' % name, part)
+    Path(page).write_text(text)
+    print('%s: %s bytes' % (page, format(len(text.encode()), ',')))
+
+
+main(*sys.argv[1:])

@@ -1,0 +1,396 @@
+// The page's calls. Text is put into `room`, a call reads it, and what it has to say is JSON at `reply`. One instance is at work on one thing at a time: the
+// page has several.
+
+#include <memory>
+#include <string>
+
+#include "ask.h"
+#include "between.h"
+#include "portions.h"
+#include "json.h"
+#include "typed.h"
+
+#define EXPORT(name) extern "C" __attribute__((export_name(#name)))
+
+namespace {
+
+using namespace shore;
+
+// Rows may be shown between operators where no more are offered, and so many of each stream, and of each collection of an answer, are told.
+constexpr double most_for_rows = 20000;
+constexpr std::size_t most_told = 1000;
+
+Engine engine;
+std::string given;
+std::string told;
+
+// The question that is loaded, and how it is answered.
+TypedPage page;
+Reply asked;
+Words answered;
+Seat alone;
+double offered_before = 0;
+
+// The rota's tables, and the type of each seat's answer.
+Rota rota;
+Bytes rota_data;
+TypeOf seat_types[dislogha::most_seats];
+
+void reply_with(const Json &json) { told = json.text(); }
+
+void tell_number(Json &json, std::uint64_t number) {
+    json.key("number").number(static_cast<double>(number));
+    if (number != 0) {
+        json.key("sentence").string(sentence(number));
+    }
+}
+
+void tell_strings(Json &json, const std::vector<std::string> &strings) {
+    json.open('[');
+    for (const std::string &each : strings) {
+        json.string(each);
+    }
+    json.close(']');
+}
+
+// ------------------------------------------------------------------------------------------ values
+
+void tell(Json &json, const TypeOf &type) {
+    const char *sorts[] = {"unknown", "number", "truth", "record"};
+    json.open('{').key("sort").string(type->sort == Sort::collection ? collection_name(type->collection)
+                                                                    : sorts[static_cast<int>(type->sort)]);
+    json.key("names");
+    tell_strings(json, type->names);
+    json.key("parts").open('[');
+    for (const TypeOf &part : type->parts) {
+        tell(json, part);
+    }
+    json.close(']').close('}');
+}
+
+void tell(Json &json, const TypeOf &type, const Value &value) {
+    switch (type->sort) {
+    case Sort::truth: json.truth(value.word != 0); break;
+    case Sort::record:
+        json.open('[');
+        for (std::size_t i = 0; i < value.parts.size(); i++) {
+            tell(json, type->parts[i], value.parts[i]);
+        }
+        json.close(']');
+        break;
+    case Sort::collection:
+        json.open('{').key("count").number(static_cast<double>(value.parts.size())).key("first").open('[');
+        for (std::size_t i = 0; i < value.parts.size() && i < most_told; i++) {
+            tell(json, type->parts[0], value.parts[i]);
+        }
+        json.close(']').close('}');
+        break;
+    default: json.word(value.word); break;
+    }
+}
+
+// Number or words, and the value that the words are of that type.
+void tell_answer(Json &json, const TypeOf &type, const Words &words) {
+    tell_number(json, words.number);
+    if (words.number != 0) {
+        return;
+    }
+    std::string written;
+    for (std::int64_t word : words.words) {
+        written += (written.empty() ? "" : " ") + std::to_string(word);
+    }
+    json.key("words").string(written);
+    Value value;
+    std::size_t at = 0;
+    if (read_value(type, words.words, at, value) && at == words.words.size()) {
+        json.key("type");
+        tell(json, type);
+        json.key("value");
+        tell(json, type, value);
+    }
+}
+
+// ------------------------------------------------------------------------------------------ faults
+
+void tell_fault(Json &json, const TableFault &fault) {
+    json.key("fault").open('{').key("table").number(fault.table).key("row").number(fault.row);
+    json.key("column").number(fault.column).key("why").string(fault.what).close('}');
+}
+
+// A text is unfinished where it ends too soon, or in a bracket.
+bool unfinished(const std::string &typed, const text::Place &at) {
+    int brackets = 0;
+    for (char c : typed) {
+        brackets += c == '{' || c == '(' ? 1 : c == '}' || c == ')' ? -1 : 0;
+    }
+    return brackets > 0 || typed.find_first_not_of(" \t\r\n", at.from) == std::string::npos;
+}
+
+void tell_fault(Json &json, const Reply &reply) {
+    const text::Place at = reply.located.at;
+    json.key("fault").open('{').key("from").number(at.from).key("to").number(at.to);
+    json.key("why").string(reply.located.what);
+    json.key("unfinished").truth(!reply.understood() && unfinished(reply.question->typed, at)).close('}');
+}
+
+// What is wrong with the tables, if anything is: as they are typed, or by the engine's word.
+bool tables_wrong(Json &json, const TypedPage &typed) {
+    if (!typed.fault.none()) {
+        json.key("number").nothing();
+        tell_fault(json, typed.fault);
+        return true;
+    }
+    const DataLocating located(engine, typed.tables);
+    if (located.number() != 0) {
+        tell_number(json, located.number());
+        tell_fault(json, located.fault());
+        return true;
+    }
+    return false;
+}
+
+// Reads tables and question, and says whether they are accepted.
+bool accepted(Json &json, std::uint32_t bytes) {
+    page = PageReading(given.substr(0, bytes)).page();
+    asked = Reply();
+    if (tables_wrong(json, page)) {
+        return false;
+    }
+    asked = prepared(engine, page.tables, page.question);
+    if (!asked.understood()) {
+        json.key("number").nothing();
+    } else {
+        tell_number(json, asked.number);
+    }
+    if (!asked.accepted()) {
+        tell_fault(json, asked);
+    }
+    return asked.accepted();
+}
+
+// -------------------------------------------------------------------------------------------- plan
+
+std::string title(const Step &step) {
+    if (step.name == "one") {
+        return "one row of no places";
+    }
+    if (step.name == "reduce") {
+        return "reduce to " + step.monoid;
+    }
+    if (step.name == "nest") {
+        const std::string called = step.labels.back() == step.monoid ? "the " : step.labels.back() + ", the ";
+        const std::string kept = step.kept == 0 ? "of all rows" : "for each row of " + listed(step.labels, step.kept);
+        return "nest: " + called + step.monoid + " " + kept;
+    }
+    return step.name + " " + step.labels.back();
+}
+
+void tell_operator(Json &json, const Step &step, const Step &before) {
+    const bool grows = step.name == "join" || step.name == "outer";
+    const PlanWords words(page.tables, grows ? step.labels : before.labels, grows ? step.tables : before.tables);
+    json.key("op").string(step.name).key("title").string(title(step));
+    if (step.name == "nest" || step.name == "reduce") {
+        json.key("head").string(words.term(step.head));
+    }
+    if (step.name != "one" && step.condition.atom != "true") {
+        json.key("condition").string(words.term(step.condition));
+    }
+    json.key("places");
+    tell_strings(json, step.labels);
+}
+
+// Rows, or why there are none to show.
+void tell_rows(Json &json, const Stage &stage) {
+    if (!stage.shown()) {
+        json.key("unshown").string(stage.too_large ? "too large to be asked" : "refused by " + std::to_string(stage.number));
+        return;
+    }
+    json.key("rows").open('{').key("count").number(static_cast<double>(stage.rows.size())).key("first").open('[');
+    for (std::size_t i = 0; i < stage.rows.size() && i < most_told; i++) {
+        tell_strings(json, stage.rows[i]);
+    }
+    json.close(']').close('}');
+}
+
+// Of a nest also the operator whose place it takes: its rows begin there.
+void tell_plan(Json &json) {
+    const bool rows = most_offered(asked.steps, page.tables) <= most_for_rows;
+    const std::vector<Stage> stages = rows ? Between(engine, asked.steps, page.tables).stages() : std::vector<Stage>();
+    std::vector<std::size_t> begun;
+    std::size_t stage = 0;
+    json.key("steps").open('[');
+    for (std::size_t i = 0; i < asked.steps.size(); i++) {
+        const Step &step = asked.steps[i];
+        json.open('{');
+        tell_operator(json, step, asked.steps[i == 0 ? 0 : i - 1]);
+        if (step.name == "nest" && step.kept < begun.size()) {
+            json.key("opens").number(static_cast<double>(begun[step.kept]));
+        }
+        begun.resize(step.labels.size(), i);
+        if (step.name == "nest") {
+            begun.back() = i;
+        }
+        if (step.name != "one" && step.name != "reduce" && stage < stages.size()) {
+            tell_rows(json, stages[stage++]);
+        }
+        json.close('}');
+    }
+    json.close(']');
+}
+
+void tell_question(Json &json) {
+    std::string hexadecimal;
+    for (std::uint8_t byte : asked.question->bytes) {
+        constexpr char digits[] = "0123456789abcdef";
+        hexadecimal += digits[byte / 16];
+        hexadecimal += digits[byte % 16];
+    }
+    text::Fault fault;
+    json.key("bytes").string(hexadecimal);
+    json.key("readBack").string(text_of(asked.question->bytes, page.tables, fault));
+}
+
+} // namespace
+
+// ------------------------------------------------------------------------------------------- calls
+
+EXPORT(room) char *room(std::uint32_t bytes) {
+    if (given.size() < bytes) {
+        given.resize(bytes);
+    }
+    return &given[0];
+}
+
+EXPORT(reply) const char *reply() { return told.data(); }
+
+EXPORT(reply_length) std::uint32_t reply_length() { return static_cast<std::uint32_t>(told.size()); }
+
+// A file's columns and rows, or what is wrong with it.
+EXPORT(csv) void csv(std::uint32_t bytes) {
+    const Csv read = read_csv(given.substr(0, bytes));
+    Json json;
+    json.open('{');
+    if (!read.good()) {
+        const std::string column = read.fault.column == 0 ? "" : ", column " + std::to_string(read.fault.column);
+        json.key("why").string("line " + std::to_string(read.fault.line) + column + ": " + read.fault.what);
+    } else {
+        json.key("columns");
+        tell_strings(json, read.table.columns);
+        json.key("rows").open('[');
+        for (const auto &row : read.table.rows) {
+            json.open('[');
+            for (std::int32_t cell : row) {
+                json.word(cell);
+            }
+            json.close(']');
+        }
+        json.close(']');
+    }
+    reply_with(json.close('}'));
+}
+
+// All that can be said of tables and question without an answer.
+EXPORT(look) void look(std::uint32_t bytes) {
+    Json json;
+    json.open('{');
+    const bool good = accepted(json, bytes);
+    if (asked.question && asked.understood()) {
+        tell_question(json);
+    }
+    if (good) {
+        json.key("lines").string(asked.lines);
+        json.key("rows").number(2 * most_offered(asked.steps, page.tables));
+        tell_plan(json);
+    }
+    reply_with(json.close('}'));
+}
+
+// Tables and question for the calls that answer.
+EXPORT(load) void load(std::uint32_t bytes) {
+    Json json;
+    json.open('{');
+    accepted(json, bytes);
+    reply_with(json.close('}'));
+}
+
+EXPORT(loops) void loops() { answered = engine.by_loops(asked.data, asked.question->bytes); }
+
+EXPORT(begin) void begin() {
+    offered_before = 0;
+    alone.begin(asked.data, asked.question->bytes, Engine::first_answer);
+}
+
+// Offers rows to the question, unless it is finished; gives whether it is unfinished. An answer that needs a longer buffer is begun anew with one.
+EXPORT(portion) std::uint32_t portion(std::uint32_t rows) {
+    if (!alone.unfinished()) {
+        return 0;
+    }
+    alone.portion(asked.data, rows);
+    if (alone.unfinished()) {
+        return 1;
+    }
+    answered = alone.words();
+    const bool longer = answered.number == static_cast<std::uint64_t>(dislogha::Refusal::answer_too_short) && alone.room() < engine.lent.answer;
+    if (longer) {
+        offered_before += static_cast<double>(alone.offered());
+        alone.begin(asked.data, asked.question->bytes, Engine::larger(alone.room()));
+    }
+    return longer ? 1 : 0;
+}
+
+// Rows that the question was offered, for a buffer that was too short, too.
+EXPORT(offered) double offered() { return offered_before + static_cast<double>(alone.offered()); }
+
+// What the call that answered gave.
+EXPORT(answer) void answer_told() {
+    Json json;
+    json.open('{');
+    tell_answer(json, asked.type, answered);
+    json.key("rows").number(static_cast<double>(alone.offered()));
+    reply_with(json.close('}'));
+}
+
+// Begins a question at a seat. The tables are those of the questions that are unfinished at the others.
+EXPORT(seat) void seat(std::uint32_t bytes, std::uint32_t at) {
+    Json json;
+    json.open('{');
+    rota.seat(at).leave();
+    if (accepted(json, bytes)) {
+        if (rota_data != asked.data) {
+            rota.leave();
+            rota_data = asked.data;
+        }
+        rota.seat(at).begin(rota_data, asked.question->bytes, Engine::first_answer);
+        seat_types[at] = asked.type;
+    }
+    reply_with(json.close('}'));
+}
+
+// One round over so many seats.
+EXPORT(round) void round_made(std::uint32_t, std::uint32_t count, std::uint32_t first, std::uint32_t second, std::uint32_t third, std::uint32_t fourth) {
+    std::vector<std::uint64_t> quotas{first, second, third, fourth};
+    quotas.resize(count < 8 ? count : 8, 1);
+    const auto said = rota.round(rota_data, quotas);
+    Json json;
+    json.open('{');
+    tell_number(json, static_cast<std::uint64_t>(said.refusal));
+    json.key("seats").open('[');
+    for (std::size_t i = 0; i < said.visited; i++) {
+        const auto &portion = said.seats[i];
+        json.open('{').key("rows").number(static_cast<double>(portion.offered));
+        json.key("unfinished").truth(portion.unfinished());
+        if (portion.finished) {
+            tell_answer(json, seat_types[i], rota.seat(i).words());
+        } else {
+            tell_number(json, static_cast<std::uint64_t>(portion.refusal));
+        }
+        json.close('}');
+    }
+    reply_with(json.close(']').close('}'));
+}
+
+// Gives all questions of the rota up.
+EXPORT(leave) void leave(std::uint32_t) {
+    rota.leave();
+    told = "{}";
+}

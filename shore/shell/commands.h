@@ -1,0 +1,494 @@
+// The commands: a line that begins with a point.
+#ifndef SHORE_COMMANDS_H
+#define SHORE_COMMANDS_H
+
+#include <cstdlib>
+#include <string>
+#include <vector>
+
+#include "between.h"
+#include "files.h"
+
+namespace shore {
+
+using Arguments = std::vector<std::string>;
+
+// A line's words; one in quotation marks may have spaces.
+inline Arguments words_of(const std::string &line) {
+    Arguments words;
+    std::size_t at = 0;
+    while ((at = line.find_first_not_of(" \t", at)) != std::string::npos) {
+        const bool quoted = line[at] == '"';
+        const std::size_t from = quoted ? at + 1 : at;
+        std::size_t end = quoted ? line.find('"', from) : line.find_first_of(" \t", from);
+        end = end == std::string::npos ? line.size() : end;
+        words.push_back(line.substr(from, end - from));
+        at = quoted ? end + 1 : end;
+    }
+    return words;
+}
+
+// A number without sign, or `limit` + 1 for anything else.
+inline std::int64_t number_of(const std::string &word, std::int64_t limit) {
+    const bool digits = !word.empty() && word.find_first_not_of("0123456789") == std::string::npos;
+    return digits ? text::value_of(chars_of(word), limit) : limit + 1;
+}
+
+class Commands {
+  public:
+    explicit Commands(Desk &desk) : desk_(desk) {}
+
+    struct Command {
+        const char *name;
+        const char *usage;
+        const char *does;
+        void (Commands::*run)(const Arguments &);
+        std::size_t least;
+        std::size_t most;
+    };
+    static const std::vector<Command> &all();
+
+    bool quit() const { return quit_; }
+    // Where .read is asked to read.
+    std::vector<std::string> scripts;
+
+    void run(const std::string &line) {
+        const Arguments words = words_of(line);
+        for (const Command &command : all()) {
+            if (words[0] != command.name) {
+                continue;
+            }
+            line_ = line;
+            const Arguments arguments(words.begin() + 1, words.end());
+            if (arguments.size() < command.least || arguments.size() > command.most) {
+                desk_.fail(std::string("usage: ") + command.name + " " + command.usage);
+            } else {
+                (this->*command.run)(arguments);
+            }
+            return;
+        }
+        std::vector<std::string> names;
+        for (const Command &command : all()) {
+            names.push_back(command.name);
+        }
+        desk_.fail("no command " + words[0] + nearest(words[0], names) + " (.help lists them)");
+    }
+
+  private:
+    static std::int64_t unlimited() { return INT64_C(1) << 40; }
+
+    void help(const Arguments &arguments) {
+        for (const Command &command : all()) {
+            const std::string usage = std::string(command.name) + " " + command.usage;
+            if (arguments.empty() || arguments[0] == command.name || "." + arguments[0] == command.name) {
+                say(usage.size() < 34 ? usage + std::string(34 - usage.size(), ' ') + command.does
+                                      : usage + "\n" + std::string(34, ' ') + command.does);
+            }
+        }
+        if (arguments.empty()) {
+            say("A question goes on until its brackets close; with & behind it, it runs in the background:");
+            say("  bag{ (b.berth, sum{ l.pull | l <- bollards, l.berth = b.berth }) | b <- berths }");
+        }
+    }
+    void load(const Arguments &arguments) {
+        Given given;
+        for (std::size_t i = 1; i < arguments.size(); i += 2) {
+            const std::string &what = arguments[i];
+            const std::string value = i + 1 < arguments.size() ? arguments[i + 1] : "";
+            if (what == "as" && text::monoid_called(chars_of(value)) >= 1 &&
+                text::monoid_called(chars_of(value)) <= text::last_collection) {
+                given.collection = text::monoid_called(chars_of(value));
+            } else if (what == "named" && !value.empty()) {
+                given.name = value;
+            } else if (what == "numbered" && number_of(value, 7) <= 7) {
+                given.number = static_cast<int>(number_of(value, 7));
+            } else if (what == "bound" && i + 2 < arguments.size() && number_of(arguments[i + 2], widest) <= widest) {
+                given.bounds.emplace_back(value, static_cast<std::uint32_t>(number_of(arguments[i + 2], widest)));
+                i++;
+            } else {
+                desk_.fail("'" + what + (value.empty() ? "" : " " + value) +
+                           "' is none of: as list|bag|set, named NAME, numbered 0..7, bound COLUMN 0..2147483648");
+                return;
+            }
+        }
+        shore::load(desk_, arguments[0], given);
+    }
+    void save(const Arguments &arguments) {
+        const bool by = arguments.size() == 3 && arguments[1] == "by";
+        const bool columns = by && arguments[2] == "columns";
+        if (arguments.size() != 1 && !columns && !(by && arguments[2] == "rows")) {
+            desk_.fail("save FILE, or FILE by rows, or FILE by columns");
+            return;
+        }
+        shore::save(desk_, arguments[0], columns);
+    }
+    void read(const Arguments &arguments) { scripts.push_back(arguments[0]); }
+    void tables(const Arguments &) {
+        Grid grid({"number", "table", "collection", "rows", "columns, with their bounds"});
+        for (const Table &table : desk_.tables) {
+            std::string columns;
+            for (std::size_t i = 0; i < table.columns.size(); i++) {
+                columns += (i == 0 ? "" : ", ") + table.columns[i] + " " + std::to_string(table.bounds[i]);
+            }
+            grid.add({std::to_string(table.number), table.name, collection_name(table.collection),
+                      std::to_string(table.rows.size()), columns});
+        }
+        say(desk_.tables.empty() ? Block{"no tables; .load FILE.csv loads one"} : grid.drawn());
+    }
+    Table *called(const std::string &name) {
+        Table *table = table_called(desk_.tables, name);
+        if (table == nullptr) {
+            std::vector<std::string> names;
+            for (const Table &each : desk_.tables) {
+                names.push_back(each.name);
+            }
+            desk_.fail("no table is called '" + name + "'" + nearest(name, names));
+        }
+        return table;
+    }
+    void show(const Arguments &arguments) {
+        const Table *table = called(arguments[0]);
+        if (table == nullptr) {
+            return;
+        }
+        Grid grid(table->columns);
+        for (const auto &row : table->rows) {
+            std::vector<std::string> cells;
+            for (std::int32_t cell : row) {
+                cells.push_back(std::to_string(cell));
+            }
+            grid.add(cells, true);
+        }
+        say(grid.drawn());
+    }
+    void drop(const Arguments &arguments) {
+        const Table *table = called(arguments[0]);
+        if (table != nullptr) {
+            desk_.tables.erase(desk_.tables.begin() + (table - desk_.tables.data()));
+        }
+    }
+    void bound(const Arguments &arguments) {
+        const std::size_t point = arguments[0].find('.');
+        const bool one = point != std::string::npos;
+        const std::string column = one ? arguments[0].substr(point + 1) : "";
+        Table *table = called(arguments[0].substr(0, point));
+        if (table != nullptr && one && !has_column(*table, column)) {
+            desk_.fail(table->name + " has no column " + column);
+            return;
+        }
+        for (std::size_t i = 0; table != nullptr && i < table->columns.size(); i++) {
+            if ((!one || table->columns[i] == column) && !bound(*table, i, arguments[1])) {
+                return;
+            }
+        }
+    }
+    bool bound(Table &table, std::size_t column, const std::string &to) {
+        const std::int64_t given = to == "data"     ? magnitude(table, column)
+                                   : to == "widest" ? widest
+                                                    : number_of(to, widest);
+        if (given > widest) {
+            desk_.fail("a bound is data, widest, or a number from 0 to 2147483648");
+            return false;
+        }
+        if (!declare(desk_, table, table.columns[column], static_cast<std::uint32_t>(given))) {
+            return false;
+        }
+        say(table.name + "." + table.columns[column] + " is declared up to " + std::to_string(given));
+        return true;
+    }
+    static bool has_column(const Table &table, const std::string &column) {
+        for (const std::string &each : table.columns) {
+            if (each == column) {
+                return true;
+            }
+        }
+        return false;
+    }
+    // Whether there is a question to speak of, and a plan of it where one is needed.
+    bool there(bool plan) {
+        if (desk_.last.question == nullptr) {
+            desk_.fail("no question was asked yet");
+            return false;
+        }
+        if (plan && desk_.last.steps.empty()) {
+            desk_.fail("the last question was refused: it has no plan");
+            return false;
+        }
+        return true;
+    }
+    void plan(const Arguments &) {
+        if (there(true)) {
+            const std::string words = in_words(desk_.last.steps, desk_.last.question->tables);
+            std::fputs(words.c_str(), stdout);
+        }
+    }
+    void lines(const Arguments &) {
+        if (there(true)) {
+            std::fputs(desk_.last.lines.c_str(), stdout);
+        }
+    }
+    void rows(const Arguments &) {
+        constexpr double most = 20000;
+        if (!there(true)) {
+            return;
+        }
+        const Question &question = *desk_.last.question;
+        if (most_offered(desk_.last.steps, question.tables) > most) {
+            desk_.fail("the rows between operators are shown up to 20,000 rows");
+            return;
+        }
+        const Between between(desk_.engine, desk_.last.steps, question.tables);
+        for (const Stage &stage : between.stages()) {
+            say(stage.line);
+            if (!stage.shown()) {
+                say(stage.too_large ? "  not shown: the question for these rows is too large"
+                                    : "  not shown: the question for these rows is refused " +
+                                          std::to_string(stage.number) + ", " + sentence(stage.number));
+                continue;
+            }
+            Grid grid(stage.labels);
+            for (const auto &row : stage.rows) {
+                grid.add(row);
+            }
+            say(grid.drawn());
+        }
+    }
+    void bytes(const Arguments &arguments) {
+        if (!arguments.empty()) {
+            taken(arguments);
+            return;
+        }
+        if (!there(false)) {
+            return;
+        }
+        std::string line;
+        for (std::size_t i = 0; i < desk_.last.question->bytes.size(); i++) {
+            char digits[4];
+            std::snprintf(digits, sizeof digits, "%02x", desk_.last.question->bytes[i]);
+            line += (i == 0 ? "" : i % 32 == 0 ? "\n" : " ") + std::string(digits);
+        }
+        say(line);
+    }
+    // Bytes in hexadecimal, asked as the question of their text.
+    void taken(const Arguments &arguments) {
+        std::string digits;
+        for (const std::string &each : arguments) {
+            digits += each;
+        }
+        if (digits.size() % 2 != 0 || digits.find_first_not_of("0123456789abcdefABCDEF") != std::string::npos) {
+            desk_.fail("bytes are pairs of hexadecimal digits");
+            return;
+        }
+        Bytes bytes;
+        for (std::size_t i = 0; i < digits.size(); i += 2) {
+            bytes.push_back(static_cast<std::uint8_t>(std::strtol(digits.substr(i, 2).c_str(), nullptr, 16)));
+        }
+        text::Fault fault;
+        const std::string written = text_of(bytes, desk_.tables, fault);
+        if (fault.none()) {
+            say(written);
+            desk_.question(written);
+            return;
+        }
+        const std::uint64_t number = desk_.engine.check(packed(desk_.tables), bytes);
+        desk_.fail("bytes " + std::to_string(fault.at.from) + " to " + std::to_string(fault.at.to) + ": refused " +
+                   std::to_string(number) + ", " + sentence(number));
+    }
+    void text(const Arguments &) {
+        if (there(false)) {
+            text::Fault fault;
+            say(text_of(desk_.last.question->bytes, desk_.last.question->tables, fault));
+        }
+    }
+    void cpp(const Arguments &arguments) {
+        if (!there(false)) {
+            return;
+        }
+        const std::string name = arguments.empty() ? "question" : arguments[0];
+        if (!text::is_name(chars_of(name))) {
+            desk_.fail("'" + name + "' cannot be the name of an array");
+            return;
+        }
+        const Question &question = *desk_.last.question;
+        say("DISLOGHA_QUESTION(" + name + ", \"" + schema_text(named(question)) + "\",");
+        std::size_t at = 0;
+        while (at < question.typed.size()) {
+            std::size_t end = question.typed.find('\n', at);
+            end = end == std::string::npos ? question.typed.size() : end;
+            const bool last = end == question.typed.size();
+            say("                  \"" + escaped(question.typed.substr(at, end - at)) + (last ? "\");" : "\\n\""));
+            at = end + 1;
+        }
+    }
+    // The tables that a question names.
+    static Tables named(const Question &question) {
+        Tables tables;
+        for (const Table &table : question.tables) {
+            bool found = false;
+            for (std::size_t i = 0; i < question.tree.count; i++) {
+                const text::Node &node = question.tree.nodes[i];
+                found = found || (node.kind == text::Kind::table && node.value == table.number);
+            }
+            if (found) {
+                tables.push_back(table);
+            }
+        }
+        return tables;
+    }
+    // In a C++ literal; only comments have such characters.
+    static std::string escaped(const std::string &line) {
+        std::string written;
+        for (char c : line) {
+            written += c == '"' || c == '\\' ? std::string("\\") + c : std::string(1, c);
+        }
+        return written;
+    }
+    void check(const Arguments &arguments) { desk_.check(line_.substr(line_.find(arguments[0], 6))); }
+    void mode(const Arguments &arguments) {
+        if (arguments[0] == "box" || arguments[0] == "csv" || arguments[0] == "words") {
+            desk_.mode = arguments[0] == "box" ? Mode::box : arguments[0] == "csv" ? Mode::csv : Mode::words;
+        } else {
+            desk_.fail("a mode is box, csv or words");
+        }
+    }
+    void turn(bool &setting, const std::string &to) {
+        if (to == "on" || to == "off") {
+            setting = to == "on";
+        } else {
+            desk_.fail("say on or off");
+        }
+    }
+    void timer(const Arguments &arguments) { turn(desk_.timer, arguments[0]); }
+    void echo(const Arguments &arguments) { turn(desk_.echo, arguments[0]); }
+    void lend(const Arguments &arguments) {
+        Lent &lent = desk_.engine.lent;
+        std::size_t *what = arguments[0] == "scratch"  ? &lent.scratch
+                            : arguments[0] == "answer" ? &lent.answer
+                            : arguments[0] == "lines"  ? &lent.lines
+                                                       : nullptr;
+        const Lent enough;
+        const std::size_t most = arguments[0] == "scratch"  ? enough.scratch
+                                 : arguments[0] == "answer" ? enough.answer
+                                                            : enough.lines;
+        const std::int64_t given = arguments.size() < 2 || arguments[1] == "enough"
+                                       ? static_cast<std::int64_t>(most)
+                                       : number_of(arguments[1], static_cast<std::int64_t>(most));
+        if (what == nullptr || given > static_cast<std::int64_t>(most)) {
+            desk_.fail("lend scratch, answer or lines, and at most " + grouped(static_cast<double>(most)));
+            return;
+        }
+        *what = static_cast<std::size_t>(given);
+    }
+    void portion(const Arguments &arguments) {
+        if (arguments[0] == "auto") {
+            desk_.portion = -1;
+            return;
+        }
+        const std::int64_t rows = number_of(arguments[0], unlimited());
+        if (rows > unlimited()) {
+            desk_.fail("say a number of rows, or auto");
+            return;
+        }
+        // A portion of no question: the engine says whether it takes so many rows.
+        std::vector<std::uint64_t> scratch(dislogha::scratch_words);
+        const auto said = dislogha::portion({}, {scratch.data(), scratch.size()}, {},
+                                            static_cast<std::uint64_t>(rows));
+        if (said.refusal == dislogha::Refusal::rows_out_of_range) {
+            const auto number = static_cast<std::uint64_t>(said.refusal);
+            desk_.fail("refused " + std::to_string(number) + ", " + sentence(number));
+            return;
+        }
+        desk_.portion = rows;
+    }
+    void running(const Arguments &) {
+        for (const auto &job : desk_.jobs) {
+            say(std::to_string(job.first) + ": " + job.second->typed());
+            say("   " + (job.second->ended() ? "ended" : Desk::offered(*job.second)));
+        }
+        if (desk_.jobs.empty()) {
+            say("no question goes on");
+        }
+    }
+    // The jobs that a number names, or all.
+    std::vector<int> meant(const Arguments &arguments) {
+        std::vector<int> numbers;
+        for (const auto &job : desk_.jobs) {
+            if (arguments.empty() || arguments[0] == std::to_string(job.first)) {
+                numbers.push_back(job.first);
+            }
+        }
+        if (numbers.empty()) {
+            desk_.fail(arguments.empty() ? "no question goes on" : "no question " + arguments[0] + " goes on");
+        }
+        return numbers;
+    }
+    void wait(const Arguments &arguments) {
+        for (int number : meant(arguments)) {
+            say("question " + std::to_string(number) + ": " + desk_.jobs[number]->typed());
+            desk_.wait(*desk_.jobs[number]);
+            desk_.jobs.erase(number);
+        }
+    }
+    void stop(const Arguments &arguments) {
+        for (int number : meant(arguments)) {
+            desk_.jobs[number]->stop();
+            say("question " + std::to_string(number) + " is stopped");
+            desk_.jobs.erase(number);
+        }
+    }
+    void reset(const Arguments &) {
+        const bool echo = desk_.echo;
+        desk_.jobs.clear();
+        desk_.tables.clear();
+        desk_.engine.lent = Lent();
+        desk_.mode = Mode::box;
+        desk_.timer = false;
+        desk_.portion = -1;
+        desk_.last = Reply();
+        desk_.echo = echo;
+    }
+    void leave(const Arguments &) { quit_ = true; }
+
+    Desk &desk_;
+    std::string line_;
+    bool quit_ = false;
+};
+
+inline const std::vector<Commands::Command> &Commands::all() {
+    constexpr std::size_t any = 1000;
+    static const std::vector<Command> commands = {
+        {".help", "[COMMAND]", "the commands, or one of them", &Commands::help, 0, 1},
+        {".load", "FILE.csv [as list|bag|set] [named NAME] [numbered N] [bound COLUMN N]..",
+         "a table; its first line has the columns' names, and bounds are those of the data", &Commands::load, 1, any},
+        {".load", "FILE", "tables as .save wrote them, in place of all", &Commands::load, 1, any},
+        {".save", "FILE [by rows|columns]", "all tables as records, their names in FILE.names", &Commands::save, 1, 3},
+        {".tables", "", "the tables, their columns and bounds", &Commands::tables, 0, 0},
+        {".show", "TABLE", "a table's rows", &Commands::show, 1, 1},
+        {".drop", "TABLE", "forget a table", &Commands::drop, 1, 1},
+        {".bound", "TABLE[.COLUMN] N|data|widest", "what a column declares: 28 looks at it", &Commands::bound, 2, 2},
+        {".plan", "", "the last question's plan in words", &Commands::plan, 0, 0},
+        {".lines", "", "the plan as the engine prints it", &Commands::lines, 0, 0},
+        {".rows", "", "the rows between the plan's operators", &Commands::rows, 0, 0},
+        {".text", "", "the last question as its bytes read back", &Commands::text, 0, 0},
+        {".bytes", "[HEX ..]", "its bytes; or ask the question that has these", &Commands::bytes, 0, any},
+        {".c++", "[NAME]", "the last question for a C++ source", &Commands::cpp, 0, 1},
+        {".check", "QUESTION", "ask the checker alone", &Commands::check, 1, any},
+        {".mode", "box|csv|words", "how answers are written", &Commands::mode, 1, 1},
+        {".timer", "on|off", "how long each way took", &Commands::timer, 1, 1},
+        {".running", "", "the questions in the background", &Commands::running, 0, 0},
+        {".wait", "[N]", "wait for them, or for one", &Commands::wait, 0, 1},
+        {".stop", "[N]", "stop them, or one", &Commands::stop, 0, 1},
+        {".portion", "ROWS|auto", "answer by portions of so many rows", &Commands::portion, 1, 1},
+        {".lend", "scratch|answer|lines [N|enough]", "lend the engine so much: drills of 31, 32, 33",
+         &Commands::lend, 1, 2},
+        {".read", "FILE", "take questions and commands from a file", &Commands::read, 1, 1},
+        {".echo", "on|off", "show each line before what it gives", &Commands::echo, 1, 1},
+        {".reset", "", "forget tables, questions and settings", &Commands::reset, 0, 0},
+        {".quit", "", "leave", &Commands::leave, 0, 0},
+    };
+    return commands;
+}
+
+} // namespace shore
+
+#endif

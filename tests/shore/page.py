@@ -1,0 +1,377 @@
+#!/usr/bin/env python3
+"""The page in headless Chromium: the worked cases (tests/examples) typed in, and what the page does beside answering. Pictures are left under
+target/shore/pictures. Behind shore/page/build."""
+import json
+import re
+import sys
+import time
+from pathlib import Path
+
+sys.dont_write_bytecode = True
+sys.path.insert(0, str(Path(__file__).resolve().parent))
+
+import worked  # noqa: E402
+from browser import Browser, choose  # noqa: E402
+from notation import NO_NUMBER, question  # noqa: E402
+
+ROOT = Path(__file__).resolve().parent.parent.parent
+PAGE = ROOT / 'target' / 'shore' / 'desk.html'
+PICTURES = ROOT / 'target' / 'shore' / 'pictures'
+
+# Fewer cases, or fewer things seen beside them, have shown nothing.
+LEAST_CASES = 270
+LEAST_SEEN = 30
+
+MOST_ROWS = 1024
+ENTER, DOWN, RIGHT = ('Enter', 13), ('ArrowDown', 40), ('ArrowRight', 39)
+SHOWN = "document.body.dataset.state === 'shown'"
+
+# The words that a value has as it is shown: a collection's count and elements, a record's fields.
+READ = '''(() => {
+  const words = shown => {
+    if (shown.matches('.scalar')) return [{ true: '1', false: '0' }[shown.textContent] ?? shown.textContent];
+    const rows = [...shown.querySelector('table').rows].slice(1);
+    const cells = rows.flatMap(row => [...row.cells]).flatMap(cell =>
+      cell.firstElementChild ? words(cell.firstElementChild) : [{ true: '1', false: '0' }[cell.textContent] ?? cell.textContent]);
+    return shown.dataset.sort === 'record' ? cells : [String(rows.length), ...cells];
+  };
+  const value = way => {
+    const shown = document.getElementById(way + '-value').firstElementChild;
+    return !shown || shown.querySelector('td.more') ? null : words(shown).join(' ');
+  };
+  const text = id => document.getElementById(id).textContent;
+  const mark = document.querySelector('#question-under mark');
+  return {
+    said: text('said'), same: text('same'), lines: text('lines'), bytes: text('bytes').replace(/ /g, ''),
+    loops: asked.loops?.words, plan: asked.plan?.words, loopsWords: text('loops-words'), planWords: text('plan-words'),
+    loopsValue: value('loops'), planValue: value('plan'),
+    mark: mark && mark.textContent, dim: Boolean(mark && mark.classList.contains('dim')), wrong: document.querySelectorAll('.wrong').length,
+    operators: document.querySelectorAll('#plan .operator').length,
+  };
+})()'''
+
+
+class Seen:
+    """What was seen and what was not so."""
+
+    def __init__(self):
+        self.count, self.faults = 0, []
+
+    def so(self, what, holds, told=''):
+        self.count += 1
+        if not holds:
+            self.faults.append(what)
+            print('page: NOT SO: %s %s' % (what, told))
+
+    def same(self, what, is_, should):
+        self.so(what, is_ == should, 'is %r, should be %r' % (is_, should))
+
+
+def typeable(case):
+    """Whether a case can be typed: no bytes that are broken on purpose, no table that none can be, no scratch of its own."""
+    def whole(table):
+        return table.kind in (20, 23) and table.number != NO_NUMBER and len(table.rows) <= MOST_ROWS and len(table.bounds) == len(table.columns)
+    return not (case.cut or case.behind or case.scratch != 2048) and all(map(whole, case.tables))
+
+
+def number_of(table, place):
+    return place if table.number is None else table.number
+
+
+def tables_of(case):
+    """The tables for the page. A name that is used twice gets another one."""
+    names, made = set(), []
+    for place, table in enumerate(case.tables):
+        name = table.name
+        while name in names:
+            name += '_'
+        names.add(name)
+        made.append({'name': name, 'collection': table.collection, 'columns': table.columns, 'all': False,
+                     'number': str(number_of(table, place)), 'bounds': list(map(str, table.bounds)),
+                     'rows': [list(map(str, row)) for row in table.rows]})
+    return made
+
+
+def text_of(case):
+    """The question's text: a table that is not there is named by its number, and so is its column; a name that is not bound is number 255."""
+    text = case.ask
+    for place, table in enumerate(case.absent):
+        text = re.sub(r'\b%s\b' % table.name, '@%d' % number_of(table, len(case.tables) + place), text)
+        text = re.sub(r'\bm\.n\b', 'm.0', text)
+    if worked.UNBOUND in question(case.ask, case.tables + case.absent):
+        text = re.sub(r'\bx\b', '#255', text)
+    return text
+
+
+def hold(page, seen, case):
+    """One worked case, typed in."""
+    page.value('tables = %s; showTables()' % json.dumps(tables_of(case)))
+    page.type('#question', text_of(case))
+    read = page.wait(SHOWN, READ)
+    if case.number != 0:
+        seen.so('%s is refused' % case.name, read['said'].startswith('Refused %d (' % case.number), read['said'])
+        seen.so('%s is marked' % case.name, (read['mark'] and not read['dim']) or read['wrong'] > 0, str(read))
+        seen.so('%s is not answered' % case.name, read['same'] == '' and read['loopsWords'] == '')
+        return
+    words = ' '.join(map(str, case.gives))
+    seen.same('%s by loops' % case.name, read['loops'], words)
+    seen.same('%s by plan' % case.name, read['plan'], words)
+    seen.same('%s lines' % case.name, read['lines'], case.plan)
+    seen.same('%s bytes' % case.name, read['bytes'], question(case.ask, case.tables).hex())
+    seen.same('%s operators' % case.name, read['operators'], case.plan.count('\n'))
+    seen.so('%s said' % case.name, read['same'] == 'Both answers are the same, word for word.', read['same'])
+    if len(case.gives) <= 300:
+        seen.same('%s words shown' % case.name, [read['loopsWords'], read['planWords']], [words, words])
+    if read['loopsValue'] is not None:
+        seen.same('%s value shown' % case.name, [read['loopsValue'], read['planValue']], [words, words])
+
+
+def worked_cases(page, seen):
+    held = [case for case in worked.cases() if typeable(case)]
+    answered = sum(case.number == 0 for case in held)
+    for case in held:
+        try:
+            hold(page, seen, case)
+        except RuntimeError as fault:
+            sys.exit('page: FAILED at %s: %s' % (case.name, fault))
+    print('page: %d of %d worked cases typed, %d of them answered' % (len(held), len(worked.cases()), answered))
+    seen.so('enough cases', len(held) >= LEAST_CASES and answered >= LEAST_CASES // 2)
+
+
+def fresh(page):
+    page.open(PAGE)
+    page.wait(SHOWN)
+
+
+def ask(page, text):
+    page.type('#question', text)
+    return page.wait(SHOWN, READ)
+
+
+def faults(page, seen):
+    """Unfinished text is dim; what is wrong is underlined where it is."""
+    fresh(page)
+    read = ask(page, 'bag{ b.berth | b <- ber')
+    seen.so('unfinished is dim', read['said'].startswith('Unfinished: ') and (read['dim'] or not read['mark']), str(read))
+    page.picture(PICTURES / 'unfinished.png')
+    read = ask(page, 'bag{ b.berht | b <- berths }')
+    seen.same('wrong column', [read['mark'], read['dim']], ['berht', False])
+    seen.so('meant column', "is 'berth' meant" in read['said'], read['said'])
+    read = ask(page, 'bag{ (é: b.berth, sum{ l.pull and true | l <- bollards }) | b <- berths }')
+    seen.same('refused part behind a letter of two bytes', read['mark'], 'l.pull and true')
+    seen.so('refusal said', read['said'].startswith('Refused 25 (a type, field or table that does not fit): '), read['said'])
+    seen.so('dim while one types', page.value("document.querySelector('#question').closest('section').matches('.typing')"))
+    page.wait("!document.querySelector('.typing')")
+    page.picture(PICTURES / 'refused.png')
+    ask(page, 'bag{ (berth: b.berth, pull: sum{ l.pull | l <- bollards, l.berth = b.berth }) | b <- berths }')
+    page.picture(PICTURES / 'answered.png')
+
+
+def between(page, seen):
+    """The rows between operators; where the question that would show them is no question, none are claimed."""
+    fresh(page)
+    rows = page.value("[...document.querySelectorAll('#plan .between')].map(each => [...each.querySelectorAll('tr')].slice(1)"
+                      ".map(row => [...row.cells].map(cell => cell.textContent)))")
+    seen.same('rows between operators', rows, [[], [['(1, 90)'], ['(2, 70)']],
+                                              [['(1, 90)', '(1, 50)'], ['(1, 90)', '(1, 60)'], ['(2, 70)', 'pad']],
+                                              [['(1, 90)', '110'], ['(2, 70)', '0']]])
+    seen.same('one bracket', page.value("[...document.querySelectorAll('.bracket > .operator')].map(each => each.className)"),
+              ['operator outer', 'operator nest'])
+    read = ask(page, 'max{ a.depth | %s }' % ', '.join('%s <- berths' % name for name in 'abcdefghi'))
+    seen.same('nine generators', read['loops'], '90')
+    said = page.value("[...document.querySelectorAll('#plan .between')].slice(-2).map(each => each.textContent.split('berths')[0] + "
+                      "(each.querySelector('.small')?.textContent ?? ''))")
+    seen.same('rows of nine places', [said[0][:12], said[1]], ['256 rows of ', 'rows of The question that would show them is too large to be asked.'])
+
+
+def editing(page, seen):
+    """A table made and typed cell by cell, without the mouse where there is a key."""
+    fresh(page)
+    page.click('#add-table')
+    table = '#tables .table:last-child'
+    page.type(table + ' input.name', 'ships')
+    page.type(table + ' tr:nth-child(1) th:nth-child(1) input', 'ship')
+    page.type(table + ' tr:nth-child(1) th:nth-child(2) input', 'draught')
+    page.type(table + ' tr:nth-child(3) td:nth-child(1) input', '7')
+    page.type(table + ' tr:nth-child(3) td:nth-child(2) input', '85')
+    page.press(*ENTER)
+    seen.same('Enter in the last row adds one', page.value('tables[3].rows.length'), 2)
+    page.call('Input.insertText', text='8')
+    page.type(table + ' tr:nth-child(4) td:nth-child(2) input', '-12')
+    read = ask(page, 'list{ (s.ship, s.draught) | s <- ships }')
+    seen.same('typed cells cannot stand in a list', read['said'][:10], 'Refused 26')
+    read = ask(page, 'bag{ (s.ship, b.berth) | s <- ships, b <- berths, s.draught <= b.depth }')
+    seen.same('typed cells', read['loops'], '3 7 1 8 1 8 2')
+    page.type(table + ' tr:nth-child(3) td:nth-child(2) input', '8x')
+    page.wait(SHOWN)
+    seen.same('no number is said', page.text('#said'), "Table ships, row 1, column draught: '8x' is no whole number.")
+    seen.same('no number is marked', page.value("document.querySelector('.wrong input').value"), '8x')
+    page.type(table + ' tr:nth-child(3) td:nth-child(2) input', '80')
+    page.type(table + ' tr:nth-child(2) th:nth-child(2) input', '79')
+    page.wait(SHOWN)
+    seen.so('beyond its bound is refused', page.text('#said').startswith('Refused 43 ('), page.text('#said'))
+    seen.same('beyond its bound is marked', page.value("[...document.querySelectorAll('.wrong input')].map(input => input.value)"), ['80'])
+    page.picture(PICTURES / 'cell.png')
+    page.type(table + ' tr:nth-child(2) th:nth-child(2) input', '80')
+    page.type(table + ' input.number', '1')
+    page.wait(SHOWN)
+    seen.so('a number used twice is refused', page.text('#said').startswith('Refused 51 ('), page.text('#said'))
+    page.type(table + ' input.number', '3')
+    page.wait(SHOWN)
+    seen.same('and all is well again', page.value(READ)['loops'], '3 7 1 8 1 8 2')
+
+
+def opened(page, seen, folder):
+    """Files opened, and one that is none."""
+    fresh(page)
+    (folder / 'tide-hours.csv').write_text('hour;level\n6;120\n12;-30\n')
+    (folder / 'broken.csv').write_text('a,b\n1,2\n3,4.5\n')
+    choose(page, '#csv-files', folder / 'tide-hours.csv', folder / 'broken.csv')
+    page.wait("tables.length === 4 && !document.getElementById('csv-said').hidden")
+    seen.same('table of a file', page.value('[tables[3].name, tables[3].columns, tables[3].bounds, tables[3].rows]'),
+              ['tide_hours', ['hour', 'level'], ['12', '120'], [['6', '120'], ['12', '-30']]])
+    seen.same('fault of a file', page.text('#csv-said'), "broken.csv: line 3, column 2: '4.5' is no whole number")
+    seen.same('question over a file', ask(page, 'sum{ t.level | t <- tide_hours }')['loops'], '90')
+
+
+def shuffled(page, seen):
+    """The rows of bags and sets in another order, and nothing changes; a list's rows stay."""
+    fresh(page)
+    page.value("tables.push(newTable('log', 'list', ['second'], [['3'], ['1'], ['2']])); setTables(tables)")
+    ask(page, 'bag{ (b.berth, sum{ l.pull | l <- bollards, l.berth = b.berth }, list{ g.second | g <- log }) | b <- berths }')
+    before = page.value('JSON.stringify(tables.map(table => table.rows))')
+    answer = page.value(READ)['loops']
+    page.click('#shuffle')
+    page.wait(SHOWN)
+    after = page.value('JSON.stringify(tables.map(table => table.rows))')
+    seen.so('rows have moved', before != after)
+    seen.same('rows of a list have not', json.loads(after)[3], [['3'], ['1'], ['2']])
+    seen.so('rows are the same ones', all(sorted(a) == sorted(b) for a, b in zip(json.loads(before), json.loads(after))))
+    seen.so('nothing changes', page.text('#shuffled').endswith('both answers are what they were, word for word.'), page.text('#shuffled'))
+    seen.same('the same answer', page.value(READ)['loops'], answer)
+    page.picture(PICTURES / 'shuffled.png')
+
+
+def long_question(page, seen, folder):
+    """A question that takes long: progress, Stop between two portions, and on from there."""
+    fresh(page)
+    (folder / 'many.csv').write_text('n\n' + ''.join('%d\n' % row for row in range(MOST_ROWS)))
+    choose(page, '#csv-files', folder / 'many.csv')
+    page.wait('tables.length === 4')
+    page.type('#question', 'sum{ 1 | a <- many, b <- many, c <- many, a.n + b.n = c.n }')
+    page.wait("!document.getElementById('stop').hidden && asked.rows > 0")
+    seen.so('progress is said', 'rows offered' in page.text('#said'), page.text('#said'))
+    first = page.value('asked.rows')
+    page.wait('asked.rows > %d' % first)
+    page.picture(PICTURES / 'running.png')
+    page.click('#stop')
+    seen.same('stopped', page.value('document.body.dataset.state'), 'stopped')
+    stopped = page.value('asked.rows')
+    seen.so('rows of whole portions', stopped % 65535 == 0, str(stopped))
+    time.sleep(0.3)
+    seen.same('nothing runs on', page.value('asked.rows'), stopped)
+    page.click('#go-on')
+    page.wait('asked.rows > %d' % stopped)
+    seen.so('on from there', page.value('asked.rows') > stopped)
+    start = time.monotonic()
+    read = ask(page, 'sum{ a.n | a <- many }')
+    seen.same('another question meanwhile', read['loops'], str(sum(range(MOST_ROWS))))
+    seen.so('without waiting', time.monotonic() - start < 30)
+    # An answer longer than the first buffer: 2,049 and more words.
+    read = ask(page, 'bag{ (a.n, b.n) | a <- many, b <- many, b.n < 5 }')
+    seen.same('a long answer', read['loops'].count(' '), 2 * 5 * MOST_ROWS)
+    seen.same('both ways', read['same'], 'Both answers are the same, word for word.')
+
+
+def rounds(page, rows, quota):
+    return max(1, -(-rows // quota))
+
+
+def at_seats(page, seen):
+    """Four seats with quotas of their own: each ends in its rows divided by its quota, rounded up, rounds."""
+    fresh(page)
+    page.click('#tabs button:nth-child(2)')
+    questions = ['sum{ l.pull | b <- berths, l <- bollards }', 'set{ (b.berth, k.hour) | b <- berths, k <- locks }',
+                 'some{ b.depth > 80 | b <- berths }', 'bag{ (b.berth, sum{ l.pull | l <- bollards, l.berth = b.berth }) | b <- berths }']
+    offered, quotas, gives = [12, 16, 4, 12], [5, 3, 1000, 1], ['220', '6 1 6 1 7 1 18 2 6 2 7 2 18', '1', '2 1 110 2 0']
+    for place, (text, quota) in enumerate(zip(questions, quotas)):
+        box = '.seat:nth-child(%d)' % (place + 1)
+        page.type(box + ' textarea', text)
+        page.type(box + ' input', str(quota))
+        page.focus(box + ' textarea')
+        page.press('Enter', 13, 2)
+        page.wait("seats[%d].unfinished" % place)
+    page.click('#round')
+    page.wait('rounds === 1')
+    page.picture(PICTURES / 'seats.png')
+    page.click('#run')
+    page.wait("!running && !seats.some(seat => seat.unfinished)")
+    for place in range(4):
+        taken = rounds(page, offered[place], quotas[place])
+        said = page.value('seats[%d].said.textContent' % place)
+        seen.same('seat %d' % (place + 1), said, 'Finished: %d rows in %d round%s.' % (offered[place], taken, '' if taken == 1 else 's'))
+        read = page.value("[...seats[%d].answer.querySelectorAll('.scalar, td')].map(cell => cell.textContent).join(' ')" % place)
+        shown = ' '.join(gives[place].split()[1:] if place in (1, 3) else ['true'] if place == 2 else [gives[place]])
+        seen.same('answer at seat %d' % (place + 1), read, shown)
+    page.picture(PICTURES / 'rounds.png')
+    page.type('.seat:nth-child(2) input', '0')
+    page.click('#round')
+    page.wait("document.getElementById('rota-said').textContent.startsWith('Refused 49 (')")
+    page.type('.seat:nth-child(2) input', '3')
+    page.type('#rota', '5')
+    page.click('#round')
+    page.wait("document.getElementById('rota-said').textContent.startsWith('Refused 49 (')")
+    seen.so('49 is said', True)
+    page.type('#rota', '2')
+    page.click('.seat:nth-child(1) button')
+    page.wait('seats[0].unfinished')
+    page.type('#tables .table:nth-child(1) td input', '5')
+    page.wait('!seats[0].unfinished')
+    seen.so('tables changed', 'given up' in page.value('seats[0].said.textContent'))
+
+
+def other_panels(page, seen):
+    fresh(page)
+    page.focus('#question')
+    page.value("document.querySelector('#tabs button').focus()")
+    page.press(*RIGHT)
+    page.press(*RIGHT)
+    seen.so('tabs go by keys', page.value("!document.getElementById('proved-panel').hidden && document.getElementById('question-panel').hidden"))
+    proved = page.text('#proved-panel')
+    seen.so('says what is not proved', 'What is not' in proved and 'compilation to WebAssembly' in proved and 'is ours' in proved)
+    page.picture(PICTURES / 'proved.png')
+    page.size(600, 900)
+    fresh(page)
+    seen.so('fits a narrow window', page.value('document.documentElement.scrollWidth <= 600'))
+    page.picture(PICTURES / 'narrow.png')
+    page.size(1440, 1000)
+    seen.so('asks for nothing', not re.search(r'(src|href)=|https?://', PAGE.read_text().split("const ENGINE")[0]))
+    seen.same('and got nothing', page.value("performance.getEntriesByType('resource').filter(each => !each.name.startsWith('blob:')).length"), 0)
+
+
+def main():
+    start = time.monotonic()
+    folder = ROOT / 'target' / 'shore' / 'files'
+    folder.mkdir(parents=True, exist_ok=True)
+    seen, beside = Seen(), Seen()
+    with Browser() as page:
+        fresh(page)
+        page.picture(PICTURES / 'desk.png')
+        worked_cases(page, seen)
+        faults(page, beside)
+        between(page, beside)
+        editing(page, beside)
+        opened(page, beside, folder)
+        shuffled(page, beside)
+        long_question(page, beside, folder)
+        at_seats(page, beside)
+        other_panels(page, beside)
+        beside.same('no script failed', page.faults, [])
+    wrong = seen.faults + beside.faults
+    print('page: %d things held of the cases, %d beside them, %d not so; %.0f s'
+          % (seen.count, beside.count, len(wrong), time.monotonic() - start))
+    if wrong or beside.count < LEAST_SEEN:
+        sys.exit('page: FAILED')
+
+
+main()

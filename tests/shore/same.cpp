@@ -1,0 +1,239 @@
+// The open calls on made inputs, with rubbish in all that is lent; of each call number, length, and one sum over all that it gave and left: every word of
+// scratch and of the buffer, and the rubbish around both. Compiled for the archive, it goes from file to file; compiled for WebAssembly, `run` goes from
+// memory to memory. What comes out must be the same.
+
+#include <cstddef>
+#include <cstdint>
+
+#include "dislogha.h"
+
+namespace {
+
+using dislogha::Bytes;
+using dislogha::Result;
+
+constexpr std::size_t fence = 16;
+constexpr std::size_t most_words = 4096;
+constexpr std::size_t most_bytes = 32768;
+constexpr std::size_t seats = dislogha::most_seats;
+
+// All that was seen, in one number.
+class Sum {
+  public:
+    void add(std::uint64_t word) noexcept {
+        sum_ = (sum_ ^ word) * 0x9E3779B97F4A7C15;
+        sum_ ^= sum_ >> 29;
+    }
+    std::uint64_t sum() const noexcept { return sum_; }
+
+  private:
+    std::uint64_t sum_ = 0;
+};
+
+// Units of which some are lent, with a fence before and behind them.
+template <class T, std::size_t most> class Lent {
+  public:
+    dislogha::Span<T> lend(std::size_t count) noexcept {
+        lent_ = count;
+        for (std::size_t i = 0; i < words(); i++) {
+            words_[i] = (i + 1) * 0xD1342543DE82EF95 | 1;
+        }
+        return again();
+    }
+    dislogha::Span<T> again() noexcept { return {reinterpret_cast<T *>(words_ + fence), lent_}; }
+    void add_to(Sum &sum) const noexcept {
+        for (std::size_t i = 0; i < words(); i++) {
+            sum.add(words_[i]);
+        }
+    }
+
+  private:
+    std::size_t words() const noexcept { return (lent_ * sizeof(T) + 7) / 8 + 2 * fence; }
+
+    std::size_t lent_ = 0;
+    std::uint64_t words_[(most * sizeof(T) + 7) / 8 + 2 * fence];
+};
+
+Lent<std::uint64_t, dislogha::scratch_words> scratch[seats];
+Lent<std::int64_t, most_words> answer[seats];
+Lent<std::uint8_t, most_bytes> lines;
+
+// What a call said, and the sum.
+struct Said {
+    std::uint64_t number;
+    std::uint64_t length;
+    std::uint64_t sum;
+};
+
+struct Input {
+    Bytes data;
+    Bytes question;
+};
+
+Said said(Result result, Sum sum) noexcept {
+    return {result.outcome == dislogha::Outcome::overlapping ? 99
+                                                             : static_cast<std::uint64_t>(result.refusal),
+            result.length, sum.sum()};
+}
+
+template <class Buffer> Said left(Result result, const Buffer &buffer) noexcept {
+    Sum sum;
+    scratch[0].add_to(sum);
+    buffer.add_to(sum);
+    return said(result, sum);
+}
+
+Said check(const Input &input, std::size_t words) noexcept {
+    const auto lent = scratch[0].lend(words);
+    Sum sum;
+    const Result result = dislogha::check(input.data, input.question, lent);
+    scratch[0].add_to(sum);
+    return said(result, sum);
+}
+
+template <class Call> Said answered(Call call, const Input &input, std::size_t words) noexcept {
+    const auto lent = scratch[0].lend(dislogha::scratch_words);
+    const auto buffer = answer[0].lend(words);
+    return left(call(input.data, input.question, lent, buffer), answer[0]);
+}
+
+Said printed(const Input &input, std::size_t bytes) noexcept {
+    const auto lent = scratch[0].lend(dislogha::scratch_words);
+    const auto buffer = lines.lend(bytes);
+    return left(dislogha::plan_lines(input.data, input.question, lent, buffer), lines);
+}
+
+void add(Sum &sum, const dislogha::Portion &portion) noexcept {
+    sum.add(static_cast<std::uint64_t>(portion.refusal));
+    sum.add(portion.length);
+    sum.add(portion.finished ? 1 : 0);
+    sum.add(portion.offered);
+}
+
+// In portions that grow, from one row on; what is between them counts, too.
+Said in_portions(const Input &input) noexcept {
+    const auto lent = scratch[0].lend(dislogha::scratch_words);
+    const auto buffer = answer[0].lend(most_words);
+    Sum sum;
+    Result result = dislogha::begin(input.data, input.question, lent);
+    scratch[0].add_to(sum);
+    std::uint64_t rows = 1;
+    while (result.outcome == dislogha::Outcome::answered) {
+        const auto portion = dislogha::portion(input.data, scratch[0].again(), buffer, rows);
+        add(sum, portion);
+        if (!portion.unfinished()) {
+            result = {portion.outcome, portion.refusal, portion.length};
+            break;
+        }
+        if (rows < 100) {
+            scratch[0].add_to(sum);
+        }
+        rows = rows * 3 > dislogha::most_rows ? dislogha::most_rows : rows * 3;
+    }
+    scratch[0].add_to(sum);
+    answer[0].add_to(sum);
+    return said(result, sum);
+}
+
+// The same question at all four seats, with quotas of their own, for some rounds.
+Said in_rounds(const Input &input) noexcept {
+    constexpr std::uint64_t quotas[seats] = {1, 7, 60, 1000};
+    constexpr std::size_t rounds = 12;
+    dislogha::Seat lent[seats];
+    Sum sum;
+    Result result{};
+    for (std::size_t i = 0; i < seats; i++) {
+        lent[i] = {scratch[i].lend(dislogha::scratch_words), answer[i].lend(64)};
+        result = dislogha::begin(input.data, input.question, lent[i].scratch);
+    }
+    for (std::size_t i = 0; i < rounds && result.outcome == dislogha::Outcome::answered; i++) {
+        const auto round = dislogha::round(input.data, quotas, lent);
+        sum.add(static_cast<std::uint64_t>(round.refusal));
+        for (const auto &seat : round.seats) {
+            add(sum, seat);
+        }
+        result.length += round.visited;
+        if (!round.unfinished()) {
+            break;
+        }
+    }
+    for (std::size_t i = 0; i < seats; i++) {
+        scratch[i].add_to(sum);
+        answer[i].add_to(sum);
+    }
+    return said(result, sum);
+}
+
+constexpr std::uint32_t made = 12;
+
+// The calls with what is enough and what is not.
+void make(const Input &input, Said *out) noexcept {
+    *out++ = check(input, dislogha::scratch_words);
+    *out++ = check(input, dislogha::scratch_words - 1);
+    const Said loops = *out++ = answered(dislogha::answer_by_loops, input, most_words);
+    const Said plan = *out++ = answered(dislogha::answer_by_plan, input, most_words);
+    *out++ = answered(dislogha::answer_by_loops, input, loops.length);
+    *out++ = answered(dislogha::answer_by_plan, input, plan.length);
+    *out++ = answered(dislogha::answer_by_loops, input, loops.length - (loops.length > 0));
+    *out++ = answered(dislogha::answer_by_plan, input, plan.length - (plan.length > 0));
+    const Said shown = *out++ = printed(input, most_bytes);
+    *out++ = printed(input, shown.length - (shown.length > 0));
+    *out++ = in_portions(input);
+    *out++ = in_rounds(input);
+}
+
+// A slice behind four bytes of its length.
+const std::uint8_t *slice(const std::uint8_t *at, Bytes &bytes) noexcept {
+    std::size_t count = 0;
+    for (std::size_t i = 0; i < 4; i++) {
+        count |= static_cast<std::size_t>(at[i]) << (8 * i);
+    }
+    bytes = {at + 4, count};
+    return at + 4 + count;
+}
+
+} // namespace
+
+// How many words `run` writes.
+extern "C" std::uint32_t words_for(const std::uint8_t *inputs, std::uint32_t bytes) {
+    std::uint32_t words = 0;
+    Bytes passed;
+    for (const std::uint8_t *at = inputs; at != inputs + bytes; words += made * 3) {
+        at = slice(slice(at, passed), passed);
+    }
+    return words;
+}
+
+// Goes through so many inputs, or all that there are, and writes three words for each call that is made; gives how many bytes the inputs had.
+extern "C" std::uint32_t run(const std::uint8_t *inputs, std::uint32_t bytes, std::uint64_t *out, std::uint32_t most) {
+    const std::uint8_t *at = inputs;
+    for (std::uint32_t i = 0; i < most && at != inputs + bytes; i++) {
+        Input input;
+        at = slice(slice(at, input.data), input.question);
+        Said all[made];
+        make(input, all);
+        for (const Said &each : all) {
+            *out++ = each.number;
+            *out++ = each.length;
+            *out++ = each.sum;
+        }
+    }
+    return static_cast<std::uint32_t>(at - inputs);
+}
+
+#ifndef __wasm__
+#include <fstream>
+#include <iterator>
+#include <vector>
+
+int main(int, char **words) {
+    std::ifstream in(words[1], std::ios::binary);
+    const std::vector<char> inputs{std::istreambuf_iterator<char>(in), {}};
+    const auto *first = reinterpret_cast<const std::uint8_t *>(inputs.data());
+    const auto bytes = static_cast<std::uint32_t>(inputs.size());
+    std::vector<std::uint64_t> out(words_for(first, bytes));
+    run(first, bytes, out.data(), UINT32_MAX);
+    std::ofstream(words[2], std::ios::binary)
+        .write(reinterpret_cast<const char *>(out.data()), static_cast<std::streamsize>(out.size() * 8));
+}
+#endif

@@ -1,0 +1,20 @@
+// An engine whose plan answers one more than it should in its last word: linked by -Wl,--wrap=dislogha_answer_by_plan,
+// so that the shell is seen to compare the two ways.
+#include "dislogha.h"
+
+extern "C" {
+
+dislogha_result __real_dislogha_answer_by_plan(const std::uint8_t *, std::size_t, const std::uint8_t *, std::size_t,
+                                               std::uint64_t *, std::size_t, std::int64_t *, std::size_t) noexcept;
+
+dislogha_result __wrap_dislogha_answer_by_plan(const std::uint8_t *data, std::size_t data_bytes, const std::uint8_t *question,
+                                               std::size_t question_bytes, std::uint64_t *scratch, std::size_t scratch_words,
+                                               std::int64_t *answer, std::size_t answer_words) noexcept {
+    const auto result = __real_dislogha_answer_by_plan(data, data_bytes, question, question_bytes, scratch, scratch_words,
+                                                       answer, answer_words);
+    if (result.number == 0) {
+        answer[result.length - 1]++;
+    }
+    return result;
+}
+}
