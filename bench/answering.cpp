@@ -1,9 +1,11 @@
 // Answering by loops, by plan and by plan in portions against SQLite in memory and against loops
-// written out by hand, on the same tables in one run. Times are processor time of the fastest of
-// several runs; nothing is asserted of them. The five answers must be equal, or the exit code is 1.
+// written out by hand, on the same tables in one run; then both ways over the tables by column
+// (kind 23) beside the same ones by row. Times are processor time of the fastest of several runs;
+// nothing is asserted of them. All answers to a query must be equal, or the exit code is 1.
 //
 // Arguments: the file that bench/inputs.py writes; behind it, for a profiler, the name of a query
 // and "loops", "plan" or "portions": the engine then answers it once, and nothing else is done.
+// With "columns" behind these the tables are by column.
 
 #include <sqlite3.h>
 #include <time.h>
@@ -11,6 +13,7 @@
 #include <algorithm>
 #include <cstdio>
 #include <cstdlib>
+#include <cstring>
 #include <fstream>
 #include <functional>
 #include <iterator>
@@ -50,10 +53,21 @@ const Query queries[] = {
     {"cross sum", false, "SELECT sum(a.k + b.k) FROM t0 a, t1 b", cross_sum},
     {"bag to order", true, "SELECT a.k, a.v FROM t0 a ORDER BY 1, 2", bag_to_order},
     {"record inside", true, "SELECT a.k, a.v, a.k FROM t0 a ORDER BY 1, 2, 3", record_inside},
+    {"lists of one", true, "SELECT 1, a.k FROM t0 a ORDER BY 2", lists_of_one},
+    {"long bag", true, "SELECT a.k, b.v FROM t0 a, t1 b ORDER BY 1, 2", long_bag},
+    {"long record inside", true, "SELECT a.k, b.v, a.v FROM t0 a, t1 b ORDER BY 1, 2, 3",
+     long_record_inside},
+    {"long lists of one", true, "SELECT 1, a.k + b.v FROM t0 a, t1 b ORDER BY 2",
+     long_lists_of_one},
 };
+
+// The longest answer has 65,537 words.
+constexpr std::size_t answer_words = 65537;
 
 struct Input {
     Bytes data;
+    // The same tables by column.
+    Bytes columns;
     Bytes question;
     std::vector<Rows> tables;
 
@@ -65,6 +79,32 @@ struct Input {
         return product;
     }
 };
+
+// The tables by column: each cell as its folded difference from the one above.
+Bytes columns_of(const Bytes &data) {
+    Bytes columns = data;
+    for (std::size_t at = 0; at + 9 <= data.size();) {
+        const std::uint8_t *table = data.data() + at;
+        const std::size_t width = table[6],
+                          rows = std::size_t{table[7]} + 256 * std::size_t{table[8]};
+        const std::uint8_t *cells = table + 9 + 4 * width;
+        std::uint8_t *stored = columns.data() + (cells - data.data());
+        for (std::size_t column = 0; column < width; column++) {
+            std::uint32_t above = 0;
+            for (std::size_t row = 0; row < rows; row++, stored += 4) {
+                std::uint32_t cell;
+                std::memcpy(&cell, cells + 4 * (row * width + column), 4);
+                const std::uint32_t difference = cell - above;
+                const std::uint32_t folded = (difference << 1) ^ (difference >> 31 ? ~0u : 0u);
+                std::memcpy(stored, &folded, 4);
+                above = cell;
+            }
+        }
+        columns[at + 2] = 23;
+        at += 4 + std::size_t{table[0]} + 256 * std::size_t{table[1]};
+    }
+    return columns;
+}
 
 Bytes bytes_of_hex(const std::string &text) {
     Bytes bytes;
@@ -85,13 +125,15 @@ void read(const std::string &path, const std::string &name, Input &input) {
         input.data = bytes_of_hex(field);
         std::getline(fields, field, '\t');
         input.question = bytes_of_hex(field);
-        // Length and kind, then collection, columns and rows, then the cells.
-        for (std::size_t at = 0; at + 8 <= input.data.size();) {
+        // Length and kind, then number, which is the table's place, collection, columns and rows,
+        // then the bounds and the cells.
+        for (std::size_t at = 0; at + 9 <= input.data.size();) {
             const std::uint8_t *table = input.data.data() + at;
             input.tables.push_back(
-                {table + 8, std::size_t{table[6]} + 256 * std::size_t{table[7]}});
+                {table + 9 + 4 * table[6], std::size_t{table[7]} + 256 * std::size_t{table[8]}});
             at += 4 + std::size_t{table[0]} + 256 * std::size_t{table[1]};
         }
+        input.columns = columns_of(input.data);
         return;
     }
     stop(path + " has no query " + name);
@@ -118,10 +160,10 @@ class Engine {
     explicit Engine(Call answer_by) : answer_by(answer_by) {}
 
     // The engine's words, and its number: buffers of one vector each never overlap.
-    std::uint64_t run(const Input &input, Words &words) {
-        const dislogha::Result result = answer_by(
-            {input.data.data(), input.data.size()}, {input.question.data(), input.question.size()},
-            {scratch.data(), scratch.size()}, {answer.data(), answer.size()});
+    std::uint64_t run(const Bytes &data, const Bytes &question, Words &words) {
+        const dislogha::Result result =
+            answer_by({data.data(), data.size()}, {question.data(), question.size()},
+                      {scratch.data(), scratch.size()}, {answer.data(), answer.size()});
         words.assign(answer.data(), answer.data() + result.length);
         return static_cast<std::uint64_t>(result.refusal);
     }
@@ -129,7 +171,7 @@ class Engine {
   private:
     Call answer_by;
     std::vector<std::uint64_t> scratch = std::vector<std::uint64_t>(dislogha::scratch_words);
-    Words answer = Words(4096);
+    Words answer = Words(answer_words);
 };
 
 class Sqlite {
@@ -245,9 +287,9 @@ bool measure(const Query &query, const Input &input) {
     const Rows &first = input.tables.front(), &second = input.tables.back();
     Words words;
     const std::function<void()> ways[ways_count] = {
-        [&] { loops.run(input, words); },
-        [&] { plan.run(input, words); },
-        [&] { portions.run(input, words); },
+        [&] { loops.run(input.data, input.question, words); },
+        [&] { plan.run(input.data, input.question, words); },
+        [&] { portions.run(input.data, input.question, words); },
         [&] { sqlite.run(words); },
         [&] { words = query.loops(first, second); },
     };
@@ -266,14 +308,48 @@ bool measure(const Query &query, const Input &input) {
     return true;
 }
 
-int once(const std::string &path, const std::string &name, const std::string &way) {
+// Both ways over the tables by row and by column, one behind the other, and the ratio of each;
+// false where the answers differ.
+bool measure_kinds(const Query &query, const Input &input) {
+    const Words wanted = query.loops(input.tables.front(), input.tables.back());
+    std::printf("%-15s", query.name);
+    for (const Engine::Call way : {dislogha::answer_by_loops, dislogha::answer_by_plan}) {
+        Engine engine(way);
+        Words words;
+        double ns[2];
+        const Bytes *const kinds[] = {&input.data, &input.columns};
+        for (std::size_t kind = 0; kind < 2; kind++) {
+            const auto run = [&] { engine.run(*kinds[kind], input.question, words); };
+            run();
+            if (words != wanted) {
+                std::printf(" no times: another answer than by hand\n");
+                return false;
+            }
+            ns[kind] = fastest(run);
+        }
+        std::printf("  %9.0f %9.0f %8.2f", ns[0] / 1e3, ns[1] / 1e3, ns[1] / ns[0]);
+    }
+    std::printf("\n");
+    return true;
+}
+
+void print_kinds_heading() {
+    std::printf("\n%-15s  %28s  %28s\n", "", "by loops, us", "by plan, us");
+    std::printf("%-15s", "");
+    for (int way = 0; way < 2; way++)
+        std::printf("  %9s %9s %8s", "by row", "by column", "ratio");
+    std::printf("\n");
+}
+
+int once(const std::string &path, const std::string &name, const std::string &way, bool columns) {
     Input input;
     Words words;
     read(path, name, input);
     Engine engine(way == "plan"       ? dislogha::answer_by_plan
                   : way == "portions" ? answer_in_portions
                                       : dislogha::answer_by_loops);
-    const auto number = static_cast<unsigned long long>(engine.run(input, words));
+    const Bytes &data = columns ? input.columns : input.data;
+    const auto number = static_cast<unsigned long long>(engine.run(data, input.question, words));
     std::printf("%s by %s: number %llu, %zu words\n", name.c_str(), way.c_str(), number,
                 words.size());
     return 0;
@@ -282,11 +358,12 @@ int once(const std::string &path, const std::string &name, const std::string &wa
 } // namespace
 
 int main(int count, char **arguments) {
-    if (count != 2 && count != 4)
+    const bool columns = count == 5 && std::string(arguments[4]) == "columns";
+    if (count != 2 && count != 4 && !columns)
         stop("arguments: the file that bench/inputs.py writes; a query's name, \"loops\", "
-             "\"plan\" or \"portions\"");
-    if (count == 4)
-        return once(arguments[1], arguments[2], arguments[3]);
+             "\"plan\" or \"portions\"; \"columns\"");
+    if (count >= 4)
+        return once(arguments[1], arguments[2], arguments[3], columns);
     std::printf("SQLite %s\n", sqlite3_libversion());
     print_heading();
     bool equal = true;
@@ -294,6 +371,12 @@ int main(int count, char **arguments) {
         Input input;
         read(arguments[1], query.name, input);
         equal &= measure(query, input);
+    }
+    print_kinds_heading();
+    for (const Query &query : queries) {
+        Input input;
+        read(arguments[1], query.name, input);
+        equal &= measure_kinds(query, input);
     }
     return equal ? 0 : 1;
 }

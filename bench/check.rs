@@ -1,5 +1,5 @@
-//! How long a check takes: document 01's listing, each named vector, and the longest of the inputs
-//! that the harness makes from seed 1, in nanoseconds and as multiples of the listing. Nothing is
+//! How long a check takes: document 01's listing, its question over the largest tables, each named
+//! vector, and the longest of the inputs that the harness makes from seed 1, in nanoseconds and as multiples of the listing. Nothing is
 //! asserted.
 
 use std::hint::black_box;
@@ -7,14 +7,15 @@ use std::process::ExitCode;
 use std::time::Duration;
 
 use harness::calls::check;
+use harness::columns::full_tables;
 use harness::generate::generate;
+use harness::lent::SCRATCH;
 use harness::listing::listing;
 use harness::recorded::{cases_in, Case};
 use harness::timing::{fastest, fastest_of};
 
-/// Words that each call clears, and the most that a check uses before (docs/DECISIONS.md).
-const SCRATCH: usize = 8192;
-const USED: usize = 2048;
+/// Scratch words up to the last one that a check uses (docs/DECISIONS.md); each call clears `SCRATCH`.
+const USED: usize = 1808;
 
 /// Inputs that are made, and how many of them are shown.
 const MADE: u64 = 20_000;
@@ -36,6 +37,14 @@ fn main() -> ExitCode {
     println!("      ns  listings");
     println!("{clearing:8.0}  {:8.2}  clearing alone", clearing / usual);
     println!("{usual:8.0}  {:8.2}  the listing", 1.0);
+    for (by_column, kind) in [(false, "by row"), (true, "by column")] {
+        let full = full_tables(by_column);
+        let judged = fastest(|| check(&full, &question, &mut scratch));
+        println!(
+            "{judged:8.0}  {:8.2}  its question over 8 tables of 1,024 x 8 cells {kind}",
+            judged / usual
+        );
+    }
     let named = cases
         .into_iter()
         .filter(|case| !case.name.contains("/random-"));

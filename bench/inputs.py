@@ -41,6 +41,11 @@ def pair(collection, first, second):
     return [table('A', collection, first), table('B', collection, second)]
 
 
+def long(count):
+    """As many pairs as answers of 65,536 words have elements."""
+    return pair('bag', below(100, ROWS, 13), below(100, count, 14))
+
+
 QUERIES = [
     ('correlated sum', 'bag{ (a.k, sum{ b.v | b <- B, b.k = a.k }) | a <- A }',
      pair('bag', shuffled(1, 1), below(ROWS, ROWS, 2))),
@@ -54,6 +59,10 @@ QUERIES = [
      pair('bag', below(2**30, ROWS, 9), below(2**30, ROWS, 10))),
     ('bag to order', 'bag{ (a.k, a.v) | a <- A }', [table('A', 'bag', below(100, 1000, 11))]),
     ('record inside', 'bag{ ((a.k, a.v), a.k) | a <- A }', [table('A', 'bag', below(100, 1000, 11))]),
+    ('lists of one', 'bag{ list{ a.k } | a <- A }', [table('A', 'bag', below(100, 500, 12))]),
+    ('long bag', 'bag{ (a.k, b.v) | a <- A, b <- B }', long(32)),
+    ('long record inside', 'bag{ ((a.k, b.v), a.v) | a <- A, b <- B }', long(21)),
+    ('long lists of one', 'bag{ list{ a.k + b.v } | a <- A, b <- B }', long(32)),
 ]
 
 for name, text, tables in QUERIES:

@@ -4,6 +4,7 @@
 use std::process::ExitCode;
 
 use harness::calls::{check, plan_lines};
+use harness::lent::SCRATCH;
 use harness::recorded::{cases_in, Case};
 use harness::timing::fastest;
 
@@ -19,7 +20,7 @@ fn main() -> ExitCode {
             return ExitCode::FAILURE;
         }
     };
-    let mut scratch = vec![0; 8192];
+    let mut scratch = vec![0; SCRATCH];
     let mut text = vec![0; LENT];
     let mut bytes_of =
         |case: &Case| plan_lines(&case.data, &case.question, &mut scratch, &mut text).length;

@@ -9,6 +9,19 @@
 // three terms (else 22), a truth and then two numbers or two truths (else 25); it is the first of the
 // two where the truth is true, else the second, and in the plan's lines (if c a b).
 //
+// Tables are document 01's, with request E9's number ahead of the collection byte and request E5's
+// bounds between row count and cells. Behind length and kind 20 a record has one byte of number (0
+// to 7), one of collection, one of columns, two of rows; four for each column's bound, unsigned and
+// at most 2^31, which the magnitude of none of its cells exceeds (a tight one lets more questions
+// pass 28); four for each cell, row by row, signed. Records may stand in any order, which changes no
+// answer, and numbers may be skipped; a question that names a number that no record has is 25.
+//
+// A record may also be of kind 23 (request E10), the same table by column: header, bounds and length are
+// those of kind 20, then come the columns one after another, each cell as its difference from the cell
+// above (the first of a column from 0), wrapped at 32 bits and folded, so that 0, -1, 1, -2 are stored
+// as 0, 1, 2, 3. Data may have both kinds; which one a table is in changes no answer and no refusal.
+// `table_to_columns` and `table_to_rows` turn one record into the other kind.
+//
 // What the engine promises holds for buffers that do not overlap. A wrapper tests that first:
 // where a span that is written shares a byte with another one, it makes no call, changes nothing
 // and gives `Outcome::overlapping`. Data and question are only read, and may overlap each other.
@@ -42,55 +55,62 @@ struct dislogha_round_result {
     dislogha_portioned seats[4];
 };
 
-// A slice is a pointer and a count of its elements; an empty one may have any pointer.
-dislogha_result dislogha_check(const std::uint8_t *data, std::size_t data_bytes,
-                               const std::uint8_t *question, std::size_t question_bytes,
-                               std::uint64_t *scratch, std::size_t scratch_words) noexcept;
+// A slice is a pointer and a count of its elements, of 64 bits on every target; an empty one may
+// have any pointer.
+dislogha_result dislogha_check(const std::uint8_t *data, std::uint64_t data_bytes,
+                               const std::uint8_t *question, std::uint64_t question_bytes,
+                               std::uint64_t *scratch, std::uint64_t scratch_words) noexcept;
 
-dislogha_result dislogha_answer_by_loops(const std::uint8_t *data, std::size_t data_bytes,
-                                         const std::uint8_t *question, std::size_t question_bytes,
-                                         std::uint64_t *scratch, std::size_t scratch_words,
-                                         std::int64_t *answer, std::size_t answer_words) noexcept;
+dislogha_result dislogha_answer_by_loops(const std::uint8_t *data, std::uint64_t data_bytes,
+                                         const std::uint8_t *question, std::uint64_t question_bytes,
+                                         std::uint64_t *scratch, std::uint64_t scratch_words,
+                                         std::int64_t *answer, std::uint64_t answer_words) noexcept;
 
-dislogha_result dislogha_answer_by_plan(const std::uint8_t *data, std::size_t data_bytes,
-                                        const std::uint8_t *question, std::size_t question_bytes,
-                                        std::uint64_t *scratch, std::size_t scratch_words,
-                                        std::int64_t *answer, std::size_t answer_words) noexcept;
+dislogha_result dislogha_answer_by_plan(const std::uint8_t *data, std::uint64_t data_bytes,
+                                        const std::uint8_t *question, std::uint64_t question_bytes,
+                                        std::uint64_t *scratch, std::uint64_t scratch_words,
+                                        std::int64_t *answer, std::uint64_t answer_words) noexcept;
 
-dislogha_result dislogha_plan_lines(const std::uint8_t *data, std::size_t data_bytes,
-                                    const std::uint8_t *question, std::size_t question_bytes,
-                                    std::uint64_t *scratch, std::size_t scratch_words,
-                                    std::uint8_t *lines, std::size_t lines_bytes) noexcept;
+dislogha_result dislogha_plan_lines(const std::uint8_t *data, std::uint64_t data_bytes,
+                                    const std::uint8_t *question, std::uint64_t question_bytes,
+                                    std::uint64_t *scratch, std::uint64_t scratch_words,
+                                    std::uint8_t *lines, std::uint64_t lines_bytes) noexcept;
 
-dislogha_result dislogha_begin(const std::uint8_t *data, std::size_t data_bytes,
-                               const std::uint8_t *question, std::size_t question_bytes,
-                               std::uint64_t *scratch, std::size_t scratch_words) noexcept;
+dislogha_result dislogha_begin(const std::uint8_t *data, std::uint64_t data_bytes,
+                               const std::uint8_t *question, std::uint64_t question_bytes,
+                               std::uint64_t *scratch, std::uint64_t scratch_words) noexcept;
 
-dislogha_portioned dislogha_portion(const std::uint8_t *data, std::size_t data_bytes,
-                                    std::uint64_t *scratch, std::size_t scratch_words,
-                                    std::int64_t *answer, std::size_t answer_words,
+dislogha_portioned dislogha_portion(const std::uint8_t *data, std::uint64_t data_bytes,
+                                    std::uint64_t *scratch, std::uint64_t scratch_words,
+                                    std::int64_t *answer, std::uint64_t answer_words,
                                     std::uint64_t rows) noexcept;
 
 // There are as many seats as quotas; what is lent for later ones is not looked at.
 dislogha_round_result
-dislogha_round(const std::uint8_t *data, std::size_t data_bytes, const std::uint64_t *quotas,
-               std::size_t seats, std::uint64_t *scratch1, std::size_t scratch1_words,
-               std::int64_t *answer1, std::size_t answer1_words, std::uint64_t *scratch2,
-               std::size_t scratch2_words, std::int64_t *answer2, std::size_t answer2_words,
-               std::uint64_t *scratch3, std::size_t scratch3_words, std::int64_t *answer3,
-               std::size_t answer3_words, std::uint64_t *scratch4, std::size_t scratch4_words,
-               std::int64_t *answer4, std::size_t answer4_words) noexcept;
+dislogha_round(const std::uint8_t *data, std::uint64_t data_bytes, const std::uint64_t *quotas,
+               std::uint64_t seats, std::uint64_t *scratch1, std::uint64_t scratch1_words,
+               std::int64_t *answer1, std::uint64_t answer1_words, std::uint64_t *scratch2,
+               std::uint64_t scratch2_words, std::int64_t *answer2, std::uint64_t answer2_words,
+               std::uint64_t *scratch3, std::uint64_t scratch3_words, std::int64_t *answer3,
+               std::uint64_t answer3_words, std::uint64_t *scratch4, std::uint64_t scratch4_words,
+               std::int64_t *answer4, std::uint64_t answer4_words) noexcept;
+
+dislogha_result dislogha_table_to_columns(const std::uint8_t *record, std::uint64_t record_bytes,
+                                          std::uint8_t *target, std::uint64_t target_bytes) noexcept;
+
+dislogha_result dislogha_table_to_rows(const std::uint8_t *record, std::uint64_t record_bytes,
+                                       std::uint8_t *target, std::uint64_t target_bytes) noexcept;
 }
 
 namespace dislogha {
 
 // Words of scratch that a call asks for. They are 0 after every call that has them, save while a
-// question is unfinished (`begin`, `portion`, `round`).
-constexpr std::size_t scratch_words = 8192;
+// question is unfinished (`begin`, `portion`, `round`). Words behind them stay as they were.
+constexpr std::size_t scratch_words = 2048;
 
 // Bytes of stack that a call needs at most, 128 KiB, whatever it is asked and whatever it is lent, on
-// x86-64 as the kit compiles it: worked out from the compiled frames, 129,480, and seen in the deepest
-// questions that were made, 117,696 (`tests/stack/run`; docs/FIGURES.md). Another processor needs
+// x86-64 as the kit compiles it: worked out from the compiled frames, 129,488, and seen in the deepest
+// questions that were made, 117,728 (`tests/stack/run`; docs/FIGURES.md). Another processor needs
 // another figure.
 constexpr std::size_t stack_bytes = 131072;
 
@@ -113,12 +133,20 @@ enum class Outcome : std::uint8_t {
 // The numbers of documents 01 and 02.
 enum class Refusal : std::uint64_t {
     // Whoever packs the data can cause:
-    // A record cut short or not kind 20.
+    // A record cut short or of neither kind 20 nor 23; of `table_to_columns` and `table_to_rows` also
+    // the other kind, bytes behind the record, or no byte at all.
     not_a_table = 11,
     // Collection, columns or rows outside their ranges, or a length that does not match.
     table_out_of_range = 12,
     // A ninth record.
     too_many_tables = 13,
+    // A number above 7; at its record, after 12.
+    table_number_out_of_range = 50,
+    // A number that an earlier record has; at its record, after 12 and 50.
+    table_number_used = 51,
+    // A column's bound over 2^31, or a cell beyond its column's, of kind 23 the cell that comes out;
+    // at its record, after 12, 50 and 51.
+    cell_beyond_bound = 43,
 
     // Whoever types the question:
     // Over 4,096 bytes.
@@ -129,18 +157,19 @@ enum class Refusal : std::uint64_t {
     too_deep_or_too_many_records = 23,
     // A name out of scope or bound twice.
     name_does_not_hold = 24,
-    // A type, field or table that does not fit.
+    // A type, field or table that does not fit, or a table's number that no record has.
     type_does_not_fit = 25,
     // A generator its monoid may not have.
     generator_not_allowed = 26,
     // A normal form over 512 nodes, each term, comprehension and qualifier being one, copies
     // counted.
     normal_form_too_large = 27,
-    // A number in the normal form with bound over 2^62.
+    // A number in the normal form with bound over 2^62; a cell has the bound that its column
+    // declares.
     number_out_of_bounds = 28,
 
     // Whoever calls:
-    // Scratch under 8,192 words. Scratch stays untouched.
+    // Scratch under 2,048 words. Scratch stays untouched.
     scratch_too_short = 31,
     // The answer buffer has fewer than G words, G being the answer's length in normal form with
     // each set written as a bag.
@@ -154,6 +183,9 @@ enum class Refusal : std::uint64_t {
     nothing_unfinished = 48,
     // A rota of no seat or above four, or a quota of 0 or above 1,000. Nothing is changed.
     rota_out_of_range = 49,
+    // The target is shorter than the record; after all refusals of the record. Bytes behind a record
+    // that is written never change.
+    target_too_short = 52,
 };
 
 struct Result {
@@ -199,6 +231,7 @@ using Bytes = Span<const std::uint8_t>;
 using Words = Span<std::uint64_t>;
 using Answer = Span<std::int64_t>;
 using Text = Span<std::uint8_t>;
+using Target = Span<std::uint8_t>;
 using Quotas = Span<const std::uint64_t>;
 
 // What a round is lent for a seat.
@@ -294,6 +327,26 @@ inline Result answer_by_plan(Bytes data, Bytes question, Words scratch, Answer a
 // front of the buffer. Later bytes are as they were.
 inline Result plan_lines(Bytes data, Bytes question, Words scratch, Text lines) noexcept {
     return call_with(dislogha_plan_lines, data, question, scratch, lines);
+}
+
+// A call that turns a record into the other kind.
+template <class Call> Result turn_with(Call call, Bytes record, Target target) noexcept {
+    if (overlaps(target, record)) {
+        return overlapping;
+    }
+    return result_of(call(record.first(), record.count(), target.first(), target.count()));
+}
+
+// A record of kind 20 as one of kind 23: `answered` and the count of its bytes, as many as the record
+// has, which stand at the front of the target. Later bytes are as they were, and at a refusal all are.
+// The refusals are the record's own 11, 12, 50 and 43, then 52. No scratch is lent.
+inline Result table_to_columns(Bytes record, Target target) noexcept {
+    return turn_with(dislogha_table_to_columns, record, target);
+}
+
+// A record of kind 23 as one of kind 20. Each of the two undoes the other.
+inline Result table_to_rows(Bytes record, Target target) noexcept {
+    return turn_with(dislogha_table_to_rows, record, target);
 }
 
 // Begins to answer by plan in portions: 31 and all refusals to 28, or `answered` and length 0; then

@@ -13,13 +13,20 @@ sys.dont_write_bytecode = True
 import edges  # noqa: E402
 import request_e1  # noqa: E402
 import request_e2  # noqa: E402
+import request_e5  # noqa: E402
+import request_e9  # noqa: E402
+import request_e10  # noqa: E402
+import request_e13  # noqa: E402
 import source_000  # noqa: E402
 import source_001  # noqa: E402
 import source_002  # noqa: E402
 import source_003  # noqa: E402
 import source_004  # noqa: E402
 
-SOURCES = [source_000, source_001, source_002, source_003, source_004, edges, request_e1, request_e2]
+from notation import WIDEST  # noqa: E402
+
+SOURCES = [source_000, source_001, source_002, source_003, source_004, edges, request_e1, request_e2,
+           request_e5, request_e9, request_e10, request_e13]
 
 OPENING = '''# Example queries
 
@@ -42,8 +49,10 @@ Questions are in a small notation: `monoid{ head | qualifiers }` with `x <- term
 record; `x.name` is the field of that column, `x.0` the first field; `if c then a else b` is a choice
 (document 02, E2). `a > b` is short for `b < a`,
 `a <= b` for `not b < a`, `a >= b` for `not a < b`, `a != b` for `not a = b`. The tables of a case
-are numbered in the order in which they are given. Each case's plan is in `tests/examples/cases`,
-written by hand too.
+are numbered in the order in which they are given, where no other number (document 02, E9) stands behind
+a table's name. A table is by row where "by column" (document 02, E10) does not stand there; what such a
+table then stores is given behind its rows, worked out by hand. A column is declared 2^31 (document 02, E5) where no other bound stands behind its name.
+Each case's plan is in `tests/examples/cases`, written by hand too.
 
 A line of `tests/examples/cases` is one case, its fields separated by a tab: name, scratch words,
 data in hexadecimal, question in hexadecimal, the checker's number, G, the answer's words, the
@@ -67,6 +76,13 @@ def heading(cells):
     return row(cells) + row(['---'] * len(cells))
 
 
+def stored_by(table):
+    if table.stored is None:
+        return ''
+    shown = [str(word) for word in table.stored] or ['nothing']
+    return '; by column %s' % ' '.join(shown if len(shown) <= 10 else shown[:3] + ['..', shown[-1]])
+
+
 def rows_of(table):
     shown = [str(tuple(cells)).replace(',)', ')') for cells in table.rows]
     if len(shown) > 10:
@@ -74,12 +90,36 @@ def rows_of(table):
     return ', '.join(shown) or 'no rows'
 
 
+def columns_of(table):
+    if not table.bounds:
+        return ', '.join(table.columns) + ' (no bounds)'
+    declared = zip(table.columns, table.bounds)
+    return ', '.join(column if bound == WIDEST else '%s (%d)' % (column, bound) for column, bound in declared)
+
+
+def named(table):
+    kinds = {20: [], 23: ['by column']}
+    behind = [] if table.number is None else [str(table.number)]
+    behind += kinds.get(table.kind, ['kind %d' % table.kind])
+    return '%s (%s)' % (table.name, ', '.join(behind)) if behind else table.name
+
+
 def tables_of(source):
-    """The tables of a source's cases, each once and in the order of their first use."""
-    tables = []
+    """The tables of a source's cases, each once, whatever its numbers, in the order of their first use; by
+    column where it is anywhere."""
+    tables = {}
     for case in source.CASES:
-        tables += [table for table in case.tables if table not in tables]
-    return tables
+        for table in case.tables + case.absent:
+            if table.stored is not None and tables.get(table.name, table).stored is None:
+                tables[table.name] = table
+            tables.setdefault(table.name, table)
+    return tables.values()
+
+
+def names_of(case):
+    stored = ', '.join(named(table) for table in case.tables)
+    absent = ', '.join(named(table) for table in case.absent)
+    return stored + ('%snot there: %s' % ('; ' if stored else '', absent) if absent else '')
 
 
 def gives(case):
@@ -98,12 +138,11 @@ def document():
         text += '\n## %s\n\n' % source.TITLE
         text += heading(['Table', 'Collection', 'Columns', 'Rows'])
         for table in tables_of(source):
-            text += row([code(table.name), table.collection, ', '.join(table.columns), rows_of(table)])
+            text += row([code(table.name), table.collection, columns_of(table), rows_of(table) + stored_by(table)])
         text += '\n' + heading(['Case', 'Where', 'In the paper', 'Tables', 'Question', 'Gives'])
         for case in source.CASES:
             where = case.place.replace('*', '\\*')
-            names = ', '.join(table.name for table in case.tables)
-            text += row([case.name, where, code(case.paper), names, asked(case.ask), gives(case)])
+            text += row([case.name, where, code(case.paper), names_of(case), asked(case.ask), gives(case)])
         if source.LEFT_OUT:
             text += '\nNot recast:\n\n' + heading(['Where', 'Query', 'Why'])
             for where, query, why in source.LEFT_OUT:

@@ -24,6 +24,12 @@ const char *words_of(dislogha::Refusal refusal) noexcept {
         return "table out of range";
     case Refusal::too_many_tables:
         return "over 8 tables";
+    case Refusal::table_number_out_of_range:
+        return "table number over 7";
+    case Refusal::table_number_used:
+        return "table number twice";
+    case Refusal::cell_beyond_bound:
+        return "cell beyond bound";
     case Refusal::question_too_long:
         return "over 4096 bytes";
     case Refusal::broken_record:
@@ -52,6 +58,8 @@ const char *words_of(dislogha::Refusal refusal) noexcept {
         return "nothing to go on";
     case Refusal::rota_out_of_range:
         return "rota out of range";
+    case Refusal::target_too_short:
+        return "target too short";
     }
     return "unknown refusal";
 }

@@ -72,7 +72,7 @@ bool refuses(Portion portion, Refusal refusal) {
     return !portion.unfinished() && is(portion, {Outcome::refused, refusal, 0}, false, 0);
 }
 
-// The first 8,192 words are 0 and the later ones as they were.
+// The first 2,048 words are 0 and the later ones as they were.
 bool cleared(const std::vector<std::uint64_t> &scratch) {
     const auto behind = scratch.begin() + static_cast<std::ptrdiff_t>(dislogha::scratch_words);
     return std::count(scratch.begin(), behind, 0u) == behind - scratch.begin() &&
@@ -88,13 +88,45 @@ void check_listing() {
     // Without its tables the question names what is not there.
     const auto refused = dislogha::check(Bytes(), bytes(question), words(scratch));
     expect(refuses(refused, Refusal::type_does_not_fit), "a table that is not lent is refused");
+
+    // The first column of the berths, 1 and 2, is declared 1.
+    const std::size_t number_at = 4, bound_at = 9;
+    auto beyond = tables;
+    beyond[bound_at] = 1;
+    beyond[bound_at + 3] = 0;
+    const auto broken = dislogha::check(bytes(beyond), bytes(question), words(scratch));
+    expect(refuses(broken, Refusal::cell_beyond_bound), "a cell beyond its bound is refused");
+
+    // Both before that.
+    beyond[number_at] = 8;
+    const auto above = dislogha::check(bytes(beyond), bytes(question), words(scratch));
+    expect(refuses(above, Refusal::table_number_out_of_range), "number 8 is refused");
+    auto twice = tables;
+    twice[number_at] = 1;
+    const auto used = dislogha::check(bytes(twice), bytes(question), words(scratch));
+    expect(refuses(used, Refusal::table_number_used), "a number twice is refused");
+}
+
+// From 2,048 words on, also from the 8,192 that were asked for once, the same answer; words behind the
+// first 2,048 stay as they were.
+void check_longer_scratch() {
+    for (const std::size_t lent : {2048u, 2049u, 8191u, 8192u}) {
+        std::vector<std::uint64_t> scratch(lent, rubbish);
+        std::vector<std::int64_t> answer(6, -7);
+        const auto answered = dislogha::answer_by_plan(bytes(tables), bytes(question), words(scratch),
+                                                       Answer(answer.data(), answer.size()));
+        expect(answers(answered, 5), "2,048 words and more are enough");
+        expect(answer == std::vector<std::int64_t>{2, 1, 110, 2, 0, -7}, "the same words from all");
+        expect(cleared(scratch), "2,048 words are cleared and nothing behind them changed");
+    }
 }
 
 void check_scratch() {
+    static_assert(dislogha::scratch_words == 2048, "document 02, E13");
     std::vector<std::uint64_t> scratch(dislogha::scratch_words - 1, rubbish);
     const auto before = scratch;
     const auto refused = dislogha::check(bytes(tables), bytes(question), words(scratch));
-    expect(refuses(refused, Refusal::scratch_too_short), "8,191 words are too few");
+    expect(refuses(refused, Refusal::scratch_too_short), "2,047 words are too few");
     expect(scratch == before, "scratch that is too short stays untouched");
     const auto none = dislogha::check(Bytes(), Bytes(), Words());
     expect(refuses(none, Refusal::scratch_too_short), "nothing at all may be lent");
@@ -118,6 +150,81 @@ void answer_listing(AnswerCall answer_by) {
     expect(refuses(refused, Refusal::answer_too_short), "four words are too few");
 }
 
+// "The same records in another order give the same answer."
+void answer_reversed(AnswerCall answer_by) {
+    auto reversed = tables;
+    const auto half = static_cast<std::ptrdiff_t>(reversed.size() / 2);
+    std::rotate(reversed.begin(), reversed.begin() + half, reversed.end());
+    std::vector<std::uint64_t> scratch(dislogha::scratch_words, rubbish);
+    std::vector<std::int64_t> answer(5, -7);
+    const auto answered = answer_by(bytes(reversed), bytes(question), words(scratch),
+                                    Answer(answer.data(), answer.size()));
+    expect(answers(answered, 5), "the listing has five words in either order of its records");
+    expect(answer == std::vector<std::int64_t>{2, 1, 110, 2, 0}, "and the same ones");
+}
+
+// The listing's berths by column: 1, 1 and 90, -20, folded.
+const std::vector<std::uint8_t> berths_by_column{
+    29, 0, 23, 0,   0, 2, 2, 2,   0,                         //
+    0,  0, 0,  128, 0, 0, 0, 128,                            //
+    2,  0, 0,  0,   2, 0, 0, 0,   180, 0, 0, 0, 39, 0, 0, 0, //
+};
+
+// A record turned into a target of so many bytes, in a block of its own.
+struct Turned {
+    std::vector<std::uint8_t> target;
+    Result result;
+
+    template <class Turn>
+    Turned(Turn turn, const std::vector<std::uint8_t> &record, std::size_t count)
+        : target(count, 0x5A), result(turn(bytes(record), {target.data(), target.size()})) {}
+
+    bool refused(Refusal refusal) const {
+        return refuses(result, refusal) && target == std::vector<std::uint8_t>(target.size(), 0x5A);
+    }
+};
+
+// "each undoes the other"
+void turn_listing() {
+    const auto to_columns = dislogha::table_to_columns, to_rows = dislogha::table_to_rows;
+    const auto size = tables.size() / 2;
+    const std::vector<std::uint8_t> berths(tables.begin(),
+                                           tables.begin() + static_cast<std::ptrdiff_t>(size));
+    const Turned there(to_columns, berths, size);
+    expect(answers(there.result, size) && there.target == berths_by_column, "berths by column");
+    const Turned back(to_rows, there.target, size);
+    expect(answers(back.result, size) && back.target == berths, "and back by row");
+    auto behind = berths_by_column;
+    behind.push_back(0x5A);
+    expect(Turned(to_columns, berths, size + 1).target == behind, "no byte behind it is changed");
+    for (const std::size_t count : {std::size_t{0}, size - 1}) {
+        expect(Turned(to_columns, berths, count).refused(Refusal::target_too_short) &&
+                   Turned(to_rows, there.target, count).refused(Refusal::target_too_short),
+               "a target that is too short stays as it was");
+    }
+    expect(Turned(to_rows, berths, size).refused(Refusal::not_a_table) &&
+               Turned(to_columns, there.target, size).refused(Refusal::not_a_table) &&
+               Turned(to_columns, tables, tables.size()).refused(Refusal::not_a_table) &&
+               Turned(to_columns, {}, size).refused(Refusal::not_a_table),
+           "the other kind, bytes behind and no record are refused");
+    auto above = berths;
+    above[4] = 8;
+    expect(Turned(to_columns, above, 0).refused(Refusal::table_number_out_of_range),
+           "the record's own refusals come first");
+}
+
+// "The engine reads either kind, with the same answers"
+void answer_by_column(AnswerCall answer_by) {
+    auto mixed = tables;
+    std::copy(berths_by_column.begin(), berths_by_column.end(), mixed.begin());
+    std::vector<std::uint64_t> scratch(dislogha::scratch_words, rubbish);
+    std::vector<std::int64_t> answer(5, -7);
+    const auto answered = answer_by(bytes(mixed), bytes(question), words(scratch),
+                                    Answer(answer.data(), answer.size()));
+    expect(answers(answered, 5), "the listing has five words with its berths by column");
+    expect(answer == std::vector<std::int64_t>{2, 1, 110, 2, 0}, "and these, too, are the same");
+}
+
 // The listing has six rows a pass; its words are those of the single call.
 void portion_listing() {
     std::vector<std::uint64_t> scratch(dislogha::scratch_words + 3, rubbish);
@@ -135,7 +242,7 @@ void portion_listing() {
            "65,536 rows are refused");
     const auto short_of = Words(scratch.data(), dislogha::scratch_words - 1);
     expect(refuses(dislogha::portion(bytes(tables), short_of, lent, 1), Refusal::scratch_too_short),
-           "8,191 words are too few for a portion");
+           "2,047 words are too few for a portion");
     expect(scratch == before, "what is refused changes nothing");
     expect(finished(portion(7), {Outcome::answered, Refusal{}, 5}, 7), "seven rows finish it");
     expect(answer == std::vector<std::int64_t>{2, 1, 110, 2, 0, -7}, "the words of a single call");
@@ -376,6 +483,11 @@ void check_overlap() {
     not_offered(bytes(tables), in_scratch, "a portion inside scratch is not written");
     not_offered(in_answer, answer, "data inside the answer are not offered");
     expect(scratch == before, "nothing is changed where no call is made");
+    auto record = tables;
+    const auto inside = dislogha::Target(&record.back(), 1);
+    expect(overlaps(dislogha::table_to_columns(bytes(record), inside)) &&
+               overlaps(dislogha::table_to_rows(bytes(record), inside)) && record == tables,
+           "a target inside the record is not written");
     const auto same = dislogha::check(bytes(question), bytes(question), words(scratch));
     expect(refuses(same, Refusal::not_a_table), "data and question may be the same bytes");
 }
@@ -384,8 +496,11 @@ void check_overlap() {
 
 int main() {
     check_listing();
+    turn_listing();
     for (const AnswerCall answer_by : {dislogha::answer_by_loops, dislogha::answer_by_plan}) {
         answer_listing(answer_by);
+        answer_reversed(answer_by);
+        answer_by_column(answer_by);
         answer_side_by_side(answer_by);
     }
     portion_listing();
@@ -394,6 +509,7 @@ int main() {
     check_seats_apart();
     print_listing();
     check_scratch();
+    check_longer_scratch();
     check_overlap();
     std::puts("cpp: ok");
 }

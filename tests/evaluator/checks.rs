@@ -4,7 +4,7 @@ use std::collections::{HashMap, HashSet};
 use std::rc::Rc;
 
 use super::budget::Stop;
-use super::tables::Table;
+use super::tables::Tables;
 use super::terms::{Comprehension, Monoid, Name, Operation, Qualifier, Term};
 
 /// "24: a name out of scope or bound twice."
@@ -70,7 +70,7 @@ enum Type {
 const MISFIT: Stop = Stop::Refused(25);
 
 /// 25 over the whole question, then "26: a generator its monoid may not have".
-pub fn check_types(question: &Comprehension, tables: &[Table]) -> Result<(), Stop> {
+pub fn check_types(question: &Comprehension, tables: &Tables) -> Result<(), Stop> {
     let mut types = Types {
         tables,
         names: HashMap::new(),
@@ -84,7 +84,7 @@ pub fn check_types(question: &Comprehension, tables: &[Table]) -> Result<(), Sto
 }
 
 struct Types<'a> {
-    tables: &'a [Table],
+    tables: &'a Tables,
     /// Each name is bound once, so one map serves all scopes.
     names: HashMap<Name, Rc<Type>>,
     /// Whether some generator may not stand in its monoid.
@@ -183,10 +183,11 @@ impl Types<'_> {
         }
     }
 
-    /// A table is a collection of records of as many numbers as it has columns.
+    /// A table is a collection of records of as many numbers as it has columns. E9: "naming an absent
+    /// number is 25", whichever of 0 to 255 it is.
     fn table(&self, number: u8) -> Result<Rc<Type>, Stop> {
-        let table = self.tables.get(usize::from(number)).ok_or(MISFIT)?;
-        let row = (0..table.columns).map(|_| Rc::new(Type::Number)).collect();
+        let table = self.tables.get(&number).ok_or(MISFIT)?;
+        let row = table.bounds.iter().map(|_| Rc::new(Type::Number)).collect();
         Ok(Rc::new(Type::Collection(
             table.collection,
             Rc::new(Type::Record(row)),

@@ -1,9 +1,11 @@
-//! A second evaluator of document 01 with the landed requests of document 02 (E1, E2), written from their
+//! A second evaluator of document 01 with the landed requests of document 02 (E1, E2, E5, E9, E10, E13), written from their
 //! text alone and as literally as it can be: trees are rewritten, streams are kept whole, and nothing
-//! is fast. It serves the four calls and says `Unknown` where an input would take it too long.
+//! is fast. It serves the four calls and says `Unknown` where an input would take it too long; it also
+//! turns tables from rows to columns and back.
 
 mod bounds;
 mod budget;
+mod by_column;
 mod checks;
 mod meaning;
 mod normal;
@@ -16,11 +18,11 @@ mod values;
 
 use budget::Stop;
 pub use budget::Unknown;
-use tables::Table;
+use tables::{Kind, Tables};
 use terms::Comprehension;
 
-/// "31: scratch under 8,192 words."
-const SCRATCH: usize = 8192;
+/// "31: scratch under .. words"; document 02, E13: "Refusal 31 moves to fewer than 2,048".
+const SCRATCH: usize = 2048;
 
 /// What an answering call gives.
 #[derive(Clone, Debug, Default, PartialEq, Eq)]
@@ -95,6 +97,22 @@ pub fn plan_lines(
     refusal_or(lines, |number| (number, Vec::new()))
 }
 
+/// E10: a record of kind 20 as one of kind 23, into a buffer of so many bytes; at a refusal its number and
+/// no bytes. The length is that of the bytes, and what is behind them in the buffer stays.
+pub fn table_to_columns(record: &[u8], target_bytes: usize) -> Result<(u32, Vec<u8>), Unknown> {
+    turned(record, Kind::ByRow, target_bytes)
+}
+
+/// The other direction: a record of kind 23 as one of kind 20.
+pub fn table_to_rows(record: &[u8], target_bytes: usize) -> Result<(u32, Vec<u8>), Unknown> {
+    turned(record, Kind::ByColumn, target_bytes)
+}
+
+fn turned(record: &[u8], from: Kind, target_bytes: usize) -> Result<(u32, Vec<u8>), Unknown> {
+    let bytes = by_column::turned(record, from, target_bytes).map(|bytes| (0, bytes));
+    refusal_or(bytes, |number| (number, Vec::new()))
+}
+
 /// For tests of the evaluator itself: whether the normal form is one, by the six rules and the
 /// node count alone. True for a question that is refused.
 pub fn normal_form_holds(data: &[u8], question: &[u8]) -> Result<bool, Unknown> {
@@ -106,7 +124,7 @@ pub fn normal_form_holds(data: &[u8], question: &[u8]) -> Result<bool, Unknown> 
 
 /// A question that the checker answers with 0.
 struct Accepted {
-    tables: Vec<Table>,
+    tables: Tables,
     question: Comprehension,
     form: Comprehension,
 }
@@ -122,7 +140,7 @@ fn accept(data: &[u8], question: &[u8], scratch: usize) -> Result<Accepted, Stop
     checks::check_names(&question)?;
     checks::check_types(&question, &tables)?;
     let form = normal::normal_form(&question, &tables)?;
-    bounds::check_bounds(&form)?;
+    bounds::check_bounds(&form, &tables)?;
     Ok(Accepted {
         tables,
         question,

@@ -5,10 +5,10 @@
 //! A bound name is replaced where it is met; each replacement is a copy whose own names are made
 //! new, so that nothing is captured.
 
-use std::collections::{HashMap, VecDeque};
+use std::collections::{BTreeMap, HashMap, VecDeque};
 
 use super::budget::{Budget, Stop, FAULT};
-use super::tables::Table;
+use super::tables::Tables;
 use super::terms::{Comprehension, Monoid, Name, Operation, Qualifier, Term};
 
 /// Terms copied and rules applied before the evaluator gives up.
@@ -18,9 +18,12 @@ const STEPS: u64 = 1_000_000;
 const MOST_NODES: usize = 512;
 
 /// The normal form of a question that passed 24 to 26, its generators renumbered.
-pub fn normal_form(question: &Comprehension, tables: &[Table]) -> Result<Comprehension, Stop> {
+pub fn normal_form(question: &Comprehension, tables: &Tables) -> Result<Comprehension, Stop> {
+    let collections = tables
+        .iter()
+        .map(|(number, table)| (*number, table.collection));
     let mut rewriting = Rewriting {
-        collections: tables.iter().map(|table| table.collection).collect(),
+        collections: collections.collect(),
         bound: HashMap::new(),
         next_name: 256,
         finished: 0,
@@ -34,7 +37,8 @@ pub fn normal_form(question: &Comprehension, tables: &[Table]) -> Result<Compreh
 }
 
 struct Rewriting {
-    collections: Vec<Monoid>,
+    /// By the table's number.
+    collections: BTreeMap<u8, Monoid>,
     /// The terms of the bound names met so far.
     bound: HashMap<Name, Term>,
     next_name: Name,
@@ -157,7 +161,7 @@ impl Rewriting {
     /// Rule 3: "a table that is not a generator's term becomes the comprehension of its own
     /// collection whose one generator ranges over it and whose head is that generator's name".
     fn table(&mut self, number: u8) -> Result<Term, Stop> {
-        let monoid = *self.collections.get(usize::from(number)).ok_or(FAULT)?;
+        let monoid = *self.collections.get(&number).ok_or(FAULT)?;
         let name = self.new_name();
         Ok(Term::Comprehension(Box::new(Comprehension {
             monoid,

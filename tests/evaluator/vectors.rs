@@ -8,6 +8,9 @@ use harness::open::NUMBERS;
 use harness::recorded::{recorded_in, Recorded};
 use harness::tally::{exit_code, Tally};
 
+/// Scratch words that are enough.
+const ENOUGH: usize = 2048;
+
 fn main() -> ExitCode {
     let folder = std::env::args().nth(1);
     let folder = folder.ok_or("argument: a crate's folder".to_string());
@@ -21,14 +24,14 @@ fn main() -> ExitCode {
 }
 
 fn compare_all(vectors: &[Recorded]) -> ExitCode {
-    // No recorded question is over 4,096 bytes.
+    // No recorded question is refused by its length.
     let recorded = NUMBERS.into_iter().filter(|number| *number != 21);
     let mut tally = Tally::of_questions("vectors", recorded.collect());
     for vector in vectors {
         tally.inputs += 1;
         tally.gave(u64::from(vector.check));
         if vector.check == 0 {
-            tally.answered(&vector.question);
+            tally.answered(&vector.data, &vector.question);
         }
         let mut found = Vec::new();
         let compared = compare(vector, &mut found);
@@ -49,13 +52,13 @@ fn compare(vector: &Recorded, found: &mut Vec<String>) -> Result<(), Unknown> {
     note(
         found,
         "scratch",
-        &check(&vector.data, &vector.question, 8191)?,
+        &check(&vector.data, &vector.question, ENOUGH - 1)?,
         &(31, 0),
     );
     note(
         found,
         "check",
-        &check(&vector.data, &vector.question, 8192)?,
+        &check(&vector.data, &vector.question, ENOUGH)?,
         &(vector.check, 0),
     );
     note(
@@ -72,7 +75,7 @@ fn compare(vector: &Recorded, found: &mut Vec<String>) -> Result<(), Unknown> {
 }
 
 fn compare_plan(vector: &Recorded, found: &mut Vec<String>) -> Result<(), Unknown> {
-    let (number, lines) = plan_lines(&vector.data, &vector.question, 8192, usize::MAX)?;
+    let (number, lines) = plan_lines(&vector.data, &vector.question, ENOUGH, usize::MAX)?;
     note(found, "plan number", &number, &vector.check);
     let Some(plan) = &vector.plan else {
         return Ok(());
@@ -84,23 +87,23 @@ fn compare_plan(vector: &Recorded, found: &mut Vec<String>) -> Result<(), Unknow
         plan,
     );
     let short = lines.len().saturating_sub(1);
-    let refused = plan_lines(&vector.data, &vector.question, 8192, short)?;
+    let refused = plan_lines(&vector.data, &vector.question, ENOUGH, short)?;
     note(found, "plan in a short buffer", &refused, &(33, Vec::new()));
     Ok(())
 }
 
 fn compare_answers(vector: &Recorded, found: &mut Vec<String>) -> Result<(), Unknown> {
     for (way, answer_by) in [("loops", by_loops as AnswerCall), ("plan", by_plan)] {
-        let answer = answer_by(&vector.data, &vector.question, 8192, u64::MAX)?;
+        let answer = answer_by(&vector.data, &vector.question, ENOUGH, u64::MAX)?;
         note(found, way, &answer.number, &vector.check);
         note_known(found, way, &answer.greatest, &vector.greatest);
         note_known(found, way, &answer.length, &vector.length);
         note_known(found, way, &answer.words, &vector.words);
         if let Some(greatest) = vector.greatest {
             let short = greatest.saturating_sub(1);
-            let refused = answer_by(&vector.data, &vector.question, 8192, short)?;
+            let refused = answer_by(&vector.data, &vector.question, ENOUGH, short)?;
             note(found, way, &(refused.number, refused.length), &(32, 0));
-            let enough = answer_by(&vector.data, &vector.question, 8192, greatest)?;
+            let enough = answer_by(&vector.data, &vector.question, ENOUGH, greatest)?;
             note(found, way, &enough, &answer);
         }
     }

@@ -4,12 +4,13 @@ from notation import packed, question, words
 
 class Case:
     def __init__(self, name, place, paper, tables, ask, plan='', gives=None, G=None,
-                 plain=None, refused=0, scratch=8192, cut=0, behind=0, says=''):
+                 plain=None, refused=0, scratch=2048, cut=0, behind=0, absent=(), says=''):
         """`plan` has the lines behind "one"; `gives` are the answer's words by hand, `G` where it
         is not their count; `plain` is the same query in plain Python, a second reckoning; `cut`
-        bytes of the data are left off at its end, `behind` bytes 0 follow the question."""
+        bytes of the data are left off at its end, `behind` bytes 0 follow the question, which may
+        also name `absent` tables."""
         self.name, self.place, self.paper, self.says = name, place, ' '.join(paper.split()), says
-        self.tables, self.ask = tables, ' '.join(ask.split())
+        self.tables, self.absent, self.ask = tables, list(absent), ' '.join(ask.split())
         self.number, self.scratch, self.gives, self.plain = refused, scratch, gives, plain
         self.cut, self.behind = cut, behind
         self.G = G if G is not None or gives is None else len(gives)
@@ -27,7 +28,7 @@ class Case:
         data = packed(self.tables)
         fields = [
             self.name, str(self.scratch), data[:len(data) - self.cut].hex() or '-',
-            (question(self.ask, self.tables) + bytes(self.behind)).hex(), str(self.number),
+            (question(self.ask, self.tables + self.absent) + bytes(self.behind)).hex(), str(self.number),
             str(self.G) if answered else '-',
             ' '.join(str(word) for word in self.gives) if answered else '-',
             self.plan.replace('\n', '\\n') if answered else '-',

@@ -118,8 +118,6 @@ OTHERS = [
          '''join 0 true
             reduce sum (. 0 $0) true''', [523776], plain=lambda: sum(f.n for f in FULL)),
     Case('01-1025-rows', '', '1,025 gives 12', [OVER], 'sum{ o.n | o <- Over }', refused=12),
-    Case('01-8191-scratch-words', '', '8,191 scratch words give 31', [BERTHS, BOLLARDS],
-         asked('bag', BERTHS, BOLLARDS), refused=31, scratch=8191),
 ]
 
 DECLINED = [

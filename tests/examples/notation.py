@@ -12,6 +12,7 @@ a <= b is not b < a, a >= b is not a < b, a != b is not a = b. A column's name s
 index. Names are numbered from 0 in the order of their qualifiers in the bytes; a name that is
 neither bound nor a table's is name 255, which is out of scope.
 """
+import copy
 import re
 from collections import namedtuple
 
@@ -21,24 +22,81 @@ BINARY = {'+': 6, '-': 7, '*': 8, '=': 9, '<': 10, 'and': 11, 'or': 12}
 TOKEN = re.compile(r'\s*(\d+|\w+|<-|<=|>=|!=|[-+*=<>(){}|.,])')
 
 
-class Table:
-    """A stored table; going through it gives its rows by column name, for plain Python."""
+# The greatest bound of a column (document 02, E5).
+WIDEST = 2 ** 31
 
-    def __init__(self, name, collection, columns, *rows):
+
+# In place of a number: the record has none.
+NO_NUMBER = 'no number'
+
+
+class Table:
+    """A stored table; going through it gives its rows by column name, for plain Python. Each column is
+    declared 2^31 where no bounds are given. Its number is its place among the tables of a case where it
+    has none of its own. By column it has the words that are stored, written by hand."""
+
+    def __init__(self, name, collection, columns, *rows, bounds=None):
         self.name, self.collection, self.columns = name, collection, columns.split()
+        self.number, self.kind, self.stored = None, 20, None
+        self.bounds = [WIDEST for column in self.columns] if bounds is None else bounds
         row = namedtuple(name + '_row', self.columns)
         self.rows = [row(*cells) for cells in rows]
 
     def __iter__(self):
         return iter(self.rows)
 
-    def packed(self):
-        head = bytes([COLLECTIONS[self.collection], len(self.columns)]) + unsigned16(len(self.rows))
-        return record(20, head + b''.join(signed32(cell) for row in self.rows for cell in row))
+    def numbered(self, number):
+        """The same table under a number of its own."""
+        table = copy.copy(self)
+        table.number = number
+        return table
+
+    def of_kind(self, kind):
+        """The same bytes under another kind."""
+        table = copy.copy(self)
+        table.kind = kind
+        return table
+
+    def by_column(self, *stored):
+        """The same table as kind 23 (document 02, E10); what is stored by hand must be what it comes to."""
+        table = self.of_kind(23)
+        table.stored = list(stored)
+        if table.stored != columns_of(self.rows, len(self.columns)):
+            raise ValueError('%s by column: by hand %s, in plain Python %s'
+                             % (self.name, table.stored, columns_of(self.rows, len(self.columns))))
+        return table
+
+    def cells(self):
+        if self.stored is not None:
+            return b''.join(unsigned32(word) for word in self.stored)
+        return b''.join(signed32(cell) for row in self.rows for cell in row)
+
+    def packed(self, place):
+        number = place if self.number is None else self.number
+        head = b'' if number == NO_NUMBER else bytes([number])
+        head += bytes([COLLECTIONS[self.collection], len(self.columns)]) + unsigned16(len(self.rows))
+        bounds = b''.join(unsigned32(bound) for bound in self.bounds)
+        return record(self.kind, head + bounds + self.cells())
+
+
+def columns_of(rows, columns):
+    """The cells of each column, as differences from the cell above (the first from 0), wrapped at 32 bits
+    and folded: 0, -1, 1, -2 become 0, 1, 2, 3."""
+    stored = []
+    for column in range(columns):
+        cells = [row[column] for row in rows]
+        for above, cell in zip([0] + cells, cells):
+            difference = (cell - above + 2 ** 31) % 2 ** 32 - 2 ** 31
+            stored.append(2 * difference if difference >= 0 else -2 * difference - 1)
+    return stored
 
 
 def unsigned16(number):
     return number.to_bytes(2, 'little')
+
+
+def unsigned32(number):
+    return number.to_bytes(4, 'little')
 
 
 def signed32(number):
@@ -50,11 +108,11 @@ def record(kind, content):
 
 
 def packed(tables):
-    return b''.join(table.packed() for table in tables)
+    return b''.join(table.packed(place) for place, table in enumerate(tables))
 
 
 def question(text, tables):
-    """The bytes of a question over tables, numbered by their position."""
+    """The bytes of a question over tables."""
     reader = Reader(text)
     tree = reader.term()
     if reader.next is not None or tree[0] != 'comprehension':
@@ -184,8 +242,13 @@ class Writer:
     def __init__(self, tables):
         self.tables, self.numbers = tables, {}
 
-    def table(self, name):
+    def place(self, name):
         return [table.name for table in self.tables].index(name)
+
+    def number(self, name):
+        place = self.place(name)
+        own = self.tables[place].number
+        return place if own is None else own
 
     def term(self, tree, scope):
         sort = tree[0]
@@ -198,7 +261,7 @@ class Writer:
         if sort == 'name' and not any(table.name == tree[1] for table in self.tables):
             return record(3, unsigned16(255))
         if sort == 'name':
-            return record(15, bytes([self.table(tree[1])]))
+            return record(15, bytes([self.number(tree[1])]))
         if sort == 'field':
             return record(4, bytes([self.index(tree, scope)]) + self.term(tree[1], scope))
         if sort == 'record':
@@ -240,7 +303,7 @@ class Writer:
         if sort == 'name' and tree[1] in scope:
             return scope[tree[1]]
         if sort == 'name':
-            return ('collection', ('row', self.tables[self.table(tree[1])]))
+            return ('collection', ('row', self.tables[self.place(tree[1])]))
         if sort == 'record':
             return ('record', [self.kind(part, scope) for part in tree[1]])
         if sort == 'field':

@@ -1,7 +1,11 @@
 //! Ways to break what was well formed: trees, bytes and data.
 
+use super::by_column::{of_either_kind, MOST_ROWS};
+use super::columns::table_beyond;
 use super::nodes::*;
+use super::numbers::{broken_number, free_number, Numbers};
 use super::random::Random;
+use super::typed::random_tables;
 
 /// Changes one record of a question so that its bytes stay in order; its names, types or
 /// generators may not.
@@ -105,7 +109,10 @@ pub fn break_record(random: &mut Random, question: &mut Node) {
         return;
     };
     match random.below(7) {
-        0 => node.kind = random.one_of(&[0, 16, 17, 18, 19, 20, 21, 256, 270, 65_535], 0),
+        0 => {
+            let kinds = [0, 16, 17, 18, 19, 20, 21, 23, 256, 270, 65_535];
+            node.kind = random.one_of(&kinds, 0);
+        }
         1 => node.fixed.push(extra),
         2 => drop(node.fixed.pop()),
         3 => drop(node.parts.pop()),
@@ -217,35 +224,124 @@ fn record_starts(bytes: &[u8]) -> Vec<usize> {
 }
 
 /// Data that is refused with 11, 12 or 13, the other tables being whole.
-pub fn broken_data(random: &mut Random, tables: &[Stored]) -> Vec<u8> {
-    let mut records: Vec<Vec<u8>> = tables.iter().map(Stored::bytes).collect();
+pub fn broken_data(random: &mut Random, numbers: Numbers, tables: &[Stored]) -> Vec<u8> {
+    let mut records = numbers.records(tables);
     for _ in 0..random.one_of(&[1, 1, 2], 1) {
-        let position = random.below(records.len().saturating_add(1));
-        let table = random.pick(tables).cloned();
-        let table = table.unwrap_or(Stored {
-            collection: BAG,
-            columns: 1,
-            rows: Vec::new(),
-        });
-        match random.below(3) {
-            0 => break_record_of_data(random, &mut records, position, &table),
-            1 => break_table(random, &mut records, position, &table),
-            _ => add_records(random, &mut records, &table),
-        }
+        let table = some_table(random, tables);
+        break_records(random, &mut records, &table);
     }
     records.concat()
 }
 
-/// "11: a record cut short or not kind 20."
+/// Data with a table that does not keep its bounds; sometimes a record before or behind it, or made from
+/// it, is broken, too: the order of 43 and the others.
+pub fn beyond_bounds(random: &mut Random, numbers: Numbers, tables: &[Stored]) -> Vec<u8> {
+    let mut records = numbers.records(tables);
+    let beyond = table_beyond(random);
+    let number = free_number(random, &records);
+    let position = random.below(records.len().saturating_add(1));
+    records.insert(position, beyond.bytes(number));
+    if random.chance(35) {
+        break_records(random, &mut records, &beyond);
+    }
+    records.concat()
+}
+
+/// Data with a table whose number is above 7 or used; sometimes it does not keep its bounds, or a record
+/// before or behind it, or made from it, is broken, too: the order of 50, 51 and the others.
+pub fn broken_numbers(random: &mut Random, numbers: Numbers, tables: &[Stored]) -> Vec<u8> {
+    let mut records = numbers.records(tables);
+    // A ninth record is 13 whatever its number.
+    if random.chance(90) {
+        records.truncate(NUMBERED - 1);
+    }
+    let table = match random.below(4) {
+        0 => table_beyond(random),
+        _ => some_table(random, tables),
+    };
+    let number = broken_number(random, &records);
+    let position = random.below(records.len().saturating_add(1));
+    records.insert(position, table.bytes(number));
+    if random.chance(35) {
+        break_records(random, &mut records, &table);
+    }
+    records.concat()
+}
+
+/// One record for the two directions, in most cases whole: else broken, beyond its bounds, with a number
+/// above 7 or bytes behind it, or nothing at all.
+pub fn lone_record(random: &mut Random) -> Vec<u8> {
+    let tables = random_tables(random);
+    let tables = of_either_kind(random, tables);
+    let table = match random.below(10) {
+        0 => table_beyond(random),
+        1..=3 => of_any_cells(random),
+        _ => some_table(random, &tables),
+    };
+    let mut records = Vec::new();
+    match random.below(10) {
+        0 => break_record_of_data(random, &mut records, 0, &table),
+        1 => break_table(random, &mut records, 0, &table),
+        _ => records.push(table.bytes(random.one_of(&[0, 1, 2, 3, 4, 5, 6, 7, 7, 8, 255], 0))),
+    }
+    match random.below(30) {
+        0 => records.push(vec![random.byte(); random.between(1, 5)]),
+        1 => records.push(table.bytes(1)),
+        2 => records.clear(),
+        _ => {}
+    }
+    records.concat()
+}
+
+/// A table of either kind and of any shape, whose cells are any at all.
+fn of_any_cells(random: &mut Random) -> Stored {
+    let columns = random.between(1, 8);
+    let count = random.one_of(&[0, 1, 2, 2, 3, 3, 5, 8, 20, 100, MOST_ROWS], 2);
+    let mut row = |_| (0..columns).map(|_| random.next() as i32).collect();
+    let rows = (0..count).map(&mut row).collect();
+    Stored {
+        by_column: random.chance(50),
+        ..Stored::wide(random.one_of(&[LIST, BAG, SET], BAG), columns, rows)
+    }
+}
+
+fn some_table(random: &mut Random, tables: &[Stored]) -> Stored {
+    let table = random.pick(tables).cloned();
+    table.unwrap_or_else(|| Stored::wide(BAG, 1, Vec::new()))
+}
+
+/// A number for a record that is broken otherwise: any of these is found later.
+fn any_number(random: &mut Random, records: &[Vec<u8>]) -> u8 {
+    match random.below(3) {
+        0 => broken_number(random, records),
+        _ => free_number(random, records),
+    }
+}
+
+/// Puts a broken record, made from the table, among the others.
+fn break_records(random: &mut Random, records: &mut Vec<Vec<u8>>, table: &Stored) {
+    let position = random.below(records.len().saturating_add(1));
+    match random.below(3) {
+        0 => break_record_of_data(random, records, position, table),
+        1 => break_table(random, records, position, table),
+        _ => add_records(random, records, table),
+    }
+}
+
+/// "11: a record cut short or not kind 20", nor 23.
 fn break_record_of_data(
     random: &mut Random,
     records: &mut Vec<Vec<u8>>,
     position: usize,
     table: &Stored,
 ) {
-    let mut bytes = table.bytes();
+    let number = any_number(random, records);
+    let mut bytes = table.bytes(number);
     match random.below(4) {
-        0 => bytes = record_bytes(random.one_of(&[0, 14, 19, 21, 276], 21), &table.content()),
+        0 => {
+            let kind = random.one_of(&[0, 14, 19, 21, 22, 24, 276, 279], 21);
+            bytes = record_bytes(kind, &table.content(number));
+        }
         1 => bytes.truncate(random.between(1, 3)),
         2 => bytes.truncate(bytes.len().saturating_sub(random.between(1, 4))),
         _ => {
@@ -260,41 +356,62 @@ fn break_record_of_data(
 /// "12: collection, columns or rows outside their ranges, or a length that does not match."
 fn break_table(random: &mut Random, records: &mut Vec<Vec<u8>>, position: usize, table: &Stored) {
     let mut broken = table.clone();
-    let mut content = match random.below(6) {
+    let number = any_number(random, records);
+    let mut content = match random.below(8) {
         0 => {
             broken.collection = random.one_of(&[0, 4, 7, 255], 0);
-            broken.content()
+            broken.content(number)
         }
         1 => {
-            broken.columns = random.one_of(&[0, 9, 255], 9);
-            broken.rows = vec![vec![1; broken.columns]; random.below(3)];
-            broken.content()
+            let columns = random.one_of(&[0, 9, 255], 9);
+            let rows = vec![vec![1; columns]; random.below(3)];
+            Stored::wide(broken.collection, columns, rows).content(number)
         }
         2 => {
-            broken.columns = 1;
-            broken.rows = vec![vec![1]; random.one_of(&[1025, 1026, 2000], 1025)];
-            broken.content()
+            let rows = vec![vec![1]; random.one_of(&[1025, 1026, 2000], 1025)];
+            Stored::wide(broken.collection, 1, rows).content(number)
         }
         3 => {
-            let mut content = broken.content();
-            content.truncate(random.below(4));
+            let mut content = broken.content(number);
+            content.truncate(random.below(BOUNDS_AT - NUMBER_AT));
             content
         }
-        _ => broken.content(),
+        4 => content_without_bounds(random, &broken, number),
+        // Without a number, as before E9.
+        5 => broken.content(number).split_off(1),
+        _ => broken.content(number),
     };
     if random.chance(40) {
         content.extend(vec![0; random.between(1, 4)]);
     }
-    records.insert(position.min(records.len()), record_bytes(STORED, &content));
+    let record = record_bytes(table.kind(), &content);
+    records.insert(position.min(records.len()), record);
 }
 
-/// "13: a ninth record", whole or not.
+/// All bounds are left out, as in document 01's form, or the last, or the first stands twice.
+fn content_without_bounds(random: &mut Random, table: &Stored, number: u8) -> Vec<u8> {
+    let (mut content, start) = (table.content(number), BOUNDS_AT - NUMBER_AT);
+    let end = start + 4 * table.bounds.len();
+    match random.below(3) {
+        0 => drop(content.drain(start..end)),
+        1 => drop(content.drain(end - 4..end)),
+        _ => {
+            let first = content[start..start + 4].to_vec();
+            drop(content.splice(start..start, first));
+        }
+    }
+    content
+}
+
+/// "13: a ninth record", whole or not, whatever its number: all are used.
 fn add_records(random: &mut Random, records: &mut Vec<Vec<u8>>, table: &Stored) {
-    while records.len() < 8 {
-        records.push(table.bytes());
+    while records.len() < NUMBERED {
+        let number = free_number(random, records);
+        records.push(table.bytes(number));
     }
     if random.chance(85) {
-        let mut ninth = table.bytes();
+        let number = broken_number(random, records);
+        let mut ninth = table.bytes(number);
         if random.chance(50) {
             ninth.truncate(random.between(1, 6));
         }

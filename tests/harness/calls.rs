@@ -124,6 +124,36 @@ extern "C" {
     ) -> Round;
 }
 
+/// Declares a direction: a record, and the target that it is written into.
+macro_rules! direction {
+    ($linked:ident as $name:ident) => {
+        extern "C" {
+            fn $linked(
+                record: *const u8,
+                record_bytes: usize,
+                target: *mut u8,
+                target_bytes: usize,
+            ) -> Outcome;
+        }
+
+        pub fn $name(record: &[u8], target: &mut [u8]) -> Outcome {
+            // SAFETY: each pointer goes with the length of its own slice, and the target overlaps
+            // nothing else.
+            unsafe {
+                $linked(
+                    record.as_ptr(),
+                    record.len(),
+                    target.as_mut_ptr(),
+                    target.len(),
+                )
+            }
+        }
+    };
+}
+
+direction!(dislogha_table_to_columns as table_to_columns);
+direction!(dislogha_table_to_rows as table_to_rows);
+
 /// A portion of the question in scratch: it takes no question, so it is not declared as the others.
 pub fn portion(data: &[u8], scratch: &mut [u64], answer: &mut [i64], rows: u64) -> Portioned {
     // SAFETY: each pointer goes with the length of its own slice, and what is written overlaps

@@ -99,7 +99,8 @@ impl<'a, T: Unit> Comparison<'a, T> {
 
     fn lengths(&mut self, mut case: Case<T>) -> Result<(), String> {
         if case.reply.number == 0 {
-            self.tally.answered(&case.input.question);
+            let Input { data, question, .. } = case.input;
+            self.tally.answered(data, question);
         }
         let most = self.call.too_short.map(|_| case.reply.written.len());
         for (scratch, buffer) in lengths(&mut case.random, most) {
@@ -144,7 +145,7 @@ impl<'a, T: Unit> Comparison<'a, T> {
     }
 }
 
-/// "After every call but 31 the first 8,192 scratch words are 0, later ones unchanged."
+/// "After every call but 31 the first .. scratch words are 0, later ones unchanged."
 pub fn cleared(scratch: &Lent<u64>, number: u64) -> Result<(), String> {
     let zeros = if number == 31 { 0 } else { SCRATCH };
     match scratch.differs(&[], zeros) {

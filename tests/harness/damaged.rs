@@ -16,9 +16,6 @@ use super::seat::{MOST_OFFERS, UNFINISHED};
 use super::tally::{Place, Tally};
 use super::ways::{agree, Way, OTHER};
 
-/// Words that calls use (docs/DECISIONS.md); the later ones of scratch are only set to 0.
-const USED: usize = 2048;
-
 /// Questions that are made to find two that are accepted.
 const TRIED: u64 = 8;
 
@@ -98,7 +95,7 @@ impl Damage {
         match random.below(16) {
             0..=5 => seat.change_used(random),
             6 | 7 => {
-                let at = random.below(USED);
+                let at = random.below(SCRATCH);
                 seat.words()[at] = any_word(random);
             }
             8 => {
@@ -107,8 +104,8 @@ impl Damage {
             }
             9 => seat.words().swap_with_slice(other.words()),
             10 => {
-                let (salt, from) = (random.next(), random.below(USED));
-                let until = random.between(from, USED);
+                let (salt, from) = (random.next(), random.below(SCRATCH));
+                let until = random.between(from, SCRATCH);
                 for (index, word) in seat.words()[from..until].iter_mut().enumerate() {
                     *word = salt.wrapping_mul(index as u64 | 1);
                 }
@@ -184,7 +181,7 @@ impl Damage {
         let outcome = (PORTIONS.made)(data, question, way.scratch.again(), way.answer.again());
         let alone = self.alone.answers(input, (scratch, answer), salt ^ OTHER);
         if alone.number == 0 {
-            self.tally.answered(question);
+            self.tally.answered(data, question);
         }
         agree([(&self.alone, alone), (way, outcome)])
             .map(|_| ())

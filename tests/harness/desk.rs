@@ -8,17 +8,21 @@ use evaluator::Unknown;
 use harness::arguments;
 use harness::desk_edges::edges;
 use harness::generate::generate;
+use harness::lent::SCRATCH;
 use harness::tally::{exit_code, Tally};
 
 const DESK: &str = "target/bin/desk";
 
 /// What may be printed in front: a plan, "too long", and the refusals that an input can reach. Its
-/// data are whole records of kind 20, so it has no 11; its buffers are long enough for 31 and 33.
-const FRONTS: [&str; 13] = [
+/// data are whole records of kind 20 or 23, so it has no 11; its buffers are long enough for 31 and 33.
+const FRONTS: [&str; 16] = [
     "one",
     "too long",
     "refused 12",
     "refused 13",
+    "refused 50",
+    "refused 51",
+    "refused 43",
     "refused 21",
     "refused 22",
     "refused 23",
@@ -55,7 +59,8 @@ fn compare(tally: &mut Tally<String>, name: &str, input: &[u8]) -> Result<(), Un
     let front = expected.lines().next().unwrap_or_default();
     tally.gave(front.to_string());
     if front == "one" {
-        tally.answered(&input[tables_end(input)..]);
+        let (data, question) = input.split_at(tables_end(input));
+        tally.answered(data, question);
     }
     let text = printed(input).unwrap_or_else(|error| error.to_string().into_bytes());
     if text != expected.as_bytes() {
@@ -86,11 +91,11 @@ fn expected(input: &[u8]) -> Result<String, Unknown> {
         return Ok("too long\n".to_string());
     }
     let (data, question) = input.split_at(tables_end(input));
-    let answer = evaluator::by_loops(data, question, 8192, 4096)?;
+    let answer = evaluator::by_loops(data, question, SCRATCH, 4096)?;
     if answer.number != 0 {
         return Ok(format!("refused {}\n", answer.number));
     }
-    let (_, lines) = evaluator::plan_lines(data, question, 8192, usize::MAX)?;
+    let (_, lines) = evaluator::plan_lines(data, question, SCRATCH, usize::MAX)?;
     let words: String = answer.words.iter().map(|word| format!(" {word}")).collect();
     Ok(format!(
         "{}answer{words}\n",
@@ -98,10 +103,11 @@ fn expected(input: &[u8]) -> Result<String, Unknown> {
     ))
 }
 
-/// "Table records, then the question from the first record that is not a whole kind 20."
+/// "Table records, then the question from the first record that is not a whole kind 20"; E10: "the desk
+/// program's input take[s] kind 23 wherever" it names 20.
 fn tables_end(input: &[u8]) -> usize {
     let mut end = 0;
-    while let [low, high, 20, 0, rest @ ..] = &input[end..] {
+    while let [low, high, 20 | 23, 0, rest @ ..] = &input[end..] {
         let length = usize::from(u16::from_le_bytes([*low, *high]));
         if length > rest.len() {
             break;

@@ -30,7 +30,7 @@ fn main() -> ExitCode {
         };
         examples.gave(u64::from(example.number));
         if example.number == 0 {
-            examples.answered(&example.question);
+            examples.answered(&example.data, &example.question);
         }
         if let Err(what) = example.compare(&mut held) {
             examples.differs(&[&example.name, &what]);

@@ -3,7 +3,7 @@
 
 use super::nodes::*;
 use super::random::Random;
-use super::typed::cell_of_sign;
+use super::typed::{cell_of_sign, declared};
 
 /// A question about greatest and least heights, over rows of a key and a height.
 pub fn random_extreme(random: &mut Random) -> (Vec<Stored>, Node) {
@@ -26,11 +26,8 @@ pub fn random_heights(random: &mut Random) -> Stored {
         vec![key, cell_of_sign(random, sign)]
     };
     let rows = (0..count).map(&mut row).collect();
-    Stored {
-        collection: random.one_of(&[LIST, LIST, BAG, SET], BAG),
-        columns: 2,
-        rows,
-    }
+    let collection = random.one_of(&[LIST, LIST, BAG, SET], BAG);
+    declared(random, Stored::wide(collection, 2, rows))
 }
 
 struct Asked<'a> {

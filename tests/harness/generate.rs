@@ -1,9 +1,11 @@
 //! Inputs for the open calls: the same data and question for the same seed and index.
 
-use super::nodes::{data_bytes, Node, Stored};
+use super::by_column::of_either_kind;
+use super::nodes::{Node, Stored};
+use super::numbers::Numbers;
 use super::random::Random;
 use super::typed::{random_tables, Size, Writer};
-use super::{breaks, chains, choices, doublings, extremes, limits};
+use super::{breaks, chains, choices, columns, doublings, extremes, limits, tall};
 
 /// What an input was made to be. What it is, only an evaluator can tell.
 #[derive(Clone, Copy, Debug, PartialEq, Eq, PartialOrd, Ord)]
@@ -14,6 +16,8 @@ pub enum Family {
     BrokenRecord,
     BrokenBytes,
     BrokenData,
+    BeyondBounds,
+    BrokenNumbers,
     Levels,
     Records,
     Bytes,
@@ -24,6 +28,8 @@ pub enum Family {
     Chain,
     Extreme,
     Choice,
+    Columns,
+    Tall,
 }
 
 /// One input of the calls, with the family it belongs to.
@@ -35,13 +41,15 @@ pub struct Input {
 }
 
 /// Families with their weights, of 1,000.
-const FAMILIES: [(Family, usize); 16] = [
-    (Family::WellTyped, 340),
+const FAMILIES: [(Family, usize); 20] = [
+    (Family::WellTyped, 265),
     (Family::ForbiddenGenerator, 40),
-    (Family::BrokenMeaning, 120),
+    (Family::BrokenMeaning, 110),
     (Family::BrokenRecord, 60),
     (Family::BrokenBytes, 70),
-    (Family::BrokenData, 70),
+    (Family::BrokenData, 60),
+    (Family::BeyondBounds, 20),
+    (Family::BrokenNumbers, 20),
     (Family::Levels, 25),
     (Family::Records, 20),
     (Family::Bytes, 20),
@@ -52,6 +60,8 @@ const FAMILIES: [(Family, usize); 16] = [
     (Family::Chain, 40),
     (Family::Extreme, 50),
     (Family::Choice, 40),
+    (Family::Columns, 40),
+    (Family::Tall, 15),
 ];
 
 /// The input of an index.
@@ -72,70 +82,101 @@ pub fn generate(seed: u64, index: u64) -> Input {
 /// Questions over the same tables; now and then one is broken.
 pub fn questions(seed: u64, index: u64, count: usize) -> Vec<Input> {
     let mut random = Random::new(seed, index);
-    let tables = random_tables(&mut random);
+    let made = Made::random(&mut random);
     let mut question = || Input {
         family: Family::WellTyped,
-        data: data_bytes(&tables),
-        question: broken_or_whole(&mut random, &tables, 5),
+        data: made.data(),
+        question: made.broken_or_whole(&mut random, 5),
     };
     (0..count).map(|_| question()).collect()
 }
 
 fn input_of(random: &mut Random, family: Family) -> (Vec<u8>, Vec<u8>) {
-    let tables = random_tables(random);
-    let data = data_bytes(&tables);
+    let made = Made::random(random);
+    let (numbers, tables) = (made.numbers, &made.tables);
     match family {
-        Family::WellTyped => (data, written(random, &tables, false).bytes()),
-        Family::ForbiddenGenerator => (data, written(random, &tables, true).bytes()),
+        Family::WellTyped => (made.data(), made.question(random, false).bytes()),
+        Family::ForbiddenGenerator => (made.data(), made.question(random, true).bytes()),
         Family::BrokenMeaning => {
-            let mut question = written(random, &tables, false);
+            let mut question = made.question(random, false);
             for _ in 0..random.between(1, 2) {
                 breaks::break_meaning(random, &mut question);
             }
-            (data, question.bytes())
+            (made.data(), question.bytes())
         }
         Family::BrokenRecord => {
-            let mut question = written(random, &tables, false);
+            let mut question = made.question(random, false);
             breaks::break_record(random, &mut question);
-            (data, question.bytes())
+            (made.data(), question.bytes())
         }
-        Family::BrokenBytes => (data, broken_bytes(random, &tables)),
+        Family::BrokenBytes => (made.data(), made.broken_bytes(random)),
         Family::BrokenData => {
-            let question = broken_or_whole(random, &tables, 30);
-            (breaks::broken_data(random, &tables), question)
+            let question = made.broken_or_whole(random, 30);
+            (breaks::broken_data(random, numbers, tables), question)
         }
-        Family::Levels => (data, perhaps_broken(random, limits::of_levels)),
-        Family::Records => (data, perhaps_broken(random, limits::of_records)),
-        Family::Bytes => (data, limits::of_bytes(random)),
-        Family::Nodes => (data, limits::of_nodes(random).bytes()),
-        Family::Bounds => perhaps_changed(random, limits::of_bounds),
-        Family::Rows => perhaps_changed(random, limits::of_rows),
-        Family::Doubling => perhaps_changed(random, doublings::random_doubling),
-        Family::Chain => perhaps_changed(random, chains::random_chain),
-        Family::Extreme => perhaps_changed(random, extremes::random_extreme),
-        Family::Choice => perhaps_changed(random, choices::random_choice),
+        Family::BeyondBounds => {
+            let question = made.broken_or_whole(random, 30);
+            (breaks::beyond_bounds(random, numbers, tables), question)
+        }
+        Family::BrokenNumbers => {
+            let question = made.broken_or_whole(random, 30);
+            (breaks::broken_numbers(random, numbers, tables), question)
+        }
+        Family::Levels => (made.data(), perhaps_broken(random, limits::of_levels)),
+        Family::Records => (made.data(), perhaps_broken(random, limits::of_records)),
+        Family::Bytes => (made.data(), limits::of_bytes(random)),
+        Family::Nodes => (made.data(), limits::of_nodes(random).bytes()),
+        Family::Bounds => perhaps_changed(random, numbers, limits::of_bounds),
+        Family::Rows => perhaps_changed(random, numbers, limits::of_rows),
+        Family::Doubling => perhaps_changed(random, numbers, doublings::random_doubling),
+        Family::Chain => perhaps_changed(random, numbers, chains::random_chain),
+        Family::Extreme => perhaps_changed(random, numbers, extremes::random_extreme),
+        Family::Choice => perhaps_changed(random, numbers, choices::random_choice),
+        Family::Columns => perhaps_changed(random, numbers, columns::random_columns),
+        Family::Tall => perhaps_changed(random, numbers, tall::random_tall),
     }
 }
 
-/// A well-typed question over the tables.
-fn written(random: &mut Random, tables: &[Stored], lawless: bool) -> Node {
-    let size = Size::random(random);
-    Writer::new(random, tables, size, lawless).question()
+/// Tables of either kind and their numbers.
+struct Made {
+    numbers: Numbers,
+    tables: Vec<Stored>,
 }
 
-fn broken_bytes(random: &mut Random, tables: &[Stored]) -> Vec<u8> {
-    let mut bytes = written(random, tables, false).bytes();
-    for _ in 0..random.between(1, 2) {
-        breaks::break_bytes(random, &mut bytes);
+impl Made {
+    fn random(random: &mut Random) -> Made {
+        let (numbers, tables) = (Numbers::random(random), random_tables(random));
+        Made {
+            numbers,
+            tables: of_either_kind(random, tables),
+        }
     }
-    bytes
-}
 
-fn broken_or_whole(random: &mut Random, tables: &[Stored], percent: usize) -> Vec<u8> {
-    if random.chance(percent) {
-        return broken_bytes(random, tables);
+    fn data(&self) -> Vec<u8> {
+        self.numbers.data(&self.tables)
     }
-    written(random, tables, false).bytes()
+
+    /// A well-typed question over the tables.
+    fn question(&self, random: &mut Random, lawless: bool) -> Node {
+        let size = Size::random(random);
+        let question = Writer::new(random, &self.tables, size, lawless).question();
+        self.numbers.renamed(question)
+    }
+
+    fn broken_bytes(&self, random: &mut Random) -> Vec<u8> {
+        let mut bytes = self.question(random, false).bytes();
+        for _ in 0..random.between(1, 2) {
+            breaks::break_bytes(random, &mut bytes);
+        }
+        bytes
+    }
+
+    fn broken_or_whole(&self, random: &mut Random, percent: usize) -> Vec<u8> {
+        if random.chance(percent) {
+            return self.broken_bytes(random);
+        }
+        self.question(random, false).bytes()
+    }
 }
 
 /// A question at a limit, sometimes with broken bytes: the order of 22 and 23.
@@ -150,11 +191,14 @@ fn perhaps_broken(random: &mut Random, make: fn(&mut Random) -> Node) -> Vec<u8>
 /// A question over its own tables, sometimes with one name, type or generator changed.
 fn perhaps_changed(
     random: &mut Random,
+    numbers: Numbers,
     make: fn(&mut Random) -> (Vec<Stored>, Node),
 ) -> (Vec<u8>, Vec<u8>) {
-    let (tables, mut question) = make(random);
+    let (tables, question) = make(random);
+    let mut question = numbers.renamed(question);
     if random.chance(10) {
         breaks::break_meaning(random, &mut question);
     }
-    (data_bytes(&tables), question.bytes())
+    let tables = of_either_kind(random, tables);
+    (numbers.data(&tables), question.bytes())
 }

@@ -1,5 +1,7 @@
 //! Counts what the generated inputs reach, and tests the evaluator against itself on the way:
-//! loops and plan must agree, and no rule may apply to a normal form.
+//! loops and plan must agree, no rule may apply to a normal form, with each column declared 2^31
+//! nothing but 28 may change, and with the records in another order, or the tables in the other kind,
+//! nothing at all.
 //!
 //! Arguments: seed (default 1), count of inputs (default 20,000).
 
@@ -9,10 +11,13 @@ use std::time::Instant;
 
 use evaluator::{by_loops, by_plan, check, normal_form_holds, plan_lines, Unknown};
 use harness::arguments;
+use harness::by_column::other_kind;
+use harness::columns::widened;
 use harness::generate::{generate, Family, Input};
 use harness::held::{inputs_of, Held};
 use harness::lent::SCRATCH;
 use harness::open::NUMBERS;
+use harness::record_order::other_order;
 use harness::tally::{exit_code, Place, Tally};
 
 fn main() -> ExitCode {
@@ -25,6 +30,9 @@ fn main() -> ExitCode {
         set_shorter: 0,
         max_below_0: 0,
         min_above_0: 0,
+        by_bounds: 0,
+        reordered: 0,
+        turned: 0,
         offered: 0,
     };
     inputs_of(seed, count, &mut [&mut histogram]);
@@ -47,6 +55,12 @@ struct Histogram {
     /// Questions that are a max or min whose value would not be so if 0 were among the heads.
     max_below_0: u64,
     min_above_0: u64,
+    /// Questions that would be refused if each column were declared 2^31.
+    by_bounds: u64,
+    /// Inputs whose records have another order.
+    reordered: u64,
+    /// Inputs whose tables have another kind.
+    turned: u64,
     offered: u64,
 }
 
@@ -78,6 +92,18 @@ impl Histogram {
         if number == 0 {
             self.answers(place, input)?;
         }
+        if let Some(other) = other_order(place, &input.data) {
+            self.reordered += 1;
+            if !same_over(input, &other)? {
+                self.fault(place, input, "the records' order shows");
+            }
+        }
+        if let Some(other) = other_kind(place, &input.data) {
+            self.turned += 1;
+            if !same_over(input, &other)? {
+                self.fault(place, input, "the tables' kind shows");
+            }
+        }
         Ok(())
     }
 
@@ -94,7 +120,7 @@ impl Histogram {
         if loops.words != plan.words || loops.length > loops.greatest {
             self.fault(place, input, "loops and plan differ");
         }
-        self.tally.answered(question);
+        self.tally.answered(data, question);
         *self.lengths.entry(class_of(loops.length)).or_default() += 1;
         self.set_shorter += u64::from(loops.length < loops.greatest);
         // The monoid's byte is the first of the question's content.
@@ -104,6 +130,12 @@ impl Histogram {
             _ => {}
         }
         self.offered = self.offered.max(plan.offered);
+        let wide = widened(data);
+        match by_plan(&wide, question, SCRATCH, u64::MAX)? {
+            refused if refused.number == 28 => self.by_bounds += 1,
+            same if same == plan => {}
+            _ => self.fault(place, input, "bounds change an answer"),
+        }
         Ok(())
     }
 
@@ -126,8 +158,18 @@ impl Histogram {
             "max below 0: {}, min above 0: {}",
             self.max_below_0, self.min_above_0
         );
+        println!("accepted by their bounds alone: {}", self.by_bounds);
+        println!("in another order of the records: {}", self.reordered);
+        println!("with tables in the other kind: {}", self.turned);
         println!("most rows offered: {}", self.offered);
     }
+}
+
+/// Whether number, words and plan are the same over the other data.
+fn same_over(Input { data, question, .. }: &Input, other: &[u8]) -> Result<bool, Unknown> {
+    let plan_of = |data: &[u8]| plan_lines(data, question, SCRATCH, usize::MAX);
+    let words_of = |data: &[u8]| by_loops(data, question, SCRATCH, u64::MAX);
+    Ok(plan_of(other)? == plan_of(data)? && words_of(other)? == words_of(data)?)
 }
 
 fn class_of(length: u64) -> &'static str {

@@ -3,8 +3,9 @@
 
 use super::random::Random;
 
-/// "31: scratch under 8,192 words."
-pub const SCRATCH: usize = 8192;
+/// "31: scratch under .. words": 2,048 since document 02's E13, and 8,192 before it.
+pub const SCRATCH: usize = 2048;
+const FORMER_SCRATCH: usize = 8192;
 
 /// Units of rubbish before and behind each buffer, which are not lent at all.
 const FENCE: usize = 16;
@@ -19,8 +20,10 @@ pub fn lengths(random: &mut Random, most: Option<usize>) -> Vec<(usize, usize)> 
     }
     buffers.dedup();
     let mut enough = |buffer: usize| {
-        let more = random.between(3, 3000);
-        (SCRATCH + random.one_of(&[0, 0, 1, 2, more], 0), buffer)
+        let former = FORMER_SCRATCH - SCRATCH;
+        let more = random.between(3, 9000);
+        let behind = random.one_of(&[0, 0, 1, 2, former - 1, former, more], 0);
+        (SCRATCH + behind, buffer)
     };
     let mut lengths: Vec<_> = buffers.iter().map(|buffer| enough(*buffer)).collect();
     // Now and then too little scratch, with any of the buffers.

@@ -1,32 +1,39 @@
 //! Inputs for the open calls, made from a seed, and the engine's calls held against the second
 //! evaluator on them.
 
+pub mod alike;
 mod breaks;
+pub mod by_column;
 pub mod calls;
 mod chains;
 mod choices;
+pub mod columns;
 pub mod compare;
 pub mod damaged;
 pub mod desk_edges;
+pub mod direction;
 mod doublings;
 mod extremes;
 mod forms;
 pub mod generate;
 pub mod held;
-mod json;
+pub mod json;
 pub mod lent;
 mod limits;
 pub mod listing;
 mod nodes;
-mod offers;
+mod numbers;
+pub mod offers;
 pub mod open;
 pub mod portioned;
 mod random;
+pub mod record_order;
 pub mod recorded;
 pub mod rota;
 pub mod row_order;
 pub mod scene;
 mod seat;
+mod tall;
 pub mod tally;
 pub mod timing;
 mod typed;

@@ -2,7 +2,7 @@
 
 use super::nodes::*;
 use super::random::Random;
-use super::typed::{random_cell, Type};
+use super::typed::{declared, random_cell, Type};
 
 /// A well-typed question of a wanted count of levels, near 32.
 pub fn of_levels(random: &mut Random) -> Node {
@@ -184,11 +184,7 @@ pub fn of_bounds(random: &mut Random) -> (Vec<Stored>, Node) {
     let rows = (0..random.below(3))
         .map(|_| vec![random_cell(random)])
         .collect();
-    let tables = vec![Stored {
-        collection,
-        columns: 1,
-        rows,
-    }];
+    let tables = vec![Stored::wide(collection, 1, rows)];
     let mut total = wide_number(random);
     if random.chance(35) {
         total = chosen(random, total);
@@ -235,7 +231,7 @@ fn wide_number(random: &mut Random) -> Node {
 }
 
 /// A term with bound 2^exponent.
-fn power_of_two(random: &mut Random, exponent: usize) -> Node {
+pub fn power_of_two(random: &mut Random, exponent: usize) -> Node {
     let small = |exponent: usize| match exponent {
         31 => number(i32::MIN),
         _ => number(
@@ -276,7 +272,7 @@ fn around_number(random: &mut Random, total: Node) -> Node {
 }
 
 /// A question that holds the number in a head, under a factor 0, or in a condition.
-fn question_about(random: &mut Random, qualifiers: Vec<Node>, total: Node) -> Node {
+pub fn question_about(random: &mut Random, qualifiers: Vec<Node>, total: Node) -> Node {
     let mut qualifiers = qualifiers;
     match random.below(6) {
         0 => comprehension(SUM, qualifiers, total),
@@ -297,11 +293,8 @@ pub fn of_rows(random: &mut Random) -> (Vec<Stored>, Node) {
     let count = random.one_of(&[100, 1000, 1023, 1024, 1024, 1025], 1024);
     let row = |random: &mut Random| (0..columns).map(|_| random_cell(random)).collect();
     let rows = (0..count).map(|_| row(random)).collect();
-    let stored = Stored {
-        collection: random.one_of(&[LIST, BAG, SET], BAG),
-        columns,
-        rows,
-    };
+    let collection = random.one_of(&[LIST, BAG, SET], BAG);
+    let stored = declared(random, Stored::wide(collection, columns, rows));
     let range = generator(3, table(0));
     let question = match random.below(4) {
         0 => comprehension(SET, vec![range], name(3)),

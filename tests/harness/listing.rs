@@ -6,11 +6,7 @@ use super::nodes::*;
 
 /// Data and question.
 pub fn listing() -> (Vec<u8>, Vec<u8>) {
-    let bag = |rows: [[i32; 2]; 2]| Stored {
-        collection: BAG,
-        columns: 2,
-        rows: rows.map(Vec::from).to_vec(),
-    };
+    let bag = |rows: [[i32; 2]; 2]| Stored::wide(BAG, 2, rows.map(Vec::from).to_vec());
     let (berth, bollard) = (0, 1);
     let same_berth = two(EQUAL, field(0, name(bollard)), field(0, name(berth)));
     let total = comprehension(

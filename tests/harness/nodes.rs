@@ -1,5 +1,7 @@
 //! Records to be written: "two bytes of content length, two bytes of kind, content".
 
+use super::by_column::columns_of;
+
 pub const LIST: u8 = 1;
 pub const BAG: u8 = 2;
 pub const SET: u8 = 3;
@@ -29,6 +31,8 @@ pub const BINDING: u16 = 17;
 pub const CONDITION: u16 = 18;
 pub const CHOICE: u16 = 19;
 pub const STORED: u16 = 20;
+/// A stored table by column (document 02, E10).
+pub const BY_COLUMN: u16 = 23;
 
 /// A record of a question: its kind, its own bytes, the records in it.
 #[derive(Clone, Debug)]
@@ -179,31 +183,82 @@ pub fn record_bytes(kind: u16, content: &[u8]) -> Vec<u8> {
     bytes
 }
 
-/// A table to be written.
+/// The greatest bound that a column can have: any cell keeps it.
+pub const WIDEST: u32 = 1 << 31;
+
+/// Where the parts of a table's record begin, behind its length and kind; the bounds are the last.
+pub const NUMBER_AT: usize = 4;
+pub const COLLECTION_AT: usize = 5;
+pub const COLUMNS_AT: usize = 6;
+pub const ROWS_AT: usize = 7;
+pub const BOUNDS_AT: usize = 9;
+
+/// Numbers that a table can have.
+pub const NUMBERED: usize = 8;
+
+/// A table to be written, under any number.
 #[derive(Clone, Debug)]
 pub struct Stored {
     pub collection: u8,
-    pub columns: usize,
+    /// One for each column.
+    pub bounds: Vec<u32>,
     pub rows: Vec<Vec<i32>>,
+    /// Whether it is written as kind 23.
+    pub by_column: bool,
 }
 
 impl Stored {
-    pub fn content(&self) -> Vec<u8> {
-        let columns = u8::try_from(self.columns).unwrap_or(u8::MAX);
+    /// A table by row whose columns are declared 2^31.
+    pub fn wide(collection: u8, columns: usize, rows: Vec<Vec<i32>>) -> Stored {
+        Stored {
+            collection,
+            bounds: vec![WIDEST; columns],
+            rows,
+            by_column: false,
+        }
+    }
+
+    /// The least bound that the cells of a column keep.
+    pub fn magnitude(&self, column: usize) -> u32 {
+        let cells = self.rows.iter().filter_map(|row| row.get(column));
+        cells.map(|cell| cell.unsigned_abs()).max().unwrap_or(0)
+    }
+
+    pub fn content(&self, number: u8) -> Vec<u8> {
+        let columns = u8::try_from(self.bounds.len()).unwrap_or(u8::MAX);
         let rows = u16::try_from(self.rows.len()).unwrap_or(u16::MAX);
-        let mut content = vec![self.collection, columns];
+        let mut content = vec![number, self.collection, columns];
         content.extend(rows.to_le_bytes());
+        for bound in &self.bounds {
+            content.extend(bound.to_le_bytes());
+        }
+        if self.by_column {
+            content.extend(columns_of(self));
+            return content;
+        }
         for cell in self.rows.iter().flatten() {
             content.extend(cell.to_le_bytes());
         }
         content
     }
 
-    pub fn bytes(&self) -> Vec<u8> {
-        record_bytes(STORED, &self.content())
+    pub fn kind(&self) -> u16 {
+        if self.by_column {
+            BY_COLUMN
+        } else {
+            STORED
+        }
+    }
+
+    pub fn bytes(&self, number: u8) -> Vec<u8> {
+        record_bytes(self.kind(), &self.content(number))
     }
 }
 
+/// The tables numbered by place.
 pub fn data_bytes(tables: &[Stored]) -> Vec<u8> {
-    tables.iter().flat_map(Stored::bytes).collect()
+    let numbered = (0..=u8::MAX).zip(tables);
+    numbered
+        .flat_map(|(number, table)| table.bytes(number))
+        .collect()
 }

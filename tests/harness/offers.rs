@@ -4,6 +4,7 @@
 use super::calls::plan_lines;
 use super::generate::Input;
 use super::lent::SCRATCH;
+use super::nodes::{NUMBERED, NUMBER_AT, ROWS_AT};
 
 /// Bytes that no plan's lines reach.
 const MOST_BYTES: usize = 65_536;
@@ -21,13 +22,13 @@ pub fn most_offers(input: &Input) -> u64 {
     offers_of(&String::from_utf8_lossy(&bytes), &rows_of(&input.data))
 }
 
-/// The rows of each table; the data is known to be well formed.
-fn rows_of(data: &[u8]) -> Vec<u64> {
+/// The rows of each table by its number; the data is known to be well formed.
+fn rows_of(data: &[u8]) -> [u64; NUMBERED] {
     let two_bytes = |at: usize| u64::from(u16::from_le_bytes([data[at], data[at + 1]]));
-    let mut rows = Vec::new();
+    let mut rows = [0; NUMBERED];
     let mut at = 0;
     while at < data.len() {
-        rows.push(two_bytes(at + 6));
+        rows[usize::from(data[at + NUMBER_AT])] = two_bytes(at + ROWS_AT);
         at += 4 + two_bytes(at) as usize;
     }
     rows

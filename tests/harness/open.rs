@@ -12,7 +12,7 @@ pub const MOST_WORDS: usize = 8_300;
 pub const MOST_ROWS: u64 = 65_535;
 
 /// The numbers that data and question decide; a call may also give 31 and its own `too_short`.
-pub const NUMBERS: [u64; 12] = [0, 11, 12, 13, 21, 22, 23, 24, 25, 26, 27, 28];
+pub const NUMBERS: [u64; 15] = [0, 11, 12, 13, 50, 51, 43, 21, 22, 23, 24, 25, 26, 27, 28];
 
 /// What a call should do with scratch enough and the longest buffer.
 pub struct Reply<T> {

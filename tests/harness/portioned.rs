@@ -112,7 +112,8 @@ impl Portions {
             if ended {
                 playing.remove(position);
                 if number == 0 {
-                    self.tally.answered(&games[at].0.question);
+                    let asked = &games[at].0;
+                    self.tally.answered(&asked.data, &asked.question);
                 }
                 self.tally.gave(self.seats[at].over(games[at].0)?);
             }

@@ -201,7 +201,8 @@ impl Rounds {
             let told = told.map_err(|what| format!("{:?} at seat {at}: {what}", game.quotas))?;
             self.tally.called(told, taken, game.place);
             if told == 0 {
-                self.tally.answered(&game.questions[desk.asked].0.question);
+                let asked = &game.questions[desk.asked].0;
+                self.tally.answered(&asked.data, &asked.question);
             }
             if desk.seat.offered.is_none() && desk.rounds.take().is_some() {
                 self.tally.gave(COUNTED);

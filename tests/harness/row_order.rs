@@ -3,21 +3,17 @@
 
 use std::time::Instant;
 
+use super::by_column::MOST_ROWS;
 use super::generate::Input;
 use super::lent::{lengths, SCRATCH};
-use super::nodes::{BAG, LIST, SET, STORED};
+use super::nodes::*;
 use super::offers::most_offers;
 use super::open::{LOOPS, MOST_WORDS, NUMBERS, PLAN};
 use super::random::Random;
 use super::tally::{Place, Tally};
 use super::ways::{agree, Way, MOST_OFFERS, OTHER};
 
-/// Bytes of a table's record ahead of its cells: length, kind, collection, columns, rows.
-const HEADER: usize = 8;
-const MOST_ROWS: usize = 1024;
-
-/// The rows of a table, each as its bytes.
-type Rows = Vec<Vec<u8>>;
+type Rows = Vec<Vec<i32>>;
 
 /// Another state of a table's rows, by its collection; nothing where it has none.
 pub type Change = fn(&mut Random, u8, Rows) -> Rows;
@@ -138,7 +134,7 @@ impl RowOrder {
         let two = second.answers(other, lent, salt ^ OTHER);
         self.tally.called(one.number, start.elapsed(), place);
         if one.number == 0 {
-            self.tally.answered(&input.question);
+            self.tally.answered(&input.data, &input.question);
         }
         agree([(&*first, one), (&*second, two)])
             .map_err(|what| format!("scratch and answer of {lent:?}: {what}"))
@@ -161,7 +157,7 @@ impl RowOrder {
         }
         self.tally.called(one.number, start.elapsed(), place);
         if one.number == 0 {
-            self.tally.answered(&input.question);
+            self.tally.answered(&input.data, &input.question);
         }
         let length = one.length as usize;
         if one != two || first.front(length) != second.front(length) {
@@ -171,44 +167,16 @@ impl RowOrder {
     }
 }
 
-/// The data with the rows of each whole table in front changed; from the first other byte on as it
-/// was.
+/// The data with the rows of each whole table in front changed, of either kind; from the first other byte
+/// on as it was.
 fn changed(random: &mut Random, change: Change, data: &[u8]) -> Vec<u8> {
     let mut made = Vec::new();
     let mut rest = data;
-    while let Some(end) = table_end(rest) {
-        let (table, behind) = rest.split_at(end);
-        made.extend(changed_table(random, change, table));
-        rest = behind;
+    while let Some((mut table, number, end)) = Stored::at_front(rest) {
+        table.rows = change(random, table.collection, table.rows);
+        made.extend(table.bytes(number));
+        rest = &rest[end..];
     }
     made.extend(rest);
-    made
-}
-
-/// Where a well formed table at the front ends.
-fn table_end(data: &[u8]) -> Option<usize> {
-    let header = data.get(..HEADER)?;
-    let two_bytes = |at: usize| usize::from(u16::from_le_bytes([header[at], header[at + 1]]));
-    let (columns, rows) = (usize::from(header[5]), two_bytes(6));
-    let end = HEADER + 4 * columns * rows;
-    let ranges = (LIST..=SET).contains(&header[4]) && (1..=8).contains(&columns);
-    let whole = two_bytes(2) == usize::from(STORED) && two_bytes(0) + 4 == end;
-    (ranges && rows <= MOST_ROWS && whole && end <= data.len()).then_some(end)
-}
-
-fn changed_table(random: &mut Random, change: Change, table: &[u8]) -> Vec<u8> {
-    let (header, cells) = table.split_at(HEADER);
-    let width = 4 * usize::from(header[5]);
-    let rows = change(
-        random,
-        header[4],
-        cells.chunks(width).map(<[u8]>::to_vec).collect(),
-    );
-    let count = u16::try_from(rows.len()).expect("at most 1,024 rows");
-    let length = u16::try_from(HEADER - 4 + width * rows.len()).expect("a table's length");
-    let mut made = length.to_le_bytes().to_vec();
-    made.extend(&header[2..6]);
-    made.extend(count.to_le_bytes());
-    made.extend(rows.concat());
     made
 }

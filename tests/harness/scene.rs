@@ -8,10 +8,7 @@ use super::lent::{Lent, SCRATCH};
 use super::recorded::read_lines;
 
 /// Requests that have landed, beside those whose calls are played here: a scene may need others.
-const LANDED: [&str; 2] = ["e1", "e2"];
-
-/// The field that has the tables in today's form. Only without tables all forms are one.
-const TABLES: &str = "data_01";
+const LANDED: [&str; 5] = ["e1", "e2", "e5", "e9", "e10"];
 
 /// Seats of a round.
 const SEATS: usize = 4;
@@ -92,12 +89,10 @@ impl Scene {
             None => Vec::new(),
         };
         let missing = needs.into_iter().find(|need| !LANDED.contains(&&need[..]));
-        let tables = line.get(TABLES).or(line.get("data"))?.bytes()?;
-        let other_form = line.get(TABLES).is_none() && !tables.is_empty();
         Some(Scene {
             name: format!("{file}/{}", line.get("name")?.text()?),
-            waits_for: missing.or(other_form.then(|| "another form of tables".to_string())),
-            data: tables,
+            waits_for: missing,
+            data: line.get("data")?.bytes()?,
             seats: line.get("seats")?.each(Lengths::of_object)?,
             steps: line.get("steps")?.each(Step::of_object)?,
             greatest: line.get("G").and_then(size_of),

@@ -6,7 +6,7 @@ use std::fmt::Debug;
 use std::process::ExitCode;
 use std::time::Duration;
 
-use super::forms::{forms_of, FORMS};
+use super::forms::{forms, forms_of};
 use super::generate::Input;
 
 /// Inputs that are written out where they differ; further ones are counted.
@@ -49,14 +49,14 @@ impl<Outcome: Debug + Default + Ord> Tally<Outcome> {
     /// A run over questions, in which every form must be answered.
     pub fn of_questions(name: &'static str, known: Vec<Outcome>) -> Tally<Outcome> {
         Tally {
-            forms: FORMS.map(|form| (form, 0)).into(),
+            forms: forms().map(|form| (form, 0)).collect(),
             ..Tally::new(name, known)
         }
     }
 
-    /// Counts the forms of a question that was answered.
-    pub fn answered(&mut self, question: &[u8]) {
-        for form in forms_of(question) {
+    /// Counts the forms of a question that was answered, and of its data.
+    pub fn answered(&mut self, data: &[u8], question: &[u8]) {
+        for form in forms_of(data, question) {
             *self.forms.entry(form).or_default() += 1;
         }
     }
@@ -176,6 +176,6 @@ where
     }
 }
 
-fn hex(bytes: &[u8]) -> String {
+pub fn hex(bytes: &[u8]) -> String {
     bytes.iter().map(|byte| format!("{byte:02x}")).collect()
 }

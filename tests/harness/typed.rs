@@ -11,8 +11,20 @@ pub enum Type {
     Collection(u8, Box<Type>),
 }
 
+/// Cells whose differences mostly do not fit into 32 bits, some just so.
+const FAR_CELLS: [i32; 8] = [
+    i32::MIN,
+    i32::MIN + 1,
+    -(1 << 30) - 1,
+    -1,
+    0,
+    1 << 30,
+    i32::MAX - 1,
+    i32::MAX,
+];
+
 /// Small tables: empty ones, repeated rows, negative and extreme cells, some with all cells of one
-/// sign: else a max below 0 and a min above it are rare.
+/// sign: else a max below 0 and a min above it are rare; in some cells are far apart.
 pub fn random_tables(random: &mut Random) -> Vec<Stored> {
     let count = random.weighted(&[3, 10, 20, 25, 25, 10, 0, 0, 7]);
     (0..count).map(|_| random_table(random)).collect()
@@ -23,19 +35,42 @@ fn random_table(random: &mut Random) -> Stored {
     let columns = random.one_of(&[1, 1, 2, 2, 2, 3, 4, 8], 2);
     let count = random.one_of(&[0, 1, 1, 2, 2, 2, 3, 3, 3, 4, 5], 2);
     let sign = random.one_of(&[0, 0, 0, 0, -1, 1], 0);
+    // Of cells far apart the difference from the one above passes 32 bits (document 02, E10).
+    let far = random.chance(10);
+    let cell = |random: &mut Random| match far {
+        true => random.one_of(&FAR_CELLS, 0),
+        false => cell_of_sign(random, sign),
+    };
     let mut rows: Vec<Vec<i32>> = Vec::new();
     for _ in 0..count {
         let repeated = random.pick(&rows).cloned();
         match repeated {
             Some(row) if random.chance(25) => rows.push(row),
-            _ => rows.push((0..columns).map(|_| cell_of_sign(random, sign)).collect()),
+            _ => rows.push((0..columns).map(|_| cell(random)).collect()),
         }
     }
-    Stored {
-        collection,
-        columns,
-        rows,
+    declared(random, Stored::wide(collection, columns, rows))
+}
+
+/// The table with bounds that its cells keep: 2^31 in half of all tables, else by column 2^31, the
+/// greatest magnitude there, or somewhat more.
+pub fn declared(random: &mut Random, table: Stored) -> Stored {
+    let mut declared = table;
+    if random.chance(50) {
+        return declared;
     }
+    for column in 0..declared.bounds.len() {
+        let least = declared.magnitude(column);
+        let more = match random.below(6) {
+            0 => WIDEST,
+            1 | 2 => least,
+            3 => least.saturating_add(1),
+            4 => random.one_of(&[300, 1023, 65_536, WIDEST - 1], 300),
+            _ => least.next_power_of_two(),
+        };
+        declared.bounds[column] = more.clamp(least, WIDEST);
+    }
+    declared
 }
 
 pub fn random_cell(random: &mut Random) -> i32 {
@@ -60,11 +95,7 @@ pub fn list_of_cells(random: &mut Random, most: usize) -> Stored {
     let rows = (0..random.between(0, most))
         .map(|_| vec![random_cell(random)])
         .collect();
-    Stored {
-        collection: LIST,
-        columns: 1,
-        rows,
-    }
+    declared(random, Stored::wide(LIST, 1, rows))
 }
 
 fn any_number(random: &mut Random) -> i32 {
@@ -508,7 +539,7 @@ impl<'a> Writer<'a> {
 }
 
 fn row_type(table: &Stored) -> Type {
-    Type::Record(vec![Type::Number; table.columns])
+    Type::Record(vec![Type::Number; table.bounds.len()])
 }
 
 fn add_paths(node: Node, found: &Type, depth: usize, paths: &mut Vec<(Node, Type)>) {

@@ -6,7 +6,7 @@ use super::calls::Outcome;
 use super::compare::cleared;
 use super::generate::Input;
 use super::held::Held;
-use super::lent::{lengths, Lent, SCRATCH};
+use super::lent::{lengths, Lent, Unit, SCRATCH};
 use super::offers::most_offers;
 use super::open::{Call, LOOPS, MOST_WORDS, PLAN};
 use super::random::Random;
@@ -18,11 +18,11 @@ pub const MOST_OFFERS: u64 = 1_000_000;
 /// Of two salts that differ by it the rubbish differs in every word.
 pub const OTHER: u64 = 1 << 63;
 
-/// A way of answering, and what is lent to it.
-pub struct Way {
-    call: Call<i64>,
+/// A way of answering, and what is lent to it; also another open call, the plan's with bytes for words.
+pub struct Way<T = i64> {
+    pub call: Call<T>,
     pub scratch: Lent<u64>,
-    pub answer: Lent<i64>,
+    pub answer: Lent<T>,
 }
 
 pub struct Ways {
@@ -78,7 +78,7 @@ impl Ways {
         let by_plan = self.plan.answers(input, lent, salt ^ OTHER);
         self.tally.called(by_plan.number, start.elapsed(), place);
         if by_plan.number == 0 {
-            self.tally.answered(&input.question);
+            self.tally.answered(&input.data, &input.question);
         }
         agree([(&self.loops, by_loops), (&self.plan, by_plan)])
             .map_err(|what| format!("scratch and answer of {lent:?}: {what}"))
@@ -87,7 +87,7 @@ impl Ways {
 
 /// What two calls wrote is the same up to G, and each has its own rubbish behind it; gives how many
 /// words these are.
-pub fn agree(calls: [(&Way, Outcome); 2]) -> Result<usize, String> {
+pub fn agree<T: Unit>(calls: [(&Way<T>, Outcome); 2]) -> Result<usize, String> {
     let [(first, outcome), (second, other)] = calls;
     if outcome != other {
         let names = [first.call.name, second.call.name];
@@ -113,13 +113,13 @@ pub fn agree(calls: [(&Way, Outcome); 2]) -> Result<usize, String> {
     }
     // "After an answer the words from its length up to G are 0".
     match written.get(length as usize..) {
-        Some(rest) if rest.iter().all(|word| *word == 0) => Ok(written.len()),
+        Some(rest) if rest.iter().all(|word| *word == T::default()) => Ok(written.len()),
         _ => Err(format!("length {length}, and written is {written:?}")),
     }
 }
 
-impl Way {
-    pub fn new(call: Call<i64>) -> Way {
+impl<T: Unit> Way<T> {
+    pub fn new(call: Call<T>) -> Way<T> {
         Way {
             call,
             scratch: Lent::new(),
@@ -135,7 +135,7 @@ impl Way {
     }
 
     /// The first words of the answer buffer.
-    pub fn front(&self, words: usize) -> &[i64] {
+    pub fn front(&self, words: usize) -> &[T] {
         self.answer.front(words)
     }
 }

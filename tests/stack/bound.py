@@ -68,6 +68,7 @@ GROUPS = {
     'answer_types::skip': times(NESTED, ['skip']),
     'answer_types::width_fields': times(NESTED, ['width_fields']),
     'answer_types::singles': times(NESTED, ['singles']),
+    'answer_types::field_segments': times(NESTED, ['field_segments']),
 }
 # In a portion the words of scratch may say anything: a term is one word at least, and what is below it stands behind it.
 ANY_WORDS = {key: (lambda rule: lambda f: rule(f) * WORDS // NESTED)(GROUPS[key])

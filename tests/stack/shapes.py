@@ -65,18 +65,21 @@ def choice(c, a, b):
     return rec(19, c + a + b)
 
 
-def rows(collection, columns, cells):
-    count = len(cells) // columns
-    return rec(20, bytes([collection, columns]) + struct.pack('<H', count)
-               + b''.join(struct.pack('<i', c) for c in cells))
+def bag(kind, cells):
+    """Table 0 with one column, which is declared 2^31, by row or by column."""
+    return rec(kind, struct.pack('<BBBHI', 0, 2, 1, len(cells), 2 ** 31) + b''.join(struct.pack('<i', c) for c in cells))
 
 
-NONE, ONE, TWO, EMPTY = b'', rows(2, 1, [7]), rows(2, 1, [7, 7]), rows(2, 1, [])
+NONE, ONE, TWO, EMPTY = b'', bag(20, [7]), bag(20, [7, 7]), bag(20, [])
+# The same tables by column (document 02, E10).
+BY_COLUMN = {ONE: bag(23, [14]), TWO: bag(23, [14, 0]), EMPTY: bag(23, [])}
 SHAPES = []
 
 
 def shape(called, size, data, question):
     SHAPES.append((f'{called}-{size}', data, question))
+    if data != NONE:
+        SHAPES.append((f'{called}-columns-{size}', BY_COLUMN[data], question))
 
 
 def deep(unit, base, size, room, first=0):

@@ -27,11 +27,23 @@ static_assert(published % page == 0, "the guard page stands right behind the sta
 constexpr unsigned char paint = 0xA5;
 
 std::vector<std::uint8_t> data, question;
-std::vector<std::uint64_t> scratch(8192);
+std::vector<std::uint64_t> scratch(dislogha::scratch_words);
 std::vector<std::int64_t> answer(200000);
 std::vector<std::uint8_t> lines(200000);
 std::uint64_t number;
 std::string running;
+
+// A record of eight columns and 1,024 rows, each column declared 2^31, and what it is turned into.
+std::vector<std::uint8_t> longest() {
+    constexpr std::size_t columns = 8, rows = 1024, content = 5 + 4 * columns * (1 + rows);
+    std::vector<std::uint8_t> out = {content % 256, content / 256, 20,         0, 0, 2,
+                                     columns,       rows % 256,    rows / 256};
+    for (std::size_t column = 0; column < columns; column++) out.insert(out.end(), {0, 0, 0, 128});
+    out.resize(4 + content, 1);
+    return out;
+}
+const std::vector<std::uint8_t> by_row = longest();
+std::vector<std::uint8_t> by_column(by_row), back(by_row);
 
 std::vector<std::uint8_t> bytes(const std::string &hex) {
     std::vector<std::uint8_t> out;
@@ -92,6 +104,14 @@ void rounds() {
     }
 }
 
+// The longest record by column and back, whatever the question.
+void turned() {
+    number = dislogha_table_to_columns(by_row.data(), by_row.size(), by_column.data(), by_column.size()).number;
+    if (number == 0)
+        number = dislogha_table_to_rows(by_column.data(), by_column.size(), back.data(), back.size()).number;
+    if (number == 0 && back != by_row) number = 1;
+}
+
 struct Call {
     const char *name;
     void (*run)();
@@ -144,7 +164,7 @@ int main(int argc, char **argv) {
     Call calls[] = {{"check", check, 0, ""},           {"answer_by_loops", by_loops, 0, ""},
                     {"answer_by_plan", by_plan, 0, ""}, {"plan_lines", plan_lines, 0, ""},
                     {"begin", begin, 0, ""},           {"portion", portions, 0, ""},
-                    {"round", rounds, 0, ""}};
+                    {"round", rounds, 0, ""},           {"both directions", turned, 0, ""}};
     std::ifstream file(argv[1]);
     std::string line;
     int questions = 0, refused = 0;
