@@ -20,7 +20,7 @@ use Rattle.spec_plan.specs.Operators.{planValue}
 use Rattle.spec_plan.specs.Lines.{lines}
 use Rattle.spec_plan.proofs.NoQuestion.{questions, reading, planTerms, no-question}
 use Rattle.spec_outcome.specs.Acceptance.{Accepted, examine}
-use Rattle.spec_outcome.specs.Outcome.{Answer, G, written, answered, checked, byLoops, byPlan, printed, planLines}
+use Rattle.spec_outcome.specs.Outcome.{Answer, scratchWords, G, written, answered, checked, byLoops, byPlan, printed, planLines}
 use Rattle.spec_outcome.proofs.Checks.{passed, got-is, handed, examined}
 use Rattle.spec_outcome.proofs.Agreement.{same-value, wordsOf, outcomes-agree}
 use Rattle.spec_outcome.specs.Gives.{Gives}
@@ -39,20 +39,20 @@ pub record SameReply (g : ℕ) (r r′ : Reply) (b c b′ c′ : List ℤ) : Typ
 module _ (d l : Bytes) (s : List ℕ) (b : List ℤ) where
   plan-refusal : (byPlan d l s b .number ≡ 0 → ⊥) → byPlan d l s b .buffer ≡ b
   unfolding byPlan answered
-  plan-refusal h = refusal s b _ h
+  plan-refusal h = refusal scratchWords s b _ h
 
   -- "32: the answer buffer has fewer than G words"
   plan-room : byPlan d l s b .number ≡ 0 → wordsOf (examine d l) ≤ length b
   unfolding byPlan answered written wordsOf
   plan-room e =
       let k : Accepted → Result (Answer ℤ) = written (λ a. planValue canonical (a .tables) (planOf (a .form))) b in
-      let g = answers s b (andThen (examine d l) k) (only-then (λ n. n ≡ 0 → ⊥) (examine d l) k (checks-only d l) (λ a. only-require (λ n. n ≡ 0 → ⊥) 32 _ _ (λ z. absurd (omega (arith, z))) tt)) e in
+      let g = answers scratchWords s b (andThen (examine d l) k) (only-then (λ n. n ≡ 0 → ⊥) (examine d l) k (checks-only d l) (λ a. only-require (λ n. n ≡ 0 → ⊥) 32 _ _ (λ z. absurd (omega (arith, z))) tt)) e in
       let h = handed (examine d l) k (g .answer) (g .is) in
       omega (arith, ap wordsOf (h .1 .0), leb-true (G (h .0)) (length b) (passed 32 (leb (G (h .0)) (length b)) _ (g .answer) (h .1 .1) .0))
 
   loops-refusal : (byLoops d l s b .number ≡ 0 → ⊥) → byLoops d l s b .buffer ≡ b
   unfolding byLoops answered
-  loops-refusal h = refusal s b _ h
+  loops-refusal h = refusal scratchWords s b _ h
 
 -- Answering by plan and answering by loops give the same number, 0 or a refusal's, the same length and the same answer words: "the
 -- first G of the answer buffer".
@@ -90,7 +90,7 @@ pub accepted-planned : (d l : Bytes) (s : List ℕ) (r : Reply) {u : List ℕ} �
 unfolding checked
 accepted-planned d l s r C e =
     let k : Accepted → Result (Answer ℕ) = λ a. got (record { size = 0; front = [] }) in
-    let g = answers s [] (andThen (examine d l) k) (only-then (λ n. n ≡ 0 → ⊥) (examine d l) k (checks-only d l) (λ a. tt)) (sym (C .number) ∙ e) in
+    let g = answers scratchWords s [] (andThen (examine d l) k) (only-then (λ n. n ≡ 0 → ⊥) (examine d l) k (checks-only d l) (λ a. tt)) (sym (C .number) ∙ e) in
     let h = handed (examine d l) k (g .answer) (g .is) in
     plans d l (h .0) (h .1 .0)
 
@@ -107,7 +107,7 @@ pub printed-planned : (d l : Bytes) (s b : List ℕ) (r : Reply) {c u : List ℕ
 unfolding planLines
 printed-planned d l s b r P C e =
     let x : Result (Answer ℕ) = andThen (examine d l) (printed b) in
-    let g = answers s b x (only-then (λ n. n ≡ 0 → ⊥) (examine d l) (printed b) (checks-only d l) (printed-only b)) (sym (C .number) ∙ e) in
+    let g = answers scratchWords s b x (only-then (λ n. n ≡ 0 → ⊥) (examine d l) (printed b) (checks-only d l) (printed-only b)) (sym (C .number) ∙ e) in
     let h = handed (examine d l) (printed b) (g .answer) (g .is) in
     let f = printed-front b (h .0) (g .answer) (h .1 .1) in
     let w = g .answer .front in

@@ -1,8 +1,8 @@
 -- "The engine reads either kind, with the same answers"; of the two directions "each undoes the other, for every well formed table" (document 02, E10),
 -- over the contracts of the open calls.
 use mathlib.Core.Path.{_≡_, sym, ap, ap₂, subst, _∙_}
-use mathlib.Core.List.{List, [], _++_}
-use Prim.Native.Nat.{ℕ, _≤_}
+use mathlib.Core.List.{List, [], _++_, map}
+use Prim.Native.Nat.{ℕ, _≤_, _<_}
 use lib.ListN.{length, take, drop}
 use lib.IntN.{ℤ}
 use Rattle.spec_encoding.specs.Record.{Bytes}
@@ -12,11 +12,13 @@ use Rattle.spec_outcome.specs.RowOrder.{Way, by}
 use Rattle.spec_outcome.specs.Gives.{Gives}
 use Rattle.spec_outcome.specs.Directions.{Filled, filled, tableToColumns, tableToRows, Fills, Turned, columns, rows}
 use Rattle.spec_outcome.proofs.Directions.{turned-read, Passes, turned-passes, answered-zero, columns-then-rows, rows-then-columns}
+use Rattle.base_signed.specs.Limit.{numberLimit}
 use Rattle.engine.specs.Portions.{BeginPost}
 use Rattle.engine.specs.declared.Reply.{Reply}
 use Rattle.engine.proofs.RowOrder.{SameCall}
-use Rattle.engine.proofs.Portions.{Call, InPortions}
-use Rattle.engine.proofs.SameTables.{same-answered, same-checked, same-lines, same-begun, same-portions}
+use Rattle.engine.proofs.Portions.{Portions, given}
+use Rattle.engine.proofs.SameRun.{Twice, atOne, atOther, Begun, SameRun}
+use Rattle.engine.proofs.SameTables.{same-answered, same-checked, same-lines, SameWhole, same-begun, same-run, same-portions}
 
 -- ---- data in which tables are turned into the other kind
 module _ {d e : Bytes} (E : Turned d e) (l : Bytes) where
@@ -33,12 +35,19 @@ module _ {d e : Bytes} (E : Turned d e) (l : Bytes) where
       → Gives (planLines d l s b) (r .number) (r .length) c u → Gives (planLines e l s b) (r′ .number) (r′ .length) c′ u′ → SameCall r r′ c c′ u u′
   turned-plan = same-lines d e l (turned-read E)
 
+  -- A question is begun over either, or refused by the same number.
   pub turned-begun : (s : List ℕ) {r r′ : Reply} {u u′ : List ℕ}
-      → BeginPost scratchWords d l s u r → BeginPost scratchWords e l s u′ r′ → (r .number ≡ r′ .number) × (r .length ≡ r′ .length)
+      → BeginPost scratchWords d l s u r → BeginPost scratchWords e l s u′ r′ → Begun scratchWords scratchWords d e u u′ r r′
   turned-begun = same-begun d e l (turned-read E)
 
-  pub turned-portions : (s : List ℕ) (lent : List ℤ) (cs : List Call) (s′ : List ℕ) (o′ : List ℤ)
-      → InPortions d l s lent cs s′ o′ → InPortions e l s lent cs s′ o′
+  -- A portion of it says the same and leaves the same question, so do any portions, one behind another, and a round (`portion`, `portions`, `round` of `SameRun`).
+  pub turned-run : SameRun scratchWords scratchWords d e
+  turned-run = same-run d e (turned-read E)
+
+  -- Any portions from its beginning on say the same, and where they are enough, buffer and scratch are the same in the end.
+  pub turned-portions : (s : List ℕ) {r r′ : Reply} {u u′ : List ℕ} → BeginPost scratchWords d l s u r → BeginPost scratchWords e l s u′ r′ → r .number ≡ 0
+      → (lent : List ℤ) → length lent < numberLimit → (xs : List Twice) → 0 < given (map atOne xs) → {s′ t′ : List ℕ} {o′ p′ : List ℤ}
+      → Portions scratchWords d (map atOne xs) u lent s′ o′ → Portions scratchWords e (map atOther xs) u′ lent t′ p′ → SameWhole d l lent xs s′ t′ o′ p′
   turned-portions = same-portions d e l (turned-read E)
 
 -- ---- the two directions

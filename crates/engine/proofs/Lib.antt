@@ -6,6 +6,7 @@ pub mod Outcomes
 pub mod BothWays
 pub mod RowOrder
 pub mod Portions
+pub mod SameRun
 pub mod SameTables
 pub mod RecordOrder
 pub mod Directions

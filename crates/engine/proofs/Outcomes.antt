@@ -10,45 +10,45 @@ use lib.ListN.{length, drop}
 use Rattle.spec_encoding.specs.Record.{Bytes, Result, refused, got}
 use Rattle.spec_encoding.proofs.Refusals.{Only}
 use Rattle.spec_outcome.specs.Acceptance.{Accepted, examine}
-use Rattle.spec_outcome.specs.Outcome.{Outcome, Answer, scratchWords, settled, withScratch}
+use Rattle.spec_outcome.specs.Outcome.{Outcome, Answer, settled, withScratch}
 use Rattle.spec_outcome.proofs.Checks.{examine-only}
 
-module _ {A : Type 0} (s : List ℕ) (b : List A) where
+-- an answer was got, and stands at the buffer's front
+pub record Got {A : Type 0} (b : List A) (x : Result (Answer A)) (o : Outcome A) : Type 0 where
+  pub answer : Answer A
+  pub is : x ≡ got answer
+  pub size : o .size ≡ answer .size
+  pub buffer : o .buffer ≡ answer .front ++ drop (length (answer .front)) b
+
+module _ {A : Type 0} (least : ℕ) (s : List ℕ) (b : List A) where
   -- what 31 gives, or what stands behind it
   abbrev Behind : Bool → Result (Answer A) → Outcome A
-  Behind t x = elim t [ true ↦ record { number = 31; size = 0; buffer = b; scratch = s } | false ↦ settled scratchWords s b x ]
+  Behind t x = elim t [ true ↦ record { number = 31; size = 0; buffer = b; scratch = s } | false ↦ settled least s b x ]
 
-  settled-refusal : (x : Result (Answer A)) → (settled scratchWords s b x .number ≡ 0 → ⊥) → settled scratchWords s b x .buffer ≡ b
+  settled-refusal : (x : Result (Answer A)) → (settled least s b x .number ≡ 0 → ⊥) → settled least s b x .buffer ≡ b
   unfolding settled
   settled-refusal (refused n) h = refl
   settled-refusal (got a) h = absurd (h refl)
 
   -- "a refusal its number and length 0, the answer or byte buffer unchanged"
-  pub refusal : (x : Result (Answer A)) → (withScratch scratchWords s b x .number ≡ 0 → ⊥) → withScratch scratchWords s b x .buffer ≡ b
+  pub refusal : (x : Result (Answer A)) → (withScratch least s b x .number ≡ 0 → ⊥) → withScratch least s b x .buffer ≡ b
   unfolding withScratch
-  refusal x = go (ltb (length s) scratchWords)
+  refusal x = go (ltb (length s) least)
     where
       go : (t : Bool) → (Behind t x .number ≡ 0 → ⊥) → Behind t x .buffer ≡ b
       go true h = refl
       go false h = settled-refusal x h
 
-  -- an answer was got, and stands at the buffer's front
-  pub record Got (x : Result (Answer A)) (o : Outcome A) : Type 0 where
-    pub answer : Answer A
-    pub is : x ≡ got answer
-    pub size : o .size ≡ answer .size
-    pub buffer : o .buffer ≡ answer .front ++ drop (length (answer .front)) b
-
-  settled-answer : (x : Result (Answer A)) → Only (λ n. n ≡ 0 → ⊥) x → settled scratchWords s b x .number ≡ 0 → Got x (settled scratchWords s b x)
+  settled-answer : (x : Result (Answer A)) → Only (λ n. n ≡ 0 → ⊥) x → settled least s b x .number ≡ 0 → Got b x (settled least s b x)
   unfolding settled
   settled-answer (refused n) h e = absurd (h e)
   settled-answer (got a) h e = record { answer = a; is = refl; size = refl; buffer = refl }
 
-  pub answers : (x : Result (Answer A)) → Only (λ n. n ≡ 0 → ⊥) x → withScratch scratchWords s b x .number ≡ 0 → Got x (withScratch scratchWords s b x)
+  pub answers : (x : Result (Answer A)) → Only (λ n. n ≡ 0 → ⊥) x → withScratch least s b x .number ≡ 0 → Got b x (withScratch least s b x)
   unfolding withScratch
-  answers x h = go (ltb (length s) scratchWords)
+  answers x h = go (ltb (length s) least)
     where
-      go : (t : Bool) → Behind t x .number ≡ 0 → Got x (Behind t x)
+      go : (t : Bool) → Behind t x .number ≡ 0 → Got b x (Behind t x)
       go true e = absurd (omega (arith, e))
       go false e = settled-answer x h e
 

@@ -19,7 +19,7 @@ use Rattle.spec_plan.specs.Planner.{planOf}
 use Rattle.plan_machine.specs.Machine.{State}
 use Rattle.plan_machine.specs.Offers.{planOffers}
 use Rattle.spec_outcome.specs.Acceptance.{Accepted, examine}
-use Rattle.spec_outcome.specs.Outcome.{Outcome, Answer, scratchWords, cleared, settled, G, checked, written, answered, planned, byPlan}
+use Rattle.spec_outcome.specs.Outcome.{Outcome, Answer, scratchWords, cleared, settled, G, checkedWith, written, answered, planned, byPlan}
 use Rattle.spec_outcome.proofs.Agreement.{scratch-short, scratch-long}
 use Rattle.spec_outcome.proofs.Checks.{handed}
 use Rattle.spec_encoding.proofs.Refusals.{only-then}
@@ -91,13 +91,13 @@ unfolding pick
 never true e z = omega (arith, e, z)
 never false e z = omega (arith, e, z)
 
-none-left : (d : Bytes) (cs : List Call) (s : List ℕ) (o : List ℤ) (s′ : List ℕ) (o′ : List ℤ) → scratchWords ≤ length s → idle (getD s stageAt 0) ≡ true → Portions scratchWords d cs s o s′ o′
+pub none-left : (least : ℕ) (d : Bytes) (cs : List Call) (s : List ℕ) (o : List ℤ) (s′ : List ℕ) (o′ : List ℤ) → least ≤ length s → idle (getD s stageAt 0) ≡ true → Portions least d cs s o s′ o′
     → All (λ c. Says (c .said) 0 0 (pick (outside (c .rows)) 47 48) 0) cs × ((s′ ≡ s) × (o′ ≡ o))
-none-left d [] s o s′ o′ b z P = (tt, P)
-none-left d (c ∷ cs) s o s′ o′ b z (t, (p, (F, P))) =
-    let e = no-question scratchWords (c .rows) s b z in
+none-left least d [] s o s′ o′ b z P = (tt, P)
+none-left least d (c ∷ cs) s o s′ o′ b z (t, (p, (F, P))) =
+    let e = no-question least (c .rows) s b z in
     let N = F .refused (λ y. never (outside (c .rows)) e y) in
-    let rest = none-left d cs s o s′ o′ b z (subst (λ (y : List ℤ). Portions scratchWords d cs s y s′ o′) (N .1 .1) (subst (λ (y : List ℕ). Portions scratchWords d cs y p s′ o′) (N .1 .0) P)) in
+    let rest = none-left least d cs s o s′ o′ b z (subst (λ (y : List ℤ). Portions least d cs s y s′ o′) (N .1 .1) (subst (λ (y : List ℕ). Portions least d cs y p s′ o′) (N .1 .0) P)) in
     ((subst (λ (k : ℕ). Says (c .said) 0 0 k 0) e (N .0), rest .0), rest .1)
 
 -- ---- the outcome does not turn on what scratch held
@@ -189,7 +189,7 @@ module _ (d : Bytes) (q : Pending) where
     unfolding given byPlan
     ends-here sized h E P =
         let z : t ≡ cleared scratchWords s = E .gives .scratch ∙ outcome-scratch d (q .bytes) s (q .lent) (long-unfinished U) in
-        let N = none-left d cs t p s′ o′ (subst (λ (y : List ℕ). scratchWords ≤ length y) (sym z) (cleared-long scratchWords s)) (ap (λ (y : List ℕ). idle (getD y stageAt 0)) z ∙ cleared-stage scratchWords s (omega arith)) P in
+        let N = none-left scratchWords d cs t p s′ o′ (subst (λ (y : List ℕ). scratchWords ≤ length y) (sym z) (cleared-long scratchWords s)) (ap (λ (y : List ℕ). idle (getD y stageAt 0)) z ∙ cleared-stage scratchWords s (omega arith)) P in
         record {
           before = [];
           last = c;
@@ -285,21 +285,20 @@ all-due d l a lent e =
     rows-in-all (tablesIn d) (a .form) (leb (G a) (length lent))
     ∙ ap (λ (T : Tables). planOffers raw T (planOf (a .form)) + pick (leb (G a) (length lent)) (planOffers raw T (planOf (a .form))) 0) (tables-in d e)
 
--- the checks accept a question that was begun
-pub accepted-begun : (d l : Bytes) (s : List ℕ) → checked d l s .number ≡ 0 → (a : Accepted) × (examine d l ≡ got a)
-unfolding checked
-accepted-begun d l s e =
-    let k : Accepted → Result (Answer ℕ) = λ a. got (record { size = 0; front = [] }) in
-    let g = answers s [] (andThen (examine d l) k) (only-then (λ n. n ≡ 0 → ⊥) (examine d l) k (checks-only d l) (λ a. tt)) e in
-    let h = handed (examine d l) k (g .answer) (g .is) in
-    (h .0, h .1 .0)
+module _ (least : ℕ) (d l : Bytes) (s : List ℕ) (e : checkedWith least d l s .number ≡ 0) where
+  -- the checks accept a question that was begun
+  pub accepted-begun : (a : Accepted) × (examine d l ≡ got a)
+  accepted-begun =
+      let k : Accepted → Result (Answer ℕ) = λ a. got (record { size = 0; front = [] }) in
+      let g = answers least s [] (andThen (examine d l) k) (only-then (λ n. n ≡ 0 → ⊥) (examine d l) k (checks-only d l) (λ a. tt)) e in
+      let h = handed (examine d l) k (g .answer) (g .is) in
+      (h .0, h .1 .0)
 
--- the scratch of a call that was not 31
-pub long-begun : (d l : Bytes) (s : List ℕ) → checked d l s .number ≡ 0 → scratchWords ≤ length s
-unfolding checked
-long-begun d l s e = by-test (ltb (length s) scratchWords)
-    (λ h. absurd (omega (arith, e, ap (λ (y : Outcome ℕ). y .number) (scratch-short s [] (andThen (examine d l) (λ a. got (record { size = 0; front = [] }))) (ltb-true (length s) scratchWords h)))))
-    (λ h. ltb-false (length s) scratchWords h)
+  -- the scratch of a call that was not 31
+  pub long-begun : least ≤ length s
+  long-begun = by-test (ltb (length s) least)
+      (λ h. absurd (omega (arith, e, ap (λ (y : Outcome ℕ). y .number) (scratch-short s [] (andThen (examine d l) (λ a. got (record { size = 0; front = [] }))) (ltb-true (length s) least h)))))
+      (λ h. ltb-false (length s) least h)
 
 -- Any portions of a question that was begun, enough for all its rows: "each ends with the words and refusal of a single call", after
 -- exactly the rows of one pass where 32 follows, and of two where it does not.
@@ -310,10 +309,9 @@ pub record InPortions (d l : Bytes) (s₀ : List ℕ) (lent : List ℤ) (cs : Li
 
 pub in-portions : (d l : Bytes) {s₀ s : List ℕ} {b : Reply} → BeginPost scratchWords d l s₀ s b → b .number ≡ 0 → (lent : List ℤ) → length lent < numberLimit → (cs : List Call) → 0 < given cs → {s′ : List ℕ} {o′ : List ℤ} → Portions scratchWords d cs s lent s′ o′
     → InPortions d l s₀ lent cs s′ o′
-unfolding checked
 in-portions d l {s₀} {s} {b} B z lent short cs some {s′} {o′} P =
-    let n : checked d l s₀ .number ≡ 0 = sym (B .number) ∙ z in
-    let A = accepted-begun d l s₀ n in
+    let n : checkedWith scratchWords d l s₀ .number ≡ 0 = sym (B .number) ∙ z in
+    let A = accepted-begun scratchWords d l s₀ n in
     let q : Pending = record { bytes = l; accepted = A .0; lent = lent } in
     let U : Unfinished d q s lent (begun (task d q)) = B .begins z (A .0) (A .1) lent short in
     let e : rowsDue (task d q) (begun (task d q)) ≡ rowsInAll (A .0) lent = all-due d l (A .0) lent (U .asks .ready .tables) in
@@ -321,7 +319,7 @@ in-portions d l {s₀} {s} {b} B z lent short cs some {s′} {o′} P =
       accepted = A .0;
       is = A .1;
       whole = λ m.
-          subst (λ (x : Outcome ℤ). Whole (rowsInAll (A .0) lent) cs x s′ o′) (same-outcome d l lent (long-begun d l s₀ n) (B .spares z))
+          subst (λ (x : Outcome ℤ). Whole (rowsInAll (A .0) lent) cs x s′ o′) (same-outcome d l lent (long-begun scratchWords d l s₀ n) (B .spares z))
           (subst (λ (k : ℕ). Whole k cs (byPlan d l s lent) s′ o′) e (ends d q cs U (omega (arith, e, m)) some P));
     }
 

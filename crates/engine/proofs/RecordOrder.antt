@@ -1,21 +1,25 @@
 -- "The same records in another order give the same answer" (document 02, E9), over the contracts of the open calls.
 use mathlib.Core.Path.{_≡_, sym, _∙_}
-use mathlib.Core.List.{List, []}
-use Prim.Native.Nat.{ℕ}
+use mathlib.Core.List.{List, [], map}
+use Prim.Native.Nat.{ℕ, _<_}
+use lib.ListN.{length}
 use lib.IntN.{ℤ}
 use Rattle.spec_calculus.specs.Value.{Tables}
 use Rattle.spec_calculus.specs.Rearrangement.{Rearranged}
 use Rattle.spec_encoding.specs.Record.{Bytes, got}
 use Rattle.spec_encoding.specs.Data.{readData}
-use Rattle.spec_outcome.specs.Outcome.{checked, planLines}
+use Rattle.spec_outcome.specs.Outcome.{scratchWords, checked, planLines}
 use Rattle.spec_outcome.specs.RowOrder.{Way, by}
 use Rattle.spec_outcome.specs.RecordOrder.{WholeRecord, dataOf}
 use Rattle.spec_outcome.specs.Gives.{Gives}
 use Rattle.spec_outcome.proofs.RecordOrder.{read-any-order}
+use Rattle.base_signed.specs.Limit.{numberLimit}
+use Rattle.engine.specs.Portions.{BeginPost}
 use Rattle.engine.specs.declared.Reply.{Reply}
 use Rattle.engine.proofs.RowOrder.{SameCall}
-use Rattle.engine.proofs.Portions.{Call, InPortions}
-use Rattle.engine.proofs.SameTables.{same-answered, same-checked, same-lines, same-portions}
+use Rattle.engine.proofs.Portions.{Portions, given}
+use Rattle.engine.proofs.SameRun.{Twice, atOne, atOther, Begun, SameRun}
+use Rattle.engine.proofs.SameTables.{same-answered, same-checked, same-lines, SameWhole, same-begun, same-run, same-portions}
 
 module _ {rs us : List WholeRecord} (P : Rearranged rs us) {T : Tables} (t : readData (dataOf rs) ≡ got T) (l : Bytes) where
   same-read : readData (dataOf rs) ≡ readData (dataOf us)
@@ -34,6 +38,17 @@ module _ {rs us : List WholeRecord} (P : Rearranged rs us) {T : Tables} (t : rea
       → Gives (planLines (dataOf rs) l s b) (r .number) (r .length) c u → Gives (planLines (dataOf us) l s b) (r′ .number) (r′ .length) c′ u′ → SameCall r r′ c c′ u u′
   record-order-plan = same-lines (dataOf rs) (dataOf us) l same-read
 
-  -- What portions over the one order say, and the outcome that they end with, is what is due of the same portions over the other.
-  pub record-order-portions : (s : List ℕ) (lent : List ℤ) (cs : List Call) (s′ : List ℕ) (o′ : List ℤ) → InPortions (dataOf rs) l s lent cs s′ o′ → InPortions (dataOf us) l s lent cs s′ o′
+  -- A question is begun over the one order as over the other, or refused by the same number.
+  pub record-order-begun : (s : List ℕ) {r r′ : Reply} {u u′ : List ℕ}
+      → BeginPost scratchWords (dataOf rs) l s u r → BeginPost scratchWords (dataOf us) l s u′ r′ → Begun scratchWords scratchWords (dataOf rs) (dataOf us) u u′ r r′
+  record-order-begun = same-begun (dataOf rs) (dataOf us) l same-read
+
+  -- A portion of it says the same and leaves the same question, so do any portions, one behind another, and a round (`portion`, `portions`, `round` of `SameRun`).
+  pub record-order-run : SameRun scratchWords scratchWords (dataOf rs) (dataOf us)
+  record-order-run = same-run (dataOf rs) (dataOf us) same-read
+
+  -- Any portions from its beginning on say the same, and where they are enough, buffer and scratch are the same in the end.
+  pub record-order-portions : (s : List ℕ) {r r′ : Reply} {u u′ : List ℕ} → BeginPost scratchWords (dataOf rs) l s u r → BeginPost scratchWords (dataOf us) l s u′ r′ → r .number ≡ 0
+      → (lent : List ℤ) → length lent < numberLimit → (xs : List Twice) → 0 < given (map atOne xs) → {s′ t′ : List ℕ} {o′ p′ : List ℤ}
+      → Portions scratchWords (dataOf rs) (map atOne xs) u lent s′ o′ → Portions scratchWords (dataOf us) (map atOther xs) u′ lent t′ p′ → SameWhole (dataOf rs) l lent xs s′ t′ o′ p′
   record-order-portions = same-portions (dataOf rs) (dataOf us) l same-read
