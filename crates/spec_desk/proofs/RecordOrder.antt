@@ -21,6 +21,14 @@ use Rattle.spec_outcome.proofs.RecordOrder.{read-any-order, OfTable, kinds-read
 use Rattle.spec_desk.specs.Desk.{planAndAnswer, orRefusal, asked, desk}
 use Rattle.spec_desk.specs.TablesEnd.{tableBytes, tablesEnd}
 
+-- where the question l begins behind d, over d that question is answered
+pub desk-at : (l d : Bytes) → tablesEnd (d ++ l) ≡ length d → desk (d ++ l) ≡ pick (leb (length d + length l) 65536) (asked d l) (ascii "too long\n")
+unfolding desk
+desk-at l d k =
+    ap (λ n. pick (leb (length (d ++ l)) 65536) (asked (take n (d ++ l)) (drop n (d ++ l))) (ascii "too long\n")) k
+    ∙ ap₂ (λ x y. pick (leb (length (d ++ l)) 65536) (asked x y) (ascii "too long\n")) (take-at d l (length d) refl) (drop-at d l (length d) refl)
+    ∙ ap (λ n. pick (leb n 65536) (asked d l) (ascii "too long\n")) (length-append d l)
+
 -- ---- records of kind 20 or 23, and behind them l, which is "not a whole kind 20", nor 23
 module _ (l : Bytes) (e : isTable l ≡ false) where
   ends : (f : ℕ) (rs : List WholeRecord) → All OfTable rs → length (dataOf rs) ≤ f → tableBytes f (dataOf rs ++ l) ≡ length (dataOf rs)
@@ -39,19 +47,14 @@ module _ (l : Bytes) (e : isTable l ≡ false) where
       ∙ omega (arith, length-append c (dataOf rs))
 
   -- the question begins behind them
-  pub desk-of : (rs : List WholeRecord) → All OfTable rs → desk (dataOf rs ++ l) ≡ pick (leb (length (dataOf rs) + length l) 65536) (asked (dataOf rs) l) (ascii "too long\n")
-  unfolding desk tablesEnd
-  desk-of rs K =
-      let d = dataOf rs in
-      let k = ends (length (d ++ l)) rs K (omega (arith, length-append d l)) in
-      ap (λ n. pick (leb (length (d ++ l)) 65536) (asked (take n (d ++ l)) (drop n (d ++ l))) (ascii "too long\n")) k
-      ∙ ap₂ (λ x y. pick (leb (length (d ++ l)) 65536) (asked x y) (ascii "too long\n")) (take-at d l (length d) refl) (drop-at d l (length d) refl)
-      ∙ ap (λ n. pick (leb n 65536) (asked d l) (ascii "too long\n")) (length-append d l)
+  pub tables-end : (rs : List WholeRecord) → All OfTable rs → tablesEnd (dataOf rs ++ l) ≡ length (dataOf rs)
+  unfolding tablesEnd
+  tables-end rs K = ends (length (dataOf rs ++ l)) rs K (omega (arith, length-append (dataOf rs) l))
 
   -- Table records that are read, in another order, and behind them the same question: the desk prints the same.
   pub desk-order : {rs us : List WholeRecord} → Rearranged rs us → {T : Tables} → readData (dataOf rs) ≡ got T → desk (dataOf rs ++ l) ≡ desk (dataOf us ++ l)
   unfolding asked
   desk-order {rs} {us} P t =
-      desk-of rs (kinds-read rs t)
+      desk-at l (dataOf rs) (tables-end rs (kinds-read rs t))
       ∙ ap₂ (λ n r. pick (leb (n + length l) 65536) (orRefusal (andThen r planAndAnswer)) (ascii "too long\n")) (bytes-same P) (record-order-examined P t l)
-      ∙ sym (desk-of us (kinds-read us (read-any-order P t)))
+      ∙ sym (desk-at l (dataOf us) (tables-end us (kinds-read us (read-any-order P t))))
