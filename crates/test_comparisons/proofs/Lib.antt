@@ -2,3 +2,4 @@
 pub mod RowColumns
 pub mod CountedAnswer
 pub mod Call
+pub mod MostComparisons
