@@ -2,6 +2,7 @@
 pub mod Lists
 pub mod Syntax
 pub mod Value
+pub mod Lending
 pub mod Order
 pub mod Rearrangement
 pub mod Greatest

@@ -1,7 +1,8 @@
--- What is asked: the terms, monoids and qualifiers that document 01's records of kinds 1 to 18, and document 02's of kind 19, stand for.
+-- What is asked: the terms, monoids and qualifiers that document 01's records of kinds 1 to 18, and document 02's of kinds 19 and 21, stand for.
 use Prim.Native.Nat.{ℕ}
 use mathlib.Core.Bool.{Bool}
 use lib.IntN.{ℤ}
+use Rattle.spec_calendar.specs.Hours.{Calendar}
 
 -- "1 list, 2 bag, 3 set": the collection of a table, and of the first three monoids
 pub data Collection : Type 0 where
@@ -16,12 +17,15 @@ pub data Monoid : Type 0 where
 pub data Bin : Type 0 where
   plus minus times equal less and or : Bin
 
--- the operators that document 02 adds, and how many terms each has: "Add kind 19, three terms" (E2)
+-- the operators that document 02 adds, and how many terms each has: "Add kind 19, three terms" (E2); "Kind 21 holds one byte of calendar and one number term"
+-- (E4): the calendar's number, and the calendar of that number as it is lent
 pub data Fun : Type 0 where
   choice : Fun
+  isOpen : ℕ → Calendar → Fun
 
 unfoldable pub arity : Fun → ℕ
 arity choice = 3
+arity (isOpen n c) = 1
 
 -- terms, and "kind 14 is one byte of monoid, any count of qualifiers, then one head term"
 mutual

@@ -6,8 +6,9 @@ use lib.Dec.{eqb, leb}
 use lib.IntN.{ℤ, pos, negsuc, _+ℤ_, _-ℤ_, _*ℤ_}
 use lib.Signed.{ltZ}
 use lib.ListN.{getD}
+use Rattle.spec_calendar.specs.Hours.{openAt}
 use Rattle.spec_calculus.specs.Lists.{pick}
-use Rattle.spec_calculus.specs.Syntax.{Collection, list, Bin, plus, minus, times, equal, less, and, or, Fun, choice}
+use Rattle.spec_calculus.specs.Syntax.{Collection, list, Bin, plus, minus, times, equal, less, and, or, Fun, choice, isOpen}
 
 -- "Meaning is over unbounded whole numbers."
 mutual
@@ -99,6 +100,7 @@ choiceV c v w = scalar (pick (asBool c) v w)
 -- document 02's operators, over the values of their terms
 unfoldable pub appV : Fun → Values → Value
 appV choice vs = choiceV (nth 0 vs) (nth 1 vs) (nth 2 vs)
+appV (isOpen n c) vs = truth (openAt c (asInt (nth 0 vs)))  -- "true when that minute lies in a window of its weekday" (E4)
 
 -- "A table is .. one byte of collection .., one byte of columns .., rows .., then the cells row by row": each row a record. "Between its row count
 -- and its cells a table record now holds one .. bound per column" (document 02, E5)

@@ -4,10 +4,11 @@ use mathlib.Core.Bool.{Bool, true, false, true≢false}
 use Prim.Native.Nat.{ℕ}
 use native.Mathlib.Omega.{arith}
 use Rattle.spec_calculus.specs.Lists.{pick, upd}
-use Rattle.spec_calculus.specs.Syntax.{Collection, Monoid, of, sum, max, min, some, all, Bin, plus, minus, times, equal, less, and, or, Fun, choice, Term, Terms, Quals, num, name, field, rec, bin, negate, app, comp, table, tnil, tcons, qnil, gen, bind, cond, Question, asTerm}
+use Rattle.spec_calendar.specs.Hours.{Calendar}
+use Rattle.spec_calculus.specs.Syntax.{Collection, Monoid, of, sum, max, min, some, all, Bin, plus, minus, times, equal, less, and, or, Fun, choice, isOpen, Term, Terms, Quals, num, name, field, rec, bin, negate, app, comp, table, tnil, tcons, qnil, gen, bind, cond, Question, asTerm}
 use Rattle.spec_calculus.specs.Syntax as Sy
 use Rattle.spec_calculus.specs.Value.{Tables, kindOf, columnsOf, isThere}
-use Rattle.spec_checks.specs.Types.{Ty, Tys, number, truth, record′, coll, ynil, ycons, Typed, wrong, has, Typeds, wrongs, hass, cells, typeAt, fieldType, ofNumber, ofTruth, binType, gathers, compType, ranges, typedAs, allTyped, ofThree, choiceType, appType, record″, consType, Context, typeOf, typesOf, typeOfQ, mayStand, isTyped, generatorsFit}
+use Rattle.spec_checks.specs.Types.{Ty, Tys, number, truth, record′, coll, ynil, ycons, Typed, wrong, has, Typeds, wrongs, hass, cells, typeAt, fieldType, ofNumber, ofTruth, binType, gathers, compType, ranges, typedAs, allTyped, ofThree, ofOne, choiceType, appType, record″, consType, Context, typeOf, typesOf, typeOfQ, mayStand, isTyped, generatorsFit}
 
 -- "Arithmetic, equal and less take numbers; and, or, not and conditions take truths"
 unfoldable pub operand : Bin → Ty
@@ -37,6 +38,7 @@ Scalar (coll c t) = ⊥
 -- an operator over operands of types us is of type τ
 abbrev pub Takes : Fun → Tys → Ty → Type 0
 Takes choice us τ = Scalar τ × (us ≡ ycons truth (ycons τ (ycons τ ynil)))
+Takes (isOpen n c) us τ = (τ ≡ truth) × (us ≡ ycons number ynil)
 
 -- a comprehension of m with heads of type σ is of type τ
 abbrev pub Gathers : Monoid → Ty → Ty → Type 0
@@ -162,13 +164,19 @@ choice-typed c truth t τ e = let a = truth-typed (has c) (ofTruth (has t) (has 
 choice-typed c (record′ us) t τ e = untyped e
 choice-typed c (coll d u) t τ e = untyped e
 
+open-typed : (n : ℕ) (c : Calendar) (t τ : Ty) → ofNumber (has t) (has truth) ≡ has τ → Takes (isOpen n c) (ycons t ynil) τ
+open-typed n c t τ e = let a = number-typed (has t) (has truth) τ e in (same-type truth τ (a .1), ap (λ u. ycons u ynil) (same-type number t (sym (a .0))))
+
 app-typed : (f : Fun) (us : Tys) (τ : Ty) → appType f us ≡ has τ → Takes f us τ
-unfolding appType ofThree
+unfolding appType ofThree ofOne
 app-typed choice ynil τ e = untyped e
 app-typed choice (ycons s ynil) τ e = untyped e
 app-typed choice (ycons s (ycons t ynil)) τ e = untyped e
 app-typed choice (ycons s (ycons t (ycons u ynil))) τ e = choice-typed s t u τ e
 app-typed choice (ycons s (ycons t (ycons u (ycons v us)))) τ e = untyped e
+app-typed (isOpen n c) ynil τ e = untyped e
+app-typed (isOpen n c) (ycons t ynil) τ e = open-typed n c t τ e
+app-typed (isOpen n c) (ycons t (ycons u us)) τ e = untyped e
 
 all-typed : (s : Typeds) (k : Tys → Typed) (τ : Ty) → allTyped s k ≡ has τ → (us : Tys) × (s ≡ hass us) × (k us ≡ has τ)
 unfolding allTyped

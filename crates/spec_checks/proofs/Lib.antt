@@ -4,3 +4,4 @@ pub mod Judgement
 pub mod Refold
 pub mod RawArranged
 pub mod StoredTables
+pub mod Lending

@@ -5,8 +5,9 @@ use mathlib.Core.Bool.{Bool, true, false, _&&_, _||_, true≢false}
 use Prim.Native.Nat.{ℕ, zero, suc}
 use lib.IntN.{ℤ, _+ℤ_, _-ℤ_, _*ℤ_}
 use lib.Signed.{ltZ}
+use Rattle.spec_calendar.specs.Hours.{openAt}
 use Rattle.spec_calculus.specs.Lists.{pick}
-use Rattle.spec_calculus.specs.Syntax.{Collection, Monoid, of, sum, max, min, some, all, Bin, plus, minus, times, equal, less, and, or, Fun, choice}
+use Rattle.spec_calculus.specs.Syntax.{Collection, Monoid, of, sum, max, min, some, all, Bin, plus, minus, times, equal, less, and, or, Fun, choice, isOpen}
 use Rattle.spec_calculus.specs.Value.{Value, Values, vnil, vcons, toList, fromList, junk, asInt, asBool, elems, nth, fieldOf, eqZ, binV, scalar, choiceV, appV}
 use Rattle.spec_calculus.specs.Value as Va
 use Rattle.spec_calculus.specs.Monoid.{start, greater, lesser, against, Entry, step, total, finish, foldBy, ordered, canonical, raw}
@@ -58,6 +59,7 @@ single (coll c t) = number
 
 unfoldable pub gives : Fun → Tys → Ty
 gives choice us = single (second us)
+gives (isOpen n c) us = truth
 
 single-scalar : (t : Ty) → Scalar t → single t ≡ t
 unfolding single
@@ -69,6 +71,7 @@ single-scalar (coll c t) s = absurd s
 pub takes-gives : (f : Fun) (us : Tys) (τ : Ty) → Takes f us τ → τ ≡ gives f us
 unfolding gives second
 takes-gives choice us τ h = sym (single-scalar τ (h .0)) ∙ ap (λ ts. single (second ts)) (sym (h .1))
+takes-gives (isOpen n c) us τ h = h .0
 
 -- as the values of questions are: each list as it is, each bag sorted, each set sorted without repeats
 abbrev pub arrangeAs : Ty → Value → Value
@@ -121,9 +124,10 @@ module _ (E : Entry) where
   operand-reads (suc i) (ycons t us) (vcons v vs) = operand-reads i us vs
 
   pub app-refold : (f : Fun) (us : Tys) (vs : Values) → appV f (refolds E us vs) ≡ refold E (gives f us) (appV f vs)
-  unfolding appV choiceV gives
+  unfolding appV choiceV gives refold
   app-refold choice us vs = choice-refold (asBool (nth 0 (refolds E us vs))) (asBool (nth 0 vs)) (nth 1 (refolds E us vs)) (nth 2 (refolds E us vs)) (nth 1 vs) (nth 2 vs) (operand-reads 0 us vs .1) (operand-reads 1 us vs) (operand-reads 2 us vs)
       ∙ sym (single-kept (second us) (appV choice vs))
+  app-refold (isOpen n c) us vs = ap (λ z. Va.truth (openAt c z)) (operand-reads 0 us vs .0)
 
   pub bin-refold : (o : Bin) (s t : Ty) (v w : Value) → binV o (refold E s v) (refold E t w) ≡ refold E (result o) (binV o v w)
   unfolding binV result refold

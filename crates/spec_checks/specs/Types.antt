@@ -2,7 +2,7 @@
 use mathlib.Core.Bool.{Bool, true, false}
 use Prim.Native.Nat.{ℕ, zero, suc}
 use Rattle.spec_calculus.specs.Lists.{pick, upd}
-use Rattle.spec_calculus.specs.Syntax.{Collection, list, bag, set, Monoid, of, sum, max, min, some, all, Bin, plus, minus, times, equal, less, and, or, Fun, choice, Term, Terms, Quals, num, name, field, rec, bin, negate, app, comp, table, tnil, tcons, qnil, gen, bind, cond, Question, asTerm}
+use Rattle.spec_calculus.specs.Syntax.{Collection, list, bag, set, Monoid, of, sum, max, min, some, all, Bin, plus, minus, times, equal, less, and, or, Fun, choice, isOpen, Term, Terms, Quals, num, name, field, rec, bin, negate, app, comp, table, tnil, tcons, qnil, gen, bind, cond, Question, asTerm}
 use Rattle.spec_calculus.specs.Syntax as Sy
 use Rattle.spec_calculus.specs.Value.{Tables, kindOf, columnsOf, isThere}
 
@@ -84,8 +84,15 @@ choiceType c truth t = ofTruth (has c) (ofTruth (has t) (has truth))
 choiceType c (record′ us) t = wrong
 choiceType c (coll d u) t = wrong
 
+-- "one number term" (document 02, E4)
+unfoldable pub ofOne : (Ty → Typed) → Tys → Typed
+ofOne k ynil = wrong
+ofOne k (ycons t ynil) = k t
+ofOne k (ycons t (ycons u us)) = wrong
+
 unfoldable pub appType : Fun → Tys → Typed
 appType choice ts = ofThree choiceType ts
+appType (isOpen n c) ts = ofOne (λ t. ofNumber (has t) (has truth)) ts
 
 unfoldable pub gathers : Collection → Typed → Typed
 gathers c wrong = wrong

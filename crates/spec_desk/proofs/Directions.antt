@@ -17,7 +17,7 @@ use Rattle.spec_outcome.proofs.WholeRecord.{table-as, behind-is}
 use Rattle.spec_outcome.proofs.SameTables.{examined-same}
 use Rattle.spec_outcome.proofs.RecordOrder.{records-read, kinds-read}
 use Rattle.spec_outcome.proofs.Directions.{turned-read}
-use Rattle.spec_desk.specs.Desk.{planAndAnswer, orRefusal, asked, desk}
+use Rattle.spec_desk.specs.Desk.{alone, planAndAnswer, orRefusal, asked, desk}
 use Rattle.spec_desk.specs.TablesEnd.{tableBytes, tablesEnd}
 use Rattle.spec_desk.proofs.RecordOrder.{desk-at, tables-end}
 
@@ -77,7 +77,7 @@ module _ (l : Bytes) where
   unfolding asked tablesEnd
   desk-turned {d} {e} E z =
       desk-at l d z
-      ∙ ap₂ (λ k r. pick (leb (k + length l) 65536) (orRefusal (andThen r planAndAnswer)) (ascii "too long\n")) (turned-long E) (examined-same d e l (turned-read E))
+      ∙ ap₂ (λ k r. pick (leb (k + length l) 65536) (orRefusal (andThen r planAndAnswer)) (ascii "too long\n")) (turned-long E) (examined-same d e (alone l) (turned-read E))
       ∙ sym (desk-at l e (turned-ends (length (e ++ l)) E (subst (λ f. tableBytes f (d ++ l) ≡ length d) (omega (arith, length-append d l, length-append e l, turned-long E)) z)))
 
   -- So it begins behind all data that are read, where it is "not a whole kind 20", nor 23.

@@ -18,7 +18,7 @@ use Rattle.spec_outcome.specs.RowOrder.{recordBytes}
 use Rattle.spec_outcome.specs.RecordOrder.{WholeRecord, dataOf}
 use Rattle.spec_outcome.proofs.WholeRecord.{table-as, behind-is}
 use Rattle.spec_outcome.proofs.RecordOrder.{read-any-order, OfTable, kinds-read, bytes-same, record-order-examined}
-use Rattle.spec_desk.specs.Desk.{planAndAnswer, orRefusal, asked, desk}
+use Rattle.spec_desk.specs.Desk.{alone, planAndAnswer, orRefusal, asked, desk}
 use Rattle.spec_desk.specs.TablesEnd.{tableBytes, tablesEnd}
 
 -- where the question l begins behind d, over d that question is answered
@@ -56,5 +56,5 @@ module _ (l : Bytes) (e : isTable l ≡ false) where
   unfolding asked
   desk-order {rs} {us} P t =
       desk-at l (dataOf rs) (tables-end rs (kinds-read rs t))
-      ∙ ap₂ (λ n r. pick (leb (n + length l) 65536) (orRefusal (andThen r planAndAnswer)) (ascii "too long\n")) (bytes-same P) (record-order-examined P t l)
+      ∙ ap₂ (λ n r. pick (leb (n + length l) 65536) (orRefusal (andThen r planAndAnswer)) (ascii "too long\n")) (bytes-same P) (record-order-examined P t (alone l))
       ∙ sym (desk-at l (dataOf us) (tables-end us (kinds-read us (read-any-order P t))))

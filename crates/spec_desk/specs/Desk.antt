@@ -9,7 +9,7 @@ use Rattle.spec_encoding.specs.Record.{Bytes, Result, refused, got, andThen, re
 use Rattle.spec_plan.specs.Planner.{planOf}
 use Rattle.spec_plan.specs.Lines.{ascii, decimal, signedDecimal, lines}
 use Rattle.spec_outcome.specs.WrittenForm.{words}
-use Rattle.spec_outcome.specs.Acceptance.{Accepted, examine}
+use Rattle.spec_outcome.specs.Acceptance.{Lent, lentAs, Accepted, examine}
 use Rattle.spec_outcome.specs.Outcome.{G, looped}
 use Rattle.spec_desk.specs.TablesEnd.{tablesEnd}
 
@@ -34,9 +34,13 @@ unfoldable pub orRefusal : Result Bytes → Bytes
 orRefusal (refused n) = refusalLine n
 orRefusal (got t) = t
 
+-- "the desk program lends no calendar" (document 02, E4)
+abbrev pub alone : Bytes → Lent
+alone l = lentAs [] l
+
 -- the reply to a question l over the tables d
 unfoldable pub asked : Bytes → Bytes → Bytes
-asked d l = orRefusal (andThen (examine d l) planAndAnswer)
+asked d l = orRefusal (andThen (examine d (alone l)) planAndAnswer)
 
 -- "over 65,536 bytes it prints "too long"", else the reply to the question behind the table records
 unfoldable pub desk : Bytes → Bytes

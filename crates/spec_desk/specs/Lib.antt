@@ -1,5 +1,5 @@
 -- What the desk program prints, from what it reads.
 pub mod TablesEnd
-pub mod LentBuffers
 pub mod Desk
+pub mod LentBuffers
 pub mod TextInBuffer

@@ -8,7 +8,8 @@ use Rattle.spec_calculus.specs.Lists.{pick}
 use Rattle.spec_calculus.specs.Value.{asInt, nth, fieldOf, columnsOf, isThere}
 use Rattle.spec_calculus.specs.Cases.{Case, answers, prints, refuses, reads, declines, starred, howMany}
 use Rattle.spec_calculus.proofs.Lists.{All}
-use Rattle.spec_calculus.specs.Syntax.{sum, choice, num, truth, app, tnil, tcons, qnil}
+use Rattle.spec_calculus.specs.Syntax.{sum, some, choice, num, truth, app, tnil, tcons, qnil}
+use Rattle.spec_calculus.specs.Lending.{unlent}
 use Rattle.spec_encoding.specs.Record.{Bytes, refused, got, andThen, require, signed, isWhole}
 use Rattle.spec_encoding.specs.Data.{boundsFrom, cells, rowsFrom, fits, tableOf, tableBy, boundsFit, cellsWithin, rowsWithin, bounded, tablesFrom, readData}
 use Rattle.spec_encoding.specs.Reader.{noMore, asTerm, oneTerm, filled, inFront, onPart, parts, comprehends, named, content, atRecord, readPart, readQuestion}
@@ -52,3 +53,17 @@ two-terms = refl
 four-terms : readQuestion (chosen 29 (number 5 ++ (number 7 ++ number 9))) ≡ refused 22
 unfolding reading
 four-terms = refl
+
+-- kind 21 of calendar 255 and a minute: any byte is a calendar's number
+any-calendar : readQuestion (14 ∷ 0 ∷ 14 ∷ 0 ∷ 6 ∷ 9 ∷ 0 ∷ 21 ∷ 0 ∷ 255 ∷ number 5) ≡ got (record { monoid = some; quals = qnil; head = app (unlent 255) (tcons (num (pos 5)) tnil) })
+unfolding reading
+any-calendar = refl
+
+-- without a minute, or without a byte, it is 22
+no-minute : readQuestion (6 ∷ 0 ∷ 14 ∷ 0 ∷ 6 ∷ 1 ∷ 0 ∷ 21 ∷ 0 ∷ 0 ∷ []) ≡ refused 22
+unfolding reading
+no-minute = refl
+
+no-calendar : readQuestion (5 ∷ 0 ∷ 14 ∷ 0 ∷ 6 ∷ 0 ∷ 0 ∷ 21 ∷ 0 ∷ []) ≡ refused 22
+unfolding reading
+no-calendar = refl

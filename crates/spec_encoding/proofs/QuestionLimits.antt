@@ -10,8 +10,9 @@ use lib.IntN.{ℤ, pos, negsuc}
 use lib.Signed.{mag}
 use borrow.Author.Tests.{ltb-true, ltb-false}
 use Rattle.spec_calculus.specs.Syntax.{Monoid, Bin, choice, Term, Terms, Quals, Question, num, truth, name, field, rec, bin, negate, app, comp, table, tnil, tcons, qnil, gen, bind, cond}
+use Rattle.spec_calculus.specs.Lending.{unlent}
 use Rattle.spec_encoding.specs.Record.{Bytes, Result, refused, got, andThen, require, two, four, signed, kindOf, contentOf}
-use Rattle.spec_encoding.specs.Reader.{Kind, kinds, number, truthK, nameK, fieldK, record′, not, choiceK, tableK, comprehension, generator, binding, condition, unknown, two-terms, monoids, Part, term, generates, binds, holds, Step, Read, Reader, noMore, asTerm, oneTerm, filled, terms, inFront, onPart, parts, comprehends, named, content, atRecord, readPart, readQuestion}
+use Rattle.spec_encoding.specs.Reader.{Kind, kinds, number, truthK, nameK, fieldK, record′, not, choiceK, openK, tableK, comprehension, generator, binding, condition, unknown, two-terms, monoids, Part, term, generates, binds, holds, Step, Read, Reader, noMore, asTerm, oneTerm, filled, terms, inFront, onPart, parts, comprehends, named, content, atRecord, readPart, readQuestion}
 
 -- what a reading gives, where it gives something
 abbrev pub Gives : {A : Type 0} → (A → Type 0) → Result A → Type 0
@@ -39,6 +40,7 @@ pub record Keeps (F : ℕ → Term → Type 0) (L : ℕ → ℕ → Terms → Ty
   pub binary : (d : ℕ) (o : Bin) (t u : Term) → F d t → F d u → F (suc d) (bin o t u)
   pub negation : (d : ℕ) (t : Term) → F d t → F (suc d) (negate t)
   pub choice : (d : ℕ) (t u v : Term) → F d t → F d u → F d v → F (suc d) (app choice (tcons t (tcons u (tcons v tnil))))
+  pub opening : (d n : ℕ) (t : Term) → F d t → F (suc d) (app (unlent n) (tcons t tnil))
   pub comprehension : (d : ℕ) (m : Monoid) (qs : Quals) (h : Term) → Q d qs → F d h → F (suc d) (comp m qs h)
   pub table : (d k : ℕ) → F (suc d) (table k)
   pub deeper : (d : ℕ) (t : Term) → F d t → F (suc d) t
@@ -152,6 +154,7 @@ module _ {F : ℕ → Term → Type 0} {L : ℕ → ℕ → Terms → Type 0} {Q
     content-gives q (two-terms o) c n = one-term Inner c n _ (λ t l j p. one-term Inner l j _ (λ u r i w. filled-gives Inner _ r i (K .binary d o t u p w)))
     content-gives q not c n = one-term Inner c n _ (λ t l j p. filled-gives Inner _ l j (K .negation d t p))
     content-gives q choiceK c n = one-term Inner c n _ (λ t l j p. one-term Inner l j _ (λ u r i w. one-term Inner r i _ (λ v b h x. filled-gives Inner _ b h (K .choice d t u v p w x))))
+    content-gives q openK c n = gives-require (Each Inner) 22 _ _ (λ e. one-term Inner (drop 1 c) n _ (λ t l j p. filled-gives Inner _ l j (K .opening d _ t p)))
     content-gives q comprehension c n = gives-then (Each (Question′ d)) (Each Inner) (comprehends R c n) _ (comprehends-give c n) (λ s p. K .comprehension d (s .is .monoid) (s .is .quals) (s .is .head) (p .0) (p .1))
     content-gives q tableK c n = gives-require (Each Inner) 22 _ _ (λ e. K .table d _)
     content-gives q generator c n = gives-require (Each Inner) 22 _ _ (λ e. named-gives generates (λ x t l p. (l, p)) c n)

@@ -7,7 +7,7 @@ use Rattle.spec_calculus.specs.Syntax.{Monoid, Term, Question, tnil}
 use Rattle.spec_calculus.specs.Value.{Tables}
 use Rattle.spec_encoding.specs.Record.{Bytes, Result, refused, got, andThen, require, kindOf, contentOf, behind}
 use Rattle.spec_encoding.specs.Data.{tablesFrom, noTables, readData}
-use Rattle.spec_encoding.specs.Reader.{Kind, number, truthK, nameK, fieldK, record′, not, choiceK, tableK, comprehension, generator, binding, condition, unknown, two-terms, monoids, Part, term, generates, binds, holds, Step, Read, Reader, noMore, asTerm, oneTerm, filled, terms, inFront, onPart, parts, comprehends, named, content, atRecord, readPart, readQuestion}
+use Rattle.spec_encoding.specs.Reader.{Kind, number, truthK, nameK, fieldK, record′, not, choiceK, openK, tableK, comprehension, generator, binding, condition, unknown, two-terms, monoids, Part, term, generates, binds, holds, Step, Read, Reader, noMore, asTerm, oneTerm, filled, terms, inFront, onPart, parts, comprehends, named, content, atRecord, readPart, readQuestion}
 
 -- a result that, where it is a refusal, is one by a number of P
 abbrev pub Only : {A : Type 0} → (ℕ → Type 0) → Result A → Type 0
@@ -114,6 +114,7 @@ module _ (P : ℕ → Type 0) (p21 : P 21) (p22 : P 22) (p23 : P 23) where
     content-only q (two-terms o) c n = one-term c n _ (λ t l j. one-term l j _ (λ u r i. filled-only _ r i))
     content-only q not c n = one-term c n _ (λ t l j. filled-only _ l j)
     content-only q choiceK c n = one-term c n _ (λ t l j. one-term l j _ (λ u r i. one-term r i _ (λ v b h. filled-only _ b h)))
+    content-only q openK c n = only-require P 22 _ _ p22 (one-term (drop 1 c) n _ (λ t l j. filled-only _ l j))
     content-only q comprehension c n = only-then P (comprehends R c n) _ (comprehends-only c n) (λ s. tt)
     content-only q tableK c n = only-require P 22 _ _ p22 tt
     content-only q generator c n = only-require P 22 _ _ p22 (named-only generates c n)

@@ -6,18 +6,19 @@ use Prim.Native.Nat.{ℕ, zero, suc}
 use lib.Dec.{eqb, leb}
 use lib.ListN.{length, getD, drop}
 use Rattle.spec_calculus.specs.Syntax.{list, bag, set, Monoid, of, sum, max, min, some, all, Bin, plus, minus, times, equal, less, and, or, choice, Term, Terms, Quals, num, truth, name, field, rec, bin, negate, app, comp, table, tnil, tcons, qnil, gen, bind, cond, Question}
+use Rattle.spec_calculus.specs.Lending.{unlent}
 use Rattle.spec_encoding.specs.Record.{Bytes, Result, refused, got, andThen, require, byte, two, four, signed, kindOf, contentOf, behind, isWhole}
 
 -- "Kinds: 1 number ..; 2 truth ..; 3 name ..; 4 field ..; 5 record ..; 6 plus, 7 minus, 8 times, 9 equal, 10 less, 11 and, 12 or
 -- ..; 13 not ..; 15 table .. Kind 14 is one byte of monoid, .. Qualifiers: 16 generator .., 17 binding .., 18 condition .."; "kind 19, three terms"
--- (document 02, E2)
+-- (document 02, E2); "Kind 21 holds one byte of calendar and one number term" (E4)
 pub data Kind : Type 0 where
-  number truthK nameK fieldK record′ not tableK comprehension generator binding condition choiceK unknown : Kind
+  number truthK nameK fieldK record′ not tableK comprehension generator binding condition choiceK openK unknown : Kind
   two-terms : Bin → Kind
 
 abbrev pub kinds : List Kind
 kinds = unknown ∷ number ∷ truthK ∷ nameK ∷ fieldK ∷ record′ ∷ two-terms plus ∷ two-terms minus ∷ two-terms times ∷ two-terms equal ∷ two-terms less
-    ∷ two-terms and ∷ two-terms or ∷ not ∷ comprehension ∷ tableK ∷ generator ∷ binding ∷ condition ∷ choiceK ∷ []
+    ∷ two-terms and ∷ two-terms or ∷ not ∷ comprehension ∷ tableK ∷ generator ∷ binding ∷ condition ∷ choiceK ∷ unknown ∷ openK ∷ []
 
 -- monoids 1 to 8
 abbrev pub monoids : List (Result Monoid)
@@ -107,6 +108,7 @@ content R q record′ c n = require 22 (leb 1 (length c)) (andThen (terms R 8 c 
 content R q (two-terms o) c n = oneTerm R c n (λ t l j. oneTerm R l j (λ u r i. filled (term (bin o t u)) r i))
 content R q not c n = oneTerm R c n (λ t l j. filled (term (negate t)) l j)
 content R q choiceK c n = oneTerm R c n (λ t l j. oneTerm R l j (λ u r i. oneTerm R r i (λ v b h. filled (term (app choice (tcons t (tcons u (tcons v tnil))))) b h)))
+content R q openK c n = require 22 (leb 1 (length c)) (oneTerm R (drop 1 c) n (λ t l j. filled (term (app (unlent (byte c 0)) (tcons t tnil))) l j))
 content R q comprehension c n = andThen (comprehends R c n) (λ s. yields (term (comp (s .is .monoid) (s .is .quals) (s .is .head))) [] (s .left))
 content R q tableK c n = require 22 (eqb (length c) 1) (yields (term (table (byte c 0))) [] n)
 content R q generator c n = require 22 q (named R generates c n)

@@ -12,7 +12,7 @@ use lib.Dec.{eqb, leb, eqb→eq}
 use lib.IntN.{pos, natAbs}
 use lib.ListN.{getD, length, length-append}
 use Rattle.spec_calculus.specs.Lists.{bindL, guard, pick, upd}
-use Rattle.spec_calculus.specs.Syntax.{Monoid, of, sum, max, min, some, all, Bin, plus, minus, times, equal, less, and, or, Fun, choice}
+use Rattle.spec_calculus.specs.Syntax.{Monoid, of, sum, max, min, some, all, Bin, plus, minus, times, equal, less, and, or, Fun, choice, isOpen}
 use Rattle.spec_calculus.specs.Value.{Value, Values, nth, scalar, choiceV, appV, junk, asInt, asBool, fieldOf, binV, notV, Tables, columnsOf, boundOf, rowsOf}
 use Rattle.spec_calculus.specs.Value as Va
 use Rattle.spec_calculus.specs.Monoid.{start, greater, lesser, Entry, step, total, finish, Fold, foldBy}
@@ -210,8 +210,9 @@ AllSmall bs vs = (i : ℕ) → Small (getD bs i 0) (nth i vs)
 
 -- What an operator makes of values within their bounds is within its bound.
 pub app-bound : (f : Fun) (bs : List ℕ) (vs : Values) → AllSmall bs vs → Small (appBound f bs) (appV f vs)
-unfolding appV appBound choiceV
+unfolding appV appBound choiceV asInt
 app-bound choice bs vs h = choice-bound (asBool (nth 0 vs)) (nth 1 vs) (nth 2 vs) (getD bs 1 0) (getD bs 2 0) (h 1) (h 2)
+app-bound (isOpen n c) bs vs h = le-refl 0
 
 comp-bound : (m : Monoid) (g b : ℕ) → foldBound m (1024 ^ g) b ≡ compBound m g b
 unfolding foldBound compBound

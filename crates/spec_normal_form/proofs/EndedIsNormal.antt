@@ -4,10 +4,10 @@ use mathlib.Core.Bool.{Bool, true, false, false≢true}
 use Prim.Native.Nat.{ℕ, zero, suc}
 use lib.Dec.{eqb}
 use Rattle.spec_calculus.specs.Lists.{pick, upd}
-use Rattle.spec_calculus.specs.Syntax.{Collection, Monoid, of, sum, max, min, some, all, Bin, plus, minus, times, equal, less, and, or, Fun, choice, Term, Terms, Quals, num, name, field, rec, bin, negate, app, comp, table, tnil, tcons, qnil, gen, bind, cond, Question, asTerm}
+use Rattle.spec_calculus.specs.Syntax.{Collection, Monoid, of, sum, max, min, some, all, Bin, plus, minus, times, equal, less, and, or, Fun, choice, isOpen, Term, Terms, Quals, num, name, field, rec, bin, negate, app, comp, table, tnil, tcons, qnil, gen, bind, cond, Question, asTerm}
 use Rattle.spec_calculus.specs.Syntax as Sy
 use Rattle.spec_calculus.specs.Value.{Tables, kindOf, columnsOf, isThere}
-use Rattle.spec_checks.specs.Types.{Ty, Tys, ynil, ycons, Typed, Typeds, number, truth, record′, coll, wrong, has, wrongs, hass, cells, typeAt, fieldType, ofNumber, ofTruth, binType, gathers, compType, ranges, ofThree, choiceType, appType, allTyped, record″, consType, Context, typeOf, typesOf, typeOfQ, isTyped, typesFit}
+use Rattle.spec_checks.specs.Types.{Ty, Tys, ynil, ycons, Typed, Typeds, number, truth, record′, coll, wrong, has, wrongs, hass, cells, typeAt, fieldType, ofNumber, ofTruth, binType, gathers, compType, ranges, ofThree, ofOne, choiceType, appType, allTyped, record″, consType, Context, typeOf, typesOf, typeOfQ, isTyped, typesFit}
 use Rattle.spec_normal_form.specs.Form.{Form, Forms, Clauses, NormalForm, fnil, fcons, done}
 use Rattle.spec_normal_form.specs.Form as Nf
 use Rattle.spec_normal_form.specs.Normal.{idempotent}
@@ -59,12 +59,15 @@ choice-fields c (record′ us) t = λ i. refl
 choice-fields c (coll d u) t = λ i. refl
 
 app-fields : (f : Fun) (us : Tys) → NoFields (appType f us)
-unfolding appType ofThree fieldType
+unfolding appType ofThree ofOne fieldType
 app-fields choice ynil = λ i. refl
 app-fields choice (ycons s ynil) = λ i. refl
 app-fields choice (ycons s (ycons t ynil)) = λ i. refl
 app-fields choice (ycons s (ycons t (ycons u ynil))) = choice-fields s t u
 app-fields choice (ycons s (ycons t (ycons u (ycons v us)))) = λ i. refl
+app-fields (isOpen n c) ynil = λ i. refl
+app-fields (isOpen n c) (ycons t ynil) = number-fields (has t) (has truth) (λ i. refl)
+app-fields (isOpen n c) (ycons t (ycons u us)) = λ i. refl
 
 all-fields : (ws : Typeds) (k : Tys → Typed) → ((us : Tys) → NoFields (k us)) → NoFields (allTyped ws k)
 unfolding allTyped fieldType

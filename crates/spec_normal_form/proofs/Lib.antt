@@ -20,3 +20,4 @@ pub mod Bounds
 pub mod RawArranged
 pub mod StoredTables
 pub mod NormalByType
+pub mod Lending

@@ -6,7 +6,7 @@ use Prim.Native.Nat.{ℕ, zero, suc, _+_, _≤_, _<_}
 use native.Mathlib.Omega.{arith}
 use lib.Dec.{eqb}
 use Rattle.spec_calculus.specs.Lists.{bindL, guard, upd}
-use Rattle.spec_calculus.specs.Syntax.{Collection, Monoid, of, sum, max, min, some, all, Bin, plus, minus, times, equal, less, and, or, Fun, choice, Term, Terms, Quals, num, name, field, rec, bin, negate, app, comp, table, tnil, tcons, qnil, gen, bind, cond, Question, asTerm}
+use Rattle.spec_calculus.specs.Syntax.{Collection, Monoid, of, sum, max, min, some, all, Bin, plus, minus, times, equal, less, and, or, Fun, choice, isOpen, Term, Terms, Quals, num, name, field, rec, bin, negate, app, comp, table, tnil, tcons, qnil, gen, bind, cond, Question, asTerm}
 use Rattle.spec_calculus.specs.Syntax as Sy
 use Rattle.spec_calculus.specs.Value.{Value, Values, vcons, junk, asBool, elems, fieldOf, binV, notV, appV, Tables, kindOf, columnsOf, rowsOf}
 use Rattle.spec_calculus.specs.Value as Va
@@ -270,6 +270,7 @@ module _ (T : Tables) where
 
   app-ok : (g : Fun) (us : Tys) (τ : Ty) (f : ℕ → Form) (v : Value) (n : ℕ) (ρ : Env) → Takes g us τ → Quotes (plain f) v n ρ → R τ (plain f) v n ρ
   app-ok choice us τ f v n ρ h p = choice-ok τ f v n ρ (h .0) p
+  app-ok (isOpen k c) us τ f v n ρ h p = rw (h .0) (truth-ok f v n ρ p)
 
   mutual
     unfolding norm eval value quote R part nth Va.nth fieldOf bindL

@@ -7,7 +7,7 @@ use native.Mathlib.Omega.{arith}
 use lib.Dec.{eqb}
 use lib.Signed.{mag}
 use Rattle.spec_calculus.specs.Lists.{upd}
-use Rattle.spec_calculus.specs.Syntax.{Collection, Bin, plus, minus, times, equal, less, and, or, arity, Term, Terms, Quals, num, truth, name, field, rec, bin, negate, app, comp, table, tnil, tcons, qnil, gen, bind, cond, Question, asTerm}
+use Rattle.spec_calculus.specs.Syntax.{Collection, Bin, plus, minus, times, equal, less, and, or, Fun, choice, isOpen, arity, Term, Terms, Quals, num, truth, name, field, rec, bin, negate, app, comp, table, tnil, tcons, qnil, gen, bind, cond, Question, asTerm}
 use Rattle.spec_checks.specs.Scope.{namesHold}
 use Rattle.spec_normal_form.specs.Form.{Form, Forms, Clauses, fnil, fcons, done, _⊕_, gens, gensF, gensC, asForm}
 use Rattle.spec_normal_form.specs.Form as Nf
@@ -29,6 +29,11 @@ Exactly zero (fcons t ts) = ⊥
 Exactly (suc n) fnil = ⊥
 Exactly (suc n) (fcons t ts) = Exactly n ts
 
+-- a calendar's number is one byte
+abbrev pub OpInRange : Fun → Type 0
+OpInRange choice = Unit {0}
+OpInRange (isOpen n c) = n < 256
+
 -- constants are "signed, four bytes each"; a field's index and a table's number are one byte; an operator has as many terms as it takes
 abbrev mutual
   pub InRange : Term → Type 0
@@ -37,7 +42,7 @@ abbrev mutual
   InRange (name x) = Unit {0}
   InRange (field i t) = (i < 256) × InRange t
   InRange (rec ts) = InRangeL ts
-  InRange (app f ts) = ExactlyL (arity f) ts × InRangeL ts
+  InRange (app f ts) = ExactlyL (arity f) ts × InRangeL ts × OpInRange f
   InRange (bin o s t) = InRange s × InRange t
   InRange (negate t) = InRange t
   InRange (comp m qs h) = InRangeQ qs × InRange h
@@ -64,7 +69,7 @@ abbrev mutual
   Ranged (Nf.row g) = Unit {0}
   Ranged (Nf.cell i g) = i < 256
   Ranged (Nf.rec ts) = RangedF ts
-  Ranged (Nf.app f ts) = Exactly (arity f) ts × RangedF ts
+  Ranged (Nf.app f ts) = Exactly (arity f) ts × RangedF ts × OpInRange f
   Ranged (Nf.bin o s t) = Ranged s × Ranged t
   Ranged (Nf.negate t) = Ranged t
   Ranged (Nf.comp m q h) = RangedC q × Ranged h
@@ -203,7 +208,7 @@ module _ (K : ℕ → Collection) where
     norm-writes (name x) r δ e = e x
     norm-writes (field i t) r δ e = part-writes i (norm K t δ) (r .0) (norm-writes t (r .1) δ e)
     norm-writes (rec ts) r δ e = norms-write ts r δ e
-    norm-writes (app f ts) r δ e = λ n. (exactly-written (arity f) ts δ n (r .0), quotes-write (norms K ts δ) (norms-write ts (r .1) δ e) n)
+    norm-writes (app f ts) r δ e = λ n. (exactly-written (arity f) ts δ n (r .0), quotes-write (norms K ts δ) (norms-write ts (r .1) δ e) n, r .2)
     norm-writes (bin o s t) r δ e = binary-writes o (norm K s δ) (norm K t δ) (norm-writes s (r .0) δ e) (norm-writes t (r .1) δ e)
     norm-writes (negate t) r δ e = λ n. quote-writes (norm K t δ) (norm-writes t r δ e) n
     norm-writes (comp m qs t) r δ e = λ b n. walk-writes qs (r .0) (b || idempotent m) (λ ε. norm K t ε) (λ ε f. norm-writes t (r .1) ε f) δ n e

@@ -6,7 +6,7 @@ use lib.Dec.{leb}
 use lib.IntN.{natAbs}
 use lib.ListN.{getD}
 use Rattle.spec_calculus.specs.Lists.{pick}
-use Rattle.spec_calculus.specs.Syntax.{Monoid, of, sum, max, min, some, all, Bin, plus, minus, times, equal, less, and, or, Fun, choice}
+use Rattle.spec_calculus.specs.Syntax.{Monoid, of, sum, max, min, some, all, Bin, plus, minus, times, equal, less, and, or, Fun, choice, isOpen}
 use Rattle.spec_normal_form.specs.Form.{Form, Forms, Clauses, NormalForm, asForm, num, truth, row, cell, rec, bin, negate, app, comp, fnil, fcons, done, gen, cond}
 
 -- a comprehension's own generators
@@ -29,9 +29,10 @@ binBound or a b = 0
 unfoldable pub larger : ℕ → ℕ → ℕ
 larger a b = pick (leb a b) b a
 
--- of an operator, by the bounds of its terms, in their order
+-- of an operator, by the bounds of its terms, in their order; an open minute is a truth and has none (document 02, E4)
 unfoldable pub appBound : Fun → List ℕ → ℕ
 appBound choice bs = larger (getD bs 1 0) (getD bs 2 0)
+appBound (isOpen n c) bs = 0
 
 -- "max its head's; sum its head's times 1,024 for each generator"; "The bound of a max is still its head's." "monoid 8, min, with .. max's
 -- bound" (document 02, E1)

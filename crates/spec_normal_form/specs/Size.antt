@@ -12,7 +12,7 @@ unfoldable mutual
   nodes (row g) = 1
   nodes (cell i g) = 2
   nodes (rec ts) = 1 + nodesF ts
-  nodes (app f ts) = 1 + nodesF ts  -- "It is one node." (document 02, E2)
+  nodes (app f ts) = 1 + nodesF ts  -- "It is one node." (document 02, E2; so is E4's: "each term")
   nodes (bin o s t) = 1 + (nodes s + nodes t)
   nodes (negate t) = 1 + nodes t
   nodes (comp m q h) = 1 + (nodesC q + nodes h)

@@ -21,7 +21,7 @@ use Rattle.spec_plan.specs.Planner.{planOf}
 use Rattle.spec_plan.specs.Operators.{planValue}
 use Rattle.spec_plan.proofs.NumberedIsScoped.{unnesting-numbered}
 use Rattle.spec_outcome.specs.WrittenForm.{words}
-use Rattle.spec_outcome.specs.Acceptance.{Accepted, examine}
+use Rattle.spec_outcome.specs.Acceptance.{Lent, Accepted, examine}
 use Rattle.spec_outcome.specs.Outcome.{Outcome, Answer, scratchWords, settled, withScratch, G, written, answered, looped, byLoops, planned, byPlan}
 use Rattle.spec_outcome.proofs.Checks.{got-is, passed, Passed, examined, numbers, examine-only}
 
@@ -41,7 +41,7 @@ after (refused n) j k h = refl
 after (got a) j k h = h a refl
 
 -- Whatever was lent, both ways of answering have the same outcome: number, length, buffer and scratch.
-pub same-outcome : (d l : Bytes) (s : List ℕ) (b : List ℤ) → byPlan d l s b ≡ byLoops d l s b
+pub same-outcome : (d : Bytes) (l : Lent) (s : List ℕ) (b : List ℤ) → byPlan d l s b ≡ byLoops d l s b
 unfolding byPlan byLoops answered written
 same-outcome d l s b = ap (withScratch scratchWords s b) (after (examine d l) (written planned b) (written looped b) (λ a e.
     ap (λ v. require 32 (leb (G a) (length b)) (got (record { size = length (words v); front = words v ++ replicate (G a - length (words v)) (pos 0) }))) (same-value a (examined d l a e))))
@@ -106,9 +106,9 @@ unfolding written
 written-only v b r h = only-then (λ n. n ≡ 0 → ⊥) r (written v b) h (λ a. only-require (λ n. n ≡ 0 → ⊥) 32 _ _ (λ e. absurd (omega arith)) tt)
 
 not-zero : All (λ n. n ≡ 0 → ⊥) numbers
-not-zero = (λ e. absurd (omega arith), (λ e. absurd (omega arith), (λ e. absurd (omega arith), (λ e. absurd (omega arith), (λ e. absurd (omega arith), (λ e. absurd (omega arith), (λ e. absurd (omega arith), (λ e. absurd (omega arith), (λ e. absurd (omega arith), (λ e. absurd (omega arith), (λ e. absurd (omega arith), (λ e. absurd (omega arith), (λ e. absurd (omega arith), (λ e. absurd (omega arith), tt))))))))))))))
+not-zero = (λ e. absurd (omega arith), (λ e. absurd (omega arith), (λ e. absurd (omega arith), (λ e. absurd (omega arith), (λ e. absurd (omega arith), (λ e. absurd (omega arith), (λ e. absurd (omega arith), (λ e. absurd (omega arith), (λ e. absurd (omega arith), (λ e. absurd (omega arith), (λ e. absurd (omega arith), (λ e. absurd (omega arith), (λ e. absurd (omega arith), (λ e. absurd (omega arith), (λ e. absurd (omega arith), (λ e. absurd (omega arith), tt))))))))))))))))
 
-answered-same : (v : Accepted → Value) (d l : Bytes) (s s′ : List ℕ) (b b′ : List ℤ) → length s ≡ length s′ → length b ≡ length b′ → SameAnswer (wordsOf (examine d l)) (answered scratchWords v d l s b) (answered scratchWords v d l s′ b′)
+answered-same : (v : Accepted → Value) (d : Bytes) (l : Lent) (s s′ : List ℕ) (b b′ : List ℤ) → length s ≡ length s′ → length b ≡ length b′ → SameAnswer (wordsOf (examine d l)) (answered scratchWords v d l s b) (answered scratchWords v d l s′ b′)
 unfolding answered
 answered-same v d l s s′ b b′ e f =
     let g = wordsOf (examine d l) in
@@ -121,6 +121,6 @@ answered-same v d l s s′ b b′ e f =
 
 -- Demand 3: for all answer buffers of one length and all scratch of one length, whatever they held before, answering by plan
 -- and answering by loops give the same number, 0 or a refusal's, the same length and the same answer words.
-pub outcomes-agree : (d l : Bytes) (s s′ : List ℕ) (b b′ : List ℤ) → length s ≡ length s′ → length b ≡ length b′ → SameAnswer (wordsOf (examine d l)) (byPlan d l s b) (byLoops d l s′ b′)
+pub outcomes-agree : (d : Bytes) (l : Lent) (s s′ : List ℕ) (b b′ : List ℤ) → length s ≡ length s′ → length b ≡ length b′ → SameAnswer (wordsOf (examine d l)) (byPlan d l s b) (byLoops d l s′ b′)
 unfolding byLoops
 outcomes-agree d l s s′ b b′ e f = rw (same-outcome d l s b) (answered-same (λ a. meaning canonical (a .tables) (a .question)) d l s s′ b b′ e f)

@@ -18,6 +18,7 @@ use Rattle.spec_encoding.specs.Record.{Bytes, Result, refused, got, andThen, re
 use Rattle.spec_encoding.specs.Data.{isKind, fits, tableNumber, toColumns, toRows, Octets, TableRecord, tableBy, bounded, tablesFrom, noTables, readData}
 use Rattle.spec_encoding.proofs.Refusals.{Only, only-require}
 use Rattle.spec_encoding.proofs.ColumnRecords.{to-columns-record, to-rows-record, to-columns-length, to-rows-length, to-columns-number, to-rows-number, rows-undo-columns, columns-undo-rows, to-columns-table, to-rows-table}
+use Rattle.spec_outcome.specs.Acceptance.{Lent}
 use Rattle.spec_outcome.specs.Outcome.{checked, planLines}
 use Rattle.spec_outcome.specs.RowOrder.{Rereads, Rewritten, Way, by}
 use Rattle.spec_outcome.specs.Directions.{Filled, filled, isAlone, turned, tableToColumns, tableToRows, Turned, rest, same, columns, rows}
@@ -64,7 +65,7 @@ module _ {d e : Bytes} (E : Turned d e) where
   turned-read = turned-from E 8 noTables
 
   -- "with the same answers": the outcome of each call.
-  module _ (q : Bytes) where
+  module _ (q : Lent) where
     pub turned-answered : (w : Way) (s : List ℕ) (b : List ℤ) → by w d q s b ≡ by w e q s b
     turned-answered = answered-same d e q turned-read
 

@@ -18,7 +18,7 @@ use Rattle.spec_calculus.proofs.Sorting.{rearranged-sym}
 use Rattle.spec_encoding.specs.Record.{Bytes, Result, refused, got, require, lengthOf, kindOf, contentOf, behind, isWhole}
 use Rattle.spec_encoding.specs.Data.{isKind, isTable, fits, tableNumber, tableBy, bounded, tablesFrom, noTables, readData}
 use Rattle.spec_encoding.proofs.Data.{table-by-read}
-use Rattle.spec_outcome.specs.Acceptance.{examine}
+use Rattle.spec_outcome.specs.Acceptance.{Lent, examine}
 use Rattle.spec_outcome.specs.Outcome.{checked, planLines}
 use Rattle.spec_outcome.specs.RowOrder.{Way, by}
 use Rattle.spec_outcome.specs.RecordOrder.{WholeRecord, dataOf}
@@ -224,7 +224,7 @@ bytes-same (trans P Q) = bytes-same P ∙ bytes-same Q
 -- ---- the outcomes
 -- "The same records in another order give the same answer": whatever else is lent, number, length, buffer and scratch are the same, by loops, by plan, from the
 -- checker and from the plan call; where the question is refused, too.
-module _ {rs us : List WholeRecord} (P : Rearranged rs us) {T : Tables} (t : readData (dataOf rs) ≡ got T) (l : Bytes) where
+module _ {rs us : List WholeRecord} (P : Rearranged rs us) {T : Tables} (t : readData (dataOf rs) ≡ got T) (l : Lent) where
   same-read : readData (dataOf rs) ≡ readData (dataOf us)
   same-read = t ∙ sym (read-any-order P t)
 

@@ -20,9 +20,9 @@ use Rattle.spec_calculus.proofs.Folds.{alike-arranged, canonical-of}
 use Rattle.spec_calculus.proofs.StoredTables.{eval-same}
 use Rattle.spec_encoding.specs.Record.{Bytes, Result, refused, got, andThen, require}
 use Rattle.spec_encoding.specs.Data.{readData}
-use Rattle.spec_encoding.specs.Reader.{readQuestion}
 use Rattle.spec_encoding.proofs.Refusals.{Only}
 use Rattle.spec_checks.specs.Scope.{namesHold}
+use Rattle.spec_checks.specs.Calendars.{calendarsLent}
 use Rattle.spec_checks.specs.Types.{wrong, typeOf, mayStand, isTyped, typesFit, generatorsFit}
 use Rattle.spec_checks.proofs.StoredTables.{type-same}
 use Rattle.spec_normal_form.specs.Form.{NormalForm, asForm, normalValue}
@@ -33,11 +33,11 @@ use Rattle.spec_normal_form.proofs.StoredTables.{sorted, value-sorted}
 use Rattle.spec_plan.specs.Planner.{planOf}
 use Rattle.spec_plan.specs.Lines.{lines}
 use Rattle.spec_outcome.specs.WrittenForm.{words}
-use Rattle.spec_outcome.specs.Acceptance.{Accepted, judge, examine}
+use Rattle.spec_outcome.specs.Acceptance.{Lent, Posed, readLent, Accepted, judge, examine}
 use Rattle.spec_outcome.specs.Outcome.{Outcome, Answer, scratchWords, settled, withScratch, G, written, answered, looped, byLoops, byPlan, checked, printed, planLines}
 use Rattle.spec_outcome.specs.RowOrder.{Reordered, Restated, Restates, Rereads, Way, looping, planning, by, SameWords}
 use Rattle.spec_outcome.proofs.AnswerLength.{Keeping, kept-length}
-use Rattle.spec_outcome.proofs.CheckOrder.{data-refused, question-refused, judged-as}
+use Rattle.spec_outcome.proofs.CheckOrder.{data-refused, unread, judged-as}
 use Rattle.spec_outcome.proofs.Checks.{examine-only}
 use Rattle.spec_outcome.proofs.Agreement.{same-outcome, wordsOf, scratch-short, scratch-long}
 
@@ -73,11 +73,11 @@ raw-length T U rows f = sym (kept-length sorted sorted-keeps T f) ∙ ap (λ v. 
 
 -- ---- the checks: both states pass or fail them alike
 -- what the checks hand on of a question over tables
-abbrev accepted : Tables → Question → Accepted
-accepted T q = record { tables = T; question = q; form = normal (kindOf T) q }
+abbrev accepted : Tables → Posed → Accepted
+accepted T p = record { tables = T; lent = p .lent; question = p .question; form = normal (kindOf T) (p .question) }
 
-abbrev tests : Bool → Bool → Bool → Bool → Bool → Accepted → Result Accepted
-tests n t g z m a = require 24 n (require 25 t (require 26 g (require 27 z (require 28 m (got a)))))
+abbrev tests : Bool → Bool → Bool → Bool → Bool → Bool → Accepted → Result Accepted
+tests n t c g z m a = require 24 n (require 25 t (require 42 c (require 26 g (require 27 z (require 28 m (got a))))))
 
 module _ (T U : Tables) (S : Restates Alike T U) where
   kinds-same : (k : ℕ) → kindOf T k ≡ kindOf U k
@@ -111,39 +111,46 @@ module _ (T U : Tables) (S : Restates Alike T U) where
   typed-same : (J : Collection → Monoid → Bool) (q : Question) → typeOf J T (asTerm q) (λ x. wrong) ≡ typeOf J U (asTerm q) (λ x. wrong)
   typed-same J q = type-same J T U kinds-same columns-same (asTerm q) (λ x. wrong)
 
-  judge-as : (q : Question) → judge U q ≡ tests (namesHold q) (typesFit T q) (generatorsFit T q) (sizeFits (normal (kindOf T) q)) (numbersFit (boundOf T) (normal (kindOf T) q)) (accepted U q)
+  judge-as : (p : Posed) → let q = p .question in judge U (p .lent) q ≡ tests (namesHold q) (typesFit T q) (calendarsLent (p .lent) q) (generatorsFit T q) (sizeFits (normal (kindOf T) q)) (numbersFit (boundOf T) (normal (kindOf T) q)) (accepted U p)
   unfolding judge typesFit generatorsFit
-  judge-as q = sym (
-      ap (λ b. tests (namesHold q) b (generatorsFit T q) (sizeFits (normal (kindOf T) q)) (numbersFit (boundOf T) (normal (kindOf T) q)) (accepted U q)) (ap isTyped (typed-same (λ c m. true) q))
-      ∙ ap (λ b. tests (namesHold q) (typesFit U q) b (sizeFits (normal (kindOf T) q)) (numbersFit (boundOf T) (normal (kindOf T) q)) (accepted U q)) (ap isTyped (typed-same mayStand q))
-      ∙ ap (λ f. tests (namesHold q) (typesFit U q) (generatorsFit U q) (sizeFits f) (numbersFit (boundOf T) f) (accepted U q)) (form-same q)
-      ∙ ap (λ B. tests (namesHold q) (typesFit U q) (generatorsFit U q) (sizeFits (normal (kindOf U) q)) (numbersFit B (normal (kindOf U) q)) (accepted U q)) bounds-same)
+  judge-as p =
+      let q = p .question in
+      let c = calendarsLent (p .lent) q in
+      sym (
+      ap (λ b. tests (namesHold q) b c (generatorsFit T q) (sizeFits (normal (kindOf T) q)) (numbersFit (boundOf T) (normal (kindOf T) q)) (accepted U p)) (ap isTyped (typed-same (λ c m. true) q))
+      ∙ ap (λ b. tests (namesHold q) (typesFit U q) c b (sizeFits (normal (kindOf T) q)) (numbersFit (boundOf T) (normal (kindOf T) q)) (accepted U p)) (ap isTyped (typed-same mayStand q))
+      ∙ ap (λ f. tests (namesHold q) (typesFit U q) c (generatorsFit U q) (sizeFits f) (numbersFit (boundOf T) f) (accepted U p)) (form-same q)
+      ∙ ap (λ B. tests (namesHold q) (typesFit U q) c (generatorsFit U q) (sizeFits (normal (kindOf U) q)) (numbersFit B (normal (kindOf U) q)) (accepted U p)) bounds-same)
 
   -- what holds of equal refusals and of what k and k′ make of an accepted question holds of what they make of any
-  module _ {A : Type 0} (P : Result A → Result A → Type 0) (refusals : (n : ℕ) → P (refused n) (refused n)) (k k′ : Accepted → Result A) (h : (q : Question) → P (k (accepted T q)) (k′ (accepted U q))) where
-    tests-both : (n t g z m : Bool) (x y : Accepted) → P (k x) (k′ y) → P (andThen (tests n t g z m x) k) (andThen (tests n t g z m y) k′)
+  module _ {A : Type 0} (P : Result A → Result A → Type 0) (refusals : (n : ℕ) → P (refused n) (refused n)) (k k′ : Accepted → Result A) (h : (p : Posed) → P (k (accepted T p)) (k′ (accepted U p))) where
+    tests-both : (n t c g z m : Bool) (x y : Accepted) → P (k x) (k′ y) → P (andThen (tests n t c g z m x) k) (andThen (tests n t c g z m y) k′)
     unfolding andThen require
-    tests-both false t g z m x y p = refusals 24
-    tests-both true false g z m x y p = refusals 25
-    tests-both true true false z m x y p = refusals 26
-    tests-both true true true false m x y p = refusals 27
-    tests-both true true true true false x y p = refusals 28
-    tests-both true true true true true x y p = p
+    tests-both false t c g z m x y p = refusals 24
+    tests-both true false c g z m x y p = refusals 25
+    tests-both true true false g z m x y p = refusals 42
+    tests-both true true true false z m x y p = refusals 26
+    tests-both true true true true false m x y p = refusals 27
+    tests-both true true true true true false x y p = refusals 28
+    tests-both true true true true true true x y p = p
 
-    judged-both : (q : Question) → P (andThen (judge T q) k) (andThen (judge U q) k′)
+    judged-both : (p : Posed) → P (andThen (judge T (p .lent) (p .question)) k) (andThen (judge U (p .lent) (p .question)) k′)
     unfolding judge
-    judged-both q = subst (λ r. P (andThen (judge T q) k) (andThen r k′)) (sym (judge-as q)) (tests-both (namesHold q) (typesFit T q) (generatorsFit T q) (sizeFits (normal (kindOf T) q)) (numbersFit (boundOf T) (normal (kindOf T) q)) (accepted T q) (accepted U q) (h q))
+    judged-both p =
+        let q = p .question in
+        subst (λ r. P (andThen (judge T (p .lent) q) k) (andThen r k′)) (sym (judge-as p))
+        (tests-both (namesHold q) (typesFit T q) (calendarsLent (p .lent) q) (generatorsFit T q) (sizeFits (normal (kindOf T) q)) (numbersFit (boundOf T) (normal (kindOf T) q)) (accepted T p) (accepted U p) (h p))
 
 -- ---- data that are refused alike, or read as tables in two states
 module _ (R : Collection → List Value → List Value → Type 0) (R-alike : (T U : Tables) → Restates R T U → Restates Alike T U) {A : Type 0} (P : Result A → Result A → Type 0) (refusals : (n : ℕ) → P (refused n) (refused n))
-    (k k′ : Accepted → Result A) (h : (T U : Tables) → Restates R T U → (q : Question) → P (k (accepted T q)) (k′ (accepted U q))) (d d′ l : Bytes) where
+    (k k′ : Accepted → Result A) (h : (T U : Tables) → Restates R T U → (p : Posed) → P (k (accepted T p)) (k′ (accepted U p))) (d d′ : Bytes) (l : Lent) where
   read-both : {T U : Tables} → readData d ≡ got T → readData d′ ≡ got U → Restates R T U → P (andThen (examine d l) k) (andThen (examine d′ l) k′)
   unfolding andThen
-  read-both {T} {U} t u S = go (readQuestion l) refl
+  read-both {T} {U} t u S = go (readLent l) refl
     where
-      go : (r : Result Question) → readQuestion l ≡ r → P (andThen (examine d l) k) (andThen (examine d′ l) k′)
-      go (refused n) e = rw (question-refused d l t e, question-refused d′ l u e) (refusals n)
-      go (got q) e = rw (judged-as d l t e, judged-as d′ l u e) (judged-both T U (R-alike T U S) P refusals k k′ (h T U S) q)
+      go : (r : Result Posed) → readLent l ≡ r → P (andThen (examine d l) k) (andThen (examine d′ l) k′)
+      go (refused n) e = rw (unread d l t e, unread d′ l u e) (refusals n)
+      go (got p) e = rw (judged-as d l t e, judged-as d′ l u e) (judged-both T U (R-alike T U S) P refusals k k′ (h T U S) p)
 
   examined-both : Rereads R (readData d) (readData d′) → P (andThen (examine d l) k) (andThen (examine d′ l) k′)
   unfolding andThen
@@ -166,22 +173,22 @@ module _ (T U : Tables) (S : Restates Reordered T U) where
       go bag e = e
       go set e = e
 
-  G-same : (q : Question) → G (accepted T q) ≡ G (accepted U q)
+  G-same : (p : Posed) → G (accepted T p) ≡ G (accepted U p)
   unfolding G
-  G-same q = raw-length T U rows-rearranged (normal (kindOf T) q) ∙ ap (λ f. length (words (normalValue raw U f))) (form-same T U (reordered-restates T U S) q)
+  G-same p = raw-length T U rows-rearranged (normal (kindOf T) (p .question)) ∙ ap (λ f. length (words (normalValue raw U f))) (form-same T U (reordered-restates T U S) (p .question))
 
-  written-same : (b : List ℤ) (q : Question) → written looped b (accepted T q) ≡ written looped b (accepted U q)
+  written-same : (b : List ℤ) (p : Posed) → written looped b (accepted T p) ≡ written looped b (accepted U p)
   unfolding written
-  written-same b q = ap₂ (λ v g. require 32 (leb g (length b)) (got (record { size = length (words v); front = words v ++ replicate (g - length (words v)) (pos 0) })))
-      (value-same T U (reordered-restates T U S) q) (G-same q)
+  written-same b p = ap₂ (λ v g. require 32 (leb g (length b)) (got (record { size = length (words v); front = words v ++ replicate (g - length (words v)) (pos 0) })))
+      (value-same T U (reordered-restates T U S) (p .question)) (G-same p)
 
-  printed-same : (b : List ℕ) (q : Question) → printed b (accepted T q) ≡ printed b (accepted U q)
+  printed-same : (b : List ℕ) (p : Posed) → printed b (accepted T p) ≡ printed b (accepted U p)
   unfolding printed
-  printed-same b q = ap (λ f. require 33 (leb (length (lines (planOf f))) (length b)) (got (record { size = length (lines (planOf f)); front = lines (planOf f) }))) (form-same T U (reordered-restates T U S) q)
+  printed-same b p = ap (λ f. require 33 (leb (length (lines (planOf f))) (length b)) (got (record { size = length (lines (planOf f)); front = lines (planOf f) }))) (form-same T U (reordered-restates T U S) (p .question))
 
 -- Whatever else is lent, number, length, buffer and scratch are the same, by loops, by plan, from the checker and from the plan call.
-module _ (d d′ l : Bytes) (S : Rereads Reordered (readData d) (readData d′)) where
-  same-results : {A : Type 0} (k : Accepted → Result A) → ((T U : Tables) → Restates Reordered T U → (q : Question) → k (accepted T q) ≡ k (accepted U q)) → andThen (examine d l) k ≡ andThen (examine d′ l) k
+module _ (d d′ : Bytes) (l : Lent) (S : Rereads Reordered (readData d) (readData d′)) where
+  same-results : {A : Type 0} (k : Accepted → Result A) → ((T U : Tables) → Restates Reordered T U → (p : Posed) → k (accepted T p) ≡ k (accepted U p)) → andThen (examine d l) k ≡ andThen (examine d′ l) k
   same-results k h = examined-both Reordered reordered-restates (λ x y. x ≡ y) (λ n. refl) k k h d d′ l S
 
   loops-ordered : (s : List ℕ) (b : List ℤ) → byLoops d l s b ≡ byLoops d′ l s b
@@ -246,7 +253,7 @@ scratch-words s s′ b b′ x y e a = go (ltb (length s) scratchWords) refl
     go false p = let m = ltb-false (length s) scratchWords p in rw (scratch-long s b x m, scratch-long {least = scratchWords} s′ b′ y (omega (arith, e, m))) (settled-words s s′ b b′ x y a)
 
 -- a buffer of G words or more is not refused by 32
-module _ (d l : Bytes) (s : List ℕ) (b : List ℤ) (g : wordsOf (examine d l) ≤ length b) where
+module _ (d : Bytes) (l : Lent) (s : List ℕ) (b : List ℤ) (g : wordsOf (examine d l) ≤ length b) where
   written-else : (r : Result Accepted) → wordsOf r ≤ length b → Only (λ n. eqb n 32 ≡ false) r → Only (λ n. eqb n 32 ≡ false) (andThen r (written looped b))
   unfolding andThen written wordsOf require
   written-else (refused n) h o = o
@@ -262,19 +269,19 @@ module _ (d l : Bytes) (s : List ℕ) (b : List ℤ) (g : wordsOf (examine d l) 
   loops-suffice e = true≢false (sym (ap (λ n. eqb n 32) e) ∙ go (ltb (length s) scratchWords) refl)
     where
       other : Only (λ n. eqb n 32 ≡ false) (andThen (examine d l) (written looped b))
-      other = written-else (examine d l) g (examine-only (λ n. eqb n 32 ≡ false) (refl, (refl, (refl, (refl, (refl, (refl, (refl, (refl, (refl, (refl, (refl, (refl, (refl, (refl, tt)))))))))))))) d l)
+      other = written-else (examine d l) g (examine-only (λ n. eqb n 32 ≡ false) (refl, (refl, (refl, (refl, (refl, (refl, (refl, (refl, (refl, (refl, (refl, (refl, (refl, (refl, (refl, (refl, tt)))))))))))))))) d l)
 
       go : (c : Bool) → ltb (length s) scratchWords ≡ c → eqb (withScratch scratchWords s b (andThen (examine d l) (written looped b)) .number) 32 ≡ false
       go true p = ap (λ (o : Outcome ℤ). eqb (o .number) 32) (scratch-short s b (andThen (examine d l) (written looped b)) (ltb-true (length s) scratchWords p))
       go false p = ap (λ (o : Outcome ℤ). eqb (o .number) 32) (scratch-long s b (andThen (examine d l) (written looped b)) (ltb-false (length s) scratchWords p)) ∙ settled-else (andThen (examine d l) (written looped b)) other
 
 -- The buffers may be of any two lengths, if each has room for its state's G words.
-module _ (d d′ l : Bytes) (S : Rereads Alike (readData d) (readData d′)) (s s′ : List ℕ) (b b′ : List ℤ) (e : length s ≡ length s′) (g : wordsOf (examine d l) ≤ length b) (g′ : wordsOf (examine d′ l) ≤ length b′) where
+module _ (d d′ : Bytes) (l : Lent) (S : Rereads Alike (readData d) (readData d′)) (s s′ : List ℕ) (b b′ : List ℤ) (e : length s ≡ length s′) (g : wordsOf (examine d l) ≤ length b) (g′ : wordsOf (examine d′ l) ≤ length b′) where
   loops-repeated : SameWords (byLoops d l s b) (byLoops d′ l s′ b′)
   unfolding byLoops answered
   loops-repeated = scratch-words s s′ b b′ (andThen (examine d l) (written looped b)) (andThen (examine d′ l) (written looped b′)) e
       (examined-both Alike (λ T U R. R) (λ x y. Suffices x → Suffices y → Answers x y) (λ n h k. refl) (written looped b) (written looped b′)
-      (λ T U R q. written-answers looped b b′ (accepted T q) (accepted U q) (value-same T U R q)) d d′ l S)
+      (λ T U R p. written-answers looped b b′ (accepted T p) (accepted U p) (value-same T U R (p .question))) d d′ l S)
       (loops-suffice d l s b g) (loops-suffice d′ l s′ b′ g′)
 
   pub any-repeats : (w : Way) → SameWords (by w d l s b) (by w d′ l s′ b′)

@@ -5,15 +5,14 @@ use Prim.Native.Nat.{ℕ}
 use lib.IntN.{ℤ}
 use Rattle.spec_encoding.specs.Record.{Bytes, Result, got, andThen}
 use Rattle.spec_encoding.specs.Data.{readData}
-use Rattle.spec_encoding.specs.Reader.{readQuestion}
-use Rattle.spec_outcome.specs.Acceptance.{Accepted, judge, examine}
+use Rattle.spec_outcome.specs.Acceptance.{Lent, readLent, Accepted, judge, examine}
 use Rattle.spec_outcome.specs.Outcome.{Answer, scratchWords, withScratch, written, answered, looped, byLoops, planned, byPlan, checked, printed, planLines}
 use Rattle.spec_outcome.specs.RowOrder.{Way, looping, planning, by}
 
-module _ (d e l : Bytes) (h : readData d ≡ readData e) where
+module _ (d e : Bytes) (l : Lent) (h : readData d ≡ readData e) where
   pub examined-same : examine d l ≡ examine e l
   unfolding examine
-  examined-same = ap (λ r. andThen r (λ T. andThen (readQuestion l) (λ q. judge T q))) h
+  examined-same = ap (λ r. andThen r (λ T. andThen (readLent l) (λ p. judge T (p .lent) (p .question)))) h
 
   settled-same : {A : Type 0} (s : List ℕ) (b : List A) (k : Accepted → Result (Answer A))
       → withScratch scratchWords s b (andThen (examine d l) k) ≡ withScratch scratchWords s b (andThen (examine e l) k)

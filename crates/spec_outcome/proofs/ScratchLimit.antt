@@ -8,7 +8,7 @@ use lib.ListN.{length}
 use lib.IntN.{ℤ}
 use Rattle.spec_calculus.specs.Value.{Value}
 use Rattle.spec_encoding.specs.Record.{Bytes, Result, refused, got, andThen}
-use Rattle.spec_outcome.specs.Acceptance.{Accepted, examine}
+use Rattle.spec_outcome.specs.Acceptance.{Lent, Accepted, examine}
 use Rattle.spec_outcome.specs.Outcome.{Answer, scratchWords, settled, withScratch, written, answered, looped, byLoops, planned, byPlan, checkedWith, checked, printed, planLinesWith, planLines}
 use Rattle.spec_outcome.specs.ScratchLimit.{formerWords, SameReply}
 use Rattle.spec_outcome.proofs.Agreement.{scratch-long}
@@ -22,7 +22,7 @@ any-least : {A : Type 0} {m n : ℕ} (s t : List ℕ) (b : List A) (r : Result (
 any-least {m = m} {n} s t b r h k = rw (scratch-long s b r h, scratch-long t b r k) (settled-alike m n s t b r)
 
 -- whatever the least numbers of words are
-module _ {m n : ℕ} (d l : Bytes) (s t : List ℕ) (h : m ≤ length s) (k : n ≤ length t) where
+module _ {m n : ℕ} (d : Bytes) (l : Lent) (s t : List ℕ) (h : m ≤ length s) (k : n ≤ length t) where
   pub checked-alike : SameReply (checkedWith m d l s) (checkedWith n d l t)
   checked-alike = any-least s t [] (andThen (examine d l) (λ a. got (record { size = 0; front = [] }))) h k
 
@@ -34,7 +34,7 @@ module _ {m n : ℕ} (d l : Bytes) (s t : List ℕ) (h : m ≤ length s) (k : n 
   lines-alike b = any-least s t b (andThen (examine d l) (printed b)) h k
 
 -- The number that was in force and the one that is: the checker, by loops, by plan, the plan call.
-module _ (d l : Bytes) (s t : List ℕ) (h : formerWords ≤ length s) (k : scratchWords ≤ length t) where
+module _ (d : Bytes) (l : Lent) (s t : List ℕ) (h : formerWords ≤ length s) (k : scratchWords ≤ length t) where
   pub checked-served : SameReply (checkedWith formerWords d l s) (checked d l t)
   unfolding checked
   checked-served = checked-alike d l s t h k

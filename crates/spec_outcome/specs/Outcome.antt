@@ -14,7 +14,7 @@ use Rattle.spec_plan.specs.Planner.{planOf}
 use Rattle.spec_plan.specs.Operators.{planValue}
 use Rattle.spec_plan.specs.Lines.{lines}
 use Rattle.spec_outcome.specs.WrittenForm.{words}
-use Rattle.spec_outcome.specs.Acceptance.{Accepted, examine}
+use Rattle.spec_outcome.specs.Acceptance.{Lent, Accepted, examine}
 
 -- number, length, the lent buffer and scratch afterwards
 pub record Outcome (A : Type 0) : Type 0 where
@@ -59,28 +59,28 @@ written value b a =
     let ws = words (value a) in
     require 32 (leb (G a) (length b)) (got (record { size = length ws; front = ws ++ replicate (G a - length ws) (pos 0) }))
 
-unfoldable pub answered : ℕ → (Accepted → Value) → Bytes → Bytes → List ℕ → List ℤ → Outcome ℤ
+unfoldable pub answered : ℕ → (Accepted → Value) → Bytes → Lent → List ℕ → List ℤ → Outcome ℤ
 answered least value d l s b = withScratch least s b (andThen (examine d l) (written value b))
 
 -- "The checker takes no answer buffer and ends after 28": its buffer is empty, and so is what it writes
-abbrev pub checkedWith : ℕ → Bytes → Bytes → List ℕ → Outcome ℕ
+abbrev pub checkedWith : ℕ → Bytes → Lent → List ℕ → Outcome ℕ
 checkedWith least d l s = withScratch least s [] (andThen (examine d l) (λ a. got (record { size = 0; front = [] })))
 
-unfoldable pub checked : Bytes → Bytes → List ℕ → Outcome ℕ
+unfoldable pub checked : Bytes → Lent → List ℕ → Outcome ℕ
 checked = checkedWith scratchWords
 
 -- answering by loops: the value of the question as typed
 abbrev pub looped : Accepted → Value
 looped a = meaning canonical (a .tables) (a .question)
 
-unfoldable pub byLoops : Bytes → Bytes → List ℕ → List ℤ → Outcome ℤ
+unfoldable pub byLoops : Bytes → Lent → List ℕ → List ℤ → Outcome ℤ
 byLoops = answered scratchWords looped
 
 -- answering by plan: the value of the plan under the operators' definitions
 abbrev pub planned : Accepted → Value
 planned a = planValue canonical (a .tables) (planOf (a .form))
 
-unfoldable pub byPlan : Bytes → Bytes → List ℕ → List ℤ → Outcome ℤ
+unfoldable pub byPlan : Bytes → Lent → List ℕ → List ℤ → Outcome ℤ
 byPlan = answered scratchWords planned
 
 -- "One more call writes the plan's lines .. into a lent byte buffer; its length is in bytes." "33: the plan call's byte
@@ -90,8 +90,8 @@ printed b a =
     let l = lines (planOf (a .form)) in
     require 33 (leb (length l) (length b)) (got (record { size = length l; front = l }))
 
-abbrev pub planLinesWith : ℕ → Bytes → Bytes → List ℕ → List ℕ → Outcome ℕ
+abbrev pub planLinesWith : ℕ → Bytes → Lent → List ℕ → List ℕ → Outcome ℕ
 planLinesWith least d l s b = withScratch least s b (andThen (examine d l) (printed b))
 
-unfoldable pub planLines : Bytes → Bytes → List ℕ → List ℕ → Outcome ℕ
+unfoldable pub planLines : Bytes → Lent → List ℕ → List ℕ → Outcome ℕ
 planLines = planLinesWith scratchWords

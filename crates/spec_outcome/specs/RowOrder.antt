@@ -13,6 +13,7 @@ use Rattle.spec_calculus.specs.Rearrangement.{Rearranged}
 use Rattle.spec_calculus.proofs.Lists.{All}
 use Rattle.spec_encoding.specs.Record.{Bytes, Result, refused, got}
 use Rattle.spec_encoding.specs.Data.{collectionOf}
+use Rattle.spec_outcome.specs.Acceptance.{Lent}
 use Rattle.spec_outcome.specs.Outcome.{Outcome, byLoops, byPlan}
 
 -- ---- tables that were read
@@ -79,7 +80,7 @@ pub data Rewritten (R : Collection → List Bytes → List Bytes → Type 0) : B
 pub data Way : Type 0 where
   looping planning : Way
 
-abbrev pub by : Way → Bytes → Bytes → List ℕ → List ℤ → Outcome ℤ
+abbrev pub by : Way → Bytes → Lent → List ℕ → List ℤ → Outcome ℤ
 by looping = byLoops
 by planning = byPlan
 

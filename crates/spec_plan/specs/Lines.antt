@@ -7,7 +7,7 @@ use Prim.Native.String.{String}
 use Prim.Native.String as S
 use lib.Dec.{ltb}
 use lib.IntN.{ℤ, pos, negsuc}
-use Rattle.spec_calculus.specs.Syntax.{list, bag, set, Monoid, of, sum, max, min, some, all, Bin, plus, minus, times, equal, less, and, or, Fun, choice}
+use Rattle.spec_calculus.specs.Syntax.{list, bag, set, Monoid, of, sum, max, min, some, all, Bin, plus, minus, times, equal, less, and, or, Fun, choice, isOpen}
 use Rattle.spec_plan.specs.Plan.{PTerm, PTerms, pnum, ptruth, place, pfield, prec, pbin, pnegate, papp, pnil, pcons, Source, table, unit, Op, join, outer, nest, Plan, plan}
 
 unfoldable pub ascii : String → List ℕ
@@ -46,9 +46,10 @@ binName less = "<"
 binName and = "and"
 binName or = "or"
 
--- "it prints as (if c a b)" (document 02, E2)
+-- "it prints as (if c a b)" (document 02, E2); "Kind 21 prints as (open n e)" (E4)
 unfoldable pub funName : Fun → List ℕ
 funName choice = ascii "if"
+funName (isOpen n c) = ascii "open " ++ decimal n
 
 -- "truths true or false"
 unfoldable pub truthName : Bool → String
