@@ -28,6 +28,11 @@ pub const ANSWER_TOO_SHORT: u64 = 32;
 
 pub const LINES_TOO_SHORT: u64 = 33;
 
+// A record of the calendars is no calendar, or a fifth one; of the date calls, a date or day number of no year from 2000 to 2399.
+pub const CALENDAR_OR_DATE_OUT_OF_RANGE: u64 = 41;
+
+pub const CALENDAR_NOT_LENT: u64 = 42;
+
 // A column's bound is over 2^31, or a cell is beyond it.
 pub const CELL_BEYOND_BOUND: u64 = 43;
 

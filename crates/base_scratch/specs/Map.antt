@@ -11,8 +11,9 @@
 --   1296 .. 1807  normal form    the same      and its marks    and links     the same
 --   1808 .. 1811  free, and between the portions of an unfinished question where it stands
 --   1812 .. 1875  free, and from the normal form on the checkpoints of columns
---   1876 .. 2047  free
-use Prim.Native.Nat.{ℕ, _+_, _*_, _/_}
+--   1876 .. 1915  free
+--   1916 .. 2047  the lent calendars, in every phase from the checks on
+use Prim.Native.Nat.{ℕ, _+_, _-_, _*_, _/_}
 
 -- how many words a call needs, and clears: spec_outcome's `scratchWords`. From this word on none is written.
 abbrev pub scratchSize : ℕ
@@ -91,3 +92,10 @@ checkpointsAt = firstAt + 1
 
 abbrev pub checkpointsEnd : ℕ
 checkpointsEnd = checkpointsAt + 64
+
+-- ---- the lent calendars: four times a word with how many windows it has, and a word for each of 32 (base_windows/specs/KeptCalendars)
+abbrev pub calendarWords : ℕ
+calendarWords = 33
+
+abbrev pub calendarsAt : ℕ
+calendarsAt = scratchSize - 4 * calendarWords

@@ -60,6 +60,11 @@ pub const FIRST: usize = STAGE + 3;
 // From the normal form on: a word for each column of each table, its checkpoint where the table is by columns.
 pub const CHECKPOINTS: usize = FIRST + 1;
 
+// Always, from the checks on: the lent calendars, so many words each.
+pub const CALENDAR_WORDS: usize = 33;
+
+pub const CALENDARS: usize = WORDS - 4 * CALENDAR_WORDS;
+
 // Word i; 0 outside.
 pub fn load(s: &[u64], i: usize) -> u64
     ensures { λ r. ⌜ r ≡ getD (now (s .entry)) i 0 ⌝ }

@@ -93,6 +93,10 @@ pub mag-abs : (z : ℤ) → mag z ≤ natAbs z
 mag-abs (pos n) = omega arith
 mag-abs (negsuc n) = omega arith
 
+pub natural : (z : ℤ) → ltZ z (pos 0) ≡ false → z ≡ pos (natAbs z)
+natural (pos n) e = refl
+natural (negsuc n) e = absurd (let y : _≡_ {A = ℕ} 0 1 = cc in omega arith)
+
 -- 0 less a number, as the machine's words have it
 pub negative-ok : {z : ℤ} → SFits w64 z → natAbs z ≤ 2 ^ 62 + 1 → SFits w64 (toZ w64 (ofZ w64 (pos 0)) -ℤ toZ w64 (ofZ w64 z))
 negative-ok {z} f p = sub-ok (sfits-lit {z = pos 0} tt) f (omega (arith, mag-abs z))

@@ -1,16 +1,17 @@
 -- A number that was written is read back; every other is the first.
-use mathlib.Core.Path.{_≡_, refl, sym}
-use Prim.Native.Nat.{ℕ, zero, suc}
+use mathlib.Core.Path.{_≡_, refl, sym, ap, _∙_}
+use Prim.Native.Nat.{ℕ, zero, suc, _+_, _-_, _%_}
 use native.Mathlib.Omega.{arith}
 use lib.ListN.{List·getD-eq-default}
-use Rattle.spec_calculus.specs.Syntax.{list, bag, set, of, sum, max, min, some, all, Bin, plus, minus, times, equal, less, and, or, choice}
+use Rattle.spec_calendar.specs.Hours.{Calendar}
+use Rattle.spec_calculus.specs.Syntax.{list, bag, set, of, sum, max, min, some, all, Bin, plus, minus, times, equal, less, and, or, choice, isOpen}
 use Rattle.spec_calculus.specs.Syntax as Sy
 use Rattle.base_syntax.specs.declared.Op.the-variants.{Plus}
 use Rattle.base_syntax.specs.declared.Fun.{Fun}
-use Rattle.base_syntax.specs.declared.Fun.the-variants.{Choice}
+use Rattle.base_syntax.specs.declared.Fun.the-variants.{Choice, Open}
 use Rattle.base_syntax.specs.declared.Monoid.the-variants as Mo
 use Rattle.base_syntax.specs.MonoidWord.{monoidOf}
-use Rattle.base_syntax.specs.Numbers.{binOf, opArg, operators, opAt, funOf, funArg, funAt, monoidNumber, monoidNumbered, monoidArg, monoidAt}
+use Rattle.base_syntax.specs.Numbers.{binOf, opArg, operators, opAt, funOf, lentOf, funArg, funAt, FitsOp, LentOp, monoidNumber, monoidNumbered, monoidArg, monoidAt}
 
 pub op-back : (o : Bin) → binOf (opAt (opArg o)) ≡ o
 op-back plus = refl
@@ -21,8 +22,9 @@ op-back less = refl
 op-back and = refl
 op-back or = refl
 
-pub fun-back : (f : Sy.Fun) → funOf (funAt (funArg f)) ≡ f
-fun-back choice = refl
+pub fun-back : (K : ℕ → Calendar) (f : Sy.Fun) → FitsOp f → LentOp K f → lentOf K (funAt (funArg f)) ≡ f
+fun-back K choice w h = refl
+fun-back K (isOpen n c) w h = let e : n % 256 % 256 ≡ n = omega (arith, w) in ap (λ m. isOpen m (K m)) e ∙ ap (isOpen n) (sym h)
 
 pub number-back : (m : Sy.Monoid) → monoidOf (monoidNumbered (monoidNumber m)) ≡ m
 number-back (of list) = refl
@@ -44,18 +46,25 @@ monoid-back min = refl
 monoid-back some = refl
 monoid-back all = refl
 
--- of the enum's one case
-pub fun-first : (f : Fun) → 0 ≡ funArg (funOf f)
-fun-first Choice = refl
+-- of each of the enum's cases
+pub fun-first : (f : Fun) → f ≡ Choice → 0 ≡ funArg (funOf f)
+fun-first f e = sym (ap (λ x. funArg (funOf x)) e)
+
+pub fun-open : (f : Fun) (n : ℕ) → f ≡ Open n → 1 + n % 256 ≡ funArg (funOf f)
+fun-open f n e = omega arith ∙ sym (ap (λ x. funArg (funOf x)) e)
 
 -- numbers that a match leaves
 pub op-rest : (a : ℕ) → (a ≡ 1 → ⊥) → (a ≡ 2 → ⊥) → (a ≡ 3 → ⊥) → (a ≡ 4 → ⊥) → (a ≡ 5 → ⊥) → (a ≡ 6 → ⊥) → Plus ≡ opAt a
 op-rest zero n1 n2 n3 n4 n5 n6 = refl
 op-rest (suc a) n1 n2 n3 n4 n5 n6 = sym (List·getD-eq-default operators Plus {n = suc a} (omega arith))
 
-pub fun-rest : (a : ℕ) → Choice ≡ funAt a
-fun-rest zero = refl
-fun-rest (suc a) = refl
+pub fun-choice : (a : ℕ) → a ≡ 0 → Choice ≡ funAt a
+fun-choice zero e = refl
+fun-choice (suc a) e = absurd (omega arith)
+
+pub fun-rest : (a : ℕ) → (a ≡ 0 → ⊥) → Open ((a - 1) % 256) ≡ funAt a
+fun-rest zero n = absurd (n refl)
+fun-rest (suc a) n = ap (λ x. Open (x % 256)) (let e : suc a - 1 ≡ a = omega arith in e)
 
 pub monoid-rest : (a : ℕ) → (a ≡ 2 → ⊥) → (a ≡ 3 → ⊥) → (a ≡ 4 → ⊥) → (a ≡ 5 → ⊥) → (a ≡ 6 → ⊥) → (a ≡ 7 → ⊥) → (a ≡ 8 → ⊥) → Mo.List ≡ monoidNumbered a
 monoid-rest zero n2 n3 n4 n5 n6 n7 n8 = refl

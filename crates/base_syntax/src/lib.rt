@@ -56,10 +56,16 @@ pub const KIND_ROWS: usize = 20;
 
 pub const KIND_COLUMNS: usize = 23;
 
+// "Kind 21 holds one byte of calendar and one number term" (document 02, E4).
+pub const KIND_OPEN: u64 = 21;
+
 // Numbers are kept, in a question's words and in a form's, as their distance from -2^31; ZERO is the number 0.
 pub const OFFSET: i64 = 2147483648;
 
 pub const ZERO: u64 = OFFSET as u64;
+
+// A calendar's number is a byte.
+const NUMBERS: usize = 256;
 
 // Monoids have the numbers 1 to 8.
 pub const MONOIDS: u64 = 8;
@@ -74,9 +80,10 @@ pub enum Op {
     Or,
 }
 
-// Document 02's operators, each over a list of terms.
+// Document 02's operators, each over a list of terms; whether a minute is open goes by the calendar of a number.
 pub enum Fun {
     Choice,
+    Open(usize),
 }
 
 pub enum Monoid {
@@ -251,10 +258,11 @@ impl Op {
 impl Fun {
     // The number in a form word.
     pub fn number(self) -> u64
-        ensures { λ r. ⌜ (r ≡ funArg (funOf self)) × (r < 8) ⌝ }
+        ensures { λ r. ⌜ (r ≡ funArg (funOf self)) × (r < 512) ⌝ }
     {
         match self {
             Fun::Choice => 0,
+            Fun::Open(n) => 1 + (n % NUMBERS) as u64,
         }
     }
 
@@ -262,7 +270,8 @@ impl Fun {
         ensures { λ r. ⌜ r ≡ funAt n ⌝ }
     {
         match n {
-            _ => Fun::Choice,
+            0 => Fun::Choice,
+            _ => Fun::Open((n - 1) as usize % NUMBERS),
         }
     }
 }

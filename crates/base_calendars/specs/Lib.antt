@@ -1,0 +1,2 @@
+-- What the functions that read calendars ask and give.
+pub mod Contract

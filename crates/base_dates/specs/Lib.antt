@@ -1,0 +1,2 @@
+-- What the functions about days ask and give.
+pub mod Contract

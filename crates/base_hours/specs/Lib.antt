@@ -1,0 +1,2 @@
+-- What the functions about open minutes ask and give.
+pub mod Contract

@@ -1,0 +1,2 @@
+-- The lent calendars in scratch.
+pub mod KeptCalendars
