@@ -6,8 +6,7 @@ use lib.ListN.{length, getD}
 use lib.IntN.{ℤ}
 use Rattle.spec_calculus.specs.Value.{Value}
 use Rattle.spec_encoding.specs.Record.{Bytes, got}
-use Rattle.spec_encoding.specs.Reader.{readQuestion}
-use Rattle.spec_outcome.specs.Acceptance.{Accepted}
+use Rattle.spec_outcome.specs.Acceptance.{Lent, readLent, Accepted, posedOf}
 use Rattle.spec_outcome.specs.Outcome.{written}
 use Rattle.base_scratch.specs.Map.{scratchSize}
 use Rattle.form_prepared.specs.PreparedQuestion.{Prepared}
@@ -17,9 +16,9 @@ use Rattle.form_prepared.specs.declared.Answer.the-variants.{Short, Leng
 
 -- some question that was read and accepted stands in scratch
 pub record Asked (d : Bytes) (s : List ℕ) : Type 0 where
-  pub question : Bytes
+  pub asked : Lent
   pub accepted : Accepted
-  pub read : readQuestion question ≡ got (accepted .question)
+  pub read : readLent asked ≡ got (posedOf accepted)
   pub prepared : Prepared d accepted s
 
 -- "An answer is 0 and its length ..; a refusal its number and length 0": "32: the answer buffer has fewer than G words"
@@ -33,6 +32,6 @@ lengthOf (Length n) = n
 
 -- With whatever question stands in scratch: number, length and buffer are those that its value has. Words from 2,048 on stay.
 pub record Answers (value : Accepted → Value) (d : Bytes) (s : List ℕ) (o : List ℤ) (s′ : List ℕ) (o′ : List ℤ) (r : Answer) : Type 0 where
-  pub is : (l : Bytes) (a : Accepted) → readQuestion l ≡ got (a .question) → Prepared d a s → Settles (written value o a) o (numberOf r) (lengthOf r) o′
+  pub is : (l : Lent) (a : Accepted) → readLent l ≡ got (posedOf a) → Prepared d a s → Settles (written value o a) o (numberOf r) (lengthOf r) o′
   pub long : length s′ ≡ length s
   pub above : (j : ℕ) → scratchSize ≤ j → getD s′ j 0 ≡ getD s j 0

@@ -28,6 +28,7 @@ use Rattle.form_words.specs.declared.Clause.{Clause}
 use Rattle.form_words.specs.declared.Clause.the-variants as Cl
 use Rattle.form_words.specs.NodeWord.{wordAt, kindOf, belowOf, argOf, pack, next, kinds, nodeOf, nodeAt}
 use Rattle.base_scratch.specs.Map.{formWords}
+use Rattle.base_windows.specs.KeptCalendars.{calendarIn}
 use Rattle.form_words.specs.FormTree.{formBy, clauseOf, clausesBy, headBy, formTree, formsTree, clausesTree, headTree}
 use Rattle.form_words.specs.HeadPlace as Hd
 use Rattle.form_words.specs.Look.{Inside, Looks, leafOf, LeafAtPost, monoidIn, MonoidOfPost, LooksC}
@@ -256,7 +257,7 @@ clause-head {s} {i} e K n9 n10 = record {
 
 -- ---- trees, by the node that was looked at; one law each, to be used at every fuel
 abbrev pub formNode : ℕ → List ℕ → ℕ → FormNode → Form
-formNode f s i n = formBy (λ j. formTree f s j) (λ j e. formsTree f s j e) (λ j. clausesTree f s j) (λ j. headTree f s j) i n
+formNode f s i n = formBy (calendarIn s) (λ j. formTree f s j) (λ j e. formsTree f s j e) (λ j. clausesTree f s j) (λ j. headTree f s j) i n
 
 abbrev pub clausesNode : ℕ → List ℕ → ℕ → Clause → Clauses
 clausesNode f s i n = clausesBy (λ j. formTree f s j) (λ j. clausesTree f s j) i n

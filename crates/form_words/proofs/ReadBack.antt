@@ -21,7 +21,8 @@ use Rattle.form_words.specs.declared.FormNode.the-variants.{Number, Trut
 use Rattle.form_words.specs.declared.Clause.the-variants as Cl
 use Rattle.form_words.specs.NodeWord.{wordAt, kindOf, belowOf, argOf, pack, next, nodeOf, nodeAt}
 use Rattle.form_words.specs.FormTree.{clauseOf, formTree, formsTree, clausesTree, headTree, left}
-use Rattle.form_words.specs.FormWords.{size, sizeF, sizeC, numberArg, flat, flatF, flatC, Fits, FitsF, FitsC, Holds}
+use Rattle.base_windows.specs.KeptCalendars.{calendarIn}
+use Rattle.form_words.specs.FormWords.{Lent, LentF, LentC, size, sizeF, sizeC, numberArg, flat, flatF, flatC, Fits, FitsF, FitsC, Holds}
 use Rattle.base_scratch.specs.Map.{formWords}
 use Rattle.form_words.proofs.NodeWords.{kind-pack, below-pack, arg-pack, formNode, clausesNode, headNode}
 
@@ -232,58 +233,58 @@ module _ (s : List ℕ) where
   mutual
     unfolding flat size pick nodeOf
 
-    pub read : (t : Form) (f i : ℕ) → Fits t → i + size t ≤ formWords → Holds s i (flat t) → 2 * size t ≤ f → formTree f s i ≡ t
-    read (num z) f i w l h m = opened (num z) f i w l h (omega arith)
-    read (truth b) f i w l h m = opened (truth b) f i w l h (omega arith)
-    read (row g) f i w l h m = opened (row g) f i w l h (omega arith)
-    read (cell c g) f i w l h m = opened (cell c g) f i w l h (omega arith)
-    read (rec ts) f i w l h m =
+    pub read : (t : Form) (f i : ℕ) → Fits t → Lent (calendarIn s) t → i + size t ≤ formWords → Holds s i (flat t) → 2 * size t ≤ f → formTree f s i ≡ t
+    read (num z) f i w y l h m = opened (num z) f i w l h (omega arith)
+    read (truth b) f i w y l h m = opened (truth b) f i w l h (omega arith)
+    read (row g) f i w y l h m = opened (row g) f i w l h (omega arith)
+    read (cell c g) f i w y l h m = opened (cell c g) f i w l h (omega arith)
+    read (rec ts) f i w y l h m =
         opened (rec ts) f i w l h (omega arith)
-        ∙ ap rec (readF ts (pred f) (i + 1) (next s i) w (omega arith) (h .1) (omega arith) (next-is (rec ts) i l h ∙ omega arith))
-    read (bin o t u) f i w l h m =
+        ∙ ap rec (readF ts (pred f) (i + 1) (next s i) w y (omega arith) (h .1) (omega arith) (next-is (rec ts) i l h ∙ omega arith))
+    read (bin o t u) f i w y l h m =
         let h₁ = holds-first s (flat t) (flat u) (i + 1) (h .1) in
         let e = next-is t (i + 1) (omega arith) h₁ in
         opened (bin o t u) f i w l h (omega arith)
         ∙ ap (λ (x : Bin). bin x (formTree (pred f) s (i + 1)) (formTree (pred f) s (next s (i + 1)))) (op-back o)
-        ∙ ap₂ (bin o) (read t (pred f) (i + 1) (w .0) (omega arith) h₁ (omega arith))
-        (read u (pred f) (next s (i + 1)) (w .1) (omega arith) (holds-second s (flat t) (flat u) (i + 1) (next s (i + 1)) (omega (arith, length-flat t)) (h .1)) (omega arith))
-    read (negate t) f i w l h m = opened (negate t) f i w l h (omega arith) ∙ ap negate (read t (pred f) (i + 1) w (omega arith) (h .1) (omega arith))
-    read (app g ts) f i w l h m =
+        ∙ ap₂ (bin o) (read t (pred f) (i + 1) (w .0) (y .0) (omega arith) h₁ (omega arith))
+        (read u (pred f) (next s (i + 1)) (w .1) (y .1) (omega arith) (holds-second s (flat t) (flat u) (i + 1) (next s (i + 1)) (omega (arith, length-flat t)) (h .1)) (omega arith))
+    read (negate t) f i w y l h m = opened (negate t) f i w l h (omega arith) ∙ ap negate (read t (pred f) (i + 1) w y (omega arith) (h .1) (omega arith))
+    read (app g ts) f i w y l h m =
         opened (app g ts) f i w l h (omega arith)
-        ∙ ap (λ (x : Fun). app x (formsTree (pred f) s (i + 1) (next s i))) (fun-back g)
-        ∙ ap (app g) (readF ts (pred f) (i + 1) (next s i) w (omega arith) (h .1) (omega arith) (next-is (app g ts) i l h ∙ omega arith))
-    read (comp m q u) f i w l h n =
+        ∙ ap (λ (x : Fun). app x (formsTree (pred f) s (i + 1) (next s i))) (fun-back (calendarIn s) g (w .0) (y .0))
+        ∙ ap (app g) (readF ts (pred f) (i + 1) (next s i) (w .1) (y .1) (omega arith) (h .1) (omega arith) (next-is (app g ts) i l h ∙ omega arith))
+    read (comp m q u) f i w y l h n =
         let h₁ = holds-first s (flatC q) (flat u) (i + 1) (h .1) in
         let h₂ = holds-second s (flatC q) (flat u) (i + 1) (i + 1 + sizeC q) (omega (arith, length-flatC q)) (h .1) in
         opened (comp m q u) f i w l h (omega arith)
         ∙ ap (λ (x : Monoid). comp x (clausesTree (pred f) s (i + 1)) (headTree (pred f) s (i + 1))) (monoid-back m)
-        ∙ ap₂ (comp m) (readC q u (pred f) (i + 1) (i + 1 + sizeC q) (w .0) (w .1) (omega arith) h₁ h₂ refl (omega arith))
-        (readH u (i + 1 + sizeC q) (w .1) (omega arith) h₂ (λ g x. read u g (i + 1 + sizeC q) (w .1) (omega arith) h₂ x) q (pred f) (i + 1) (w .0) h₁ refl (omega arith))
+        ∙ ap₂ (comp m) (readC q u (pred f) (i + 1) (i + 1 + sizeC q) (w .0) (y .0) (w .1) (omega arith) h₁ h₂ refl (omega arith))
+        (readH u (i + 1 + sizeC q) (w .1) (omega arith) h₂ (λ g x. read u g (i + 1 + sizeC q) (w .1) (y .1) (omega arith) h₂ x) q (pred f) (i + 1) (w .0) h₁ refl (omega arith))
 
-    pub readF : (ts : Forms) (f i e : ℕ) → FitsF ts → i + sizeF ts ≤ formWords → Holds s i (flatF ts) → 2 * sizeF ts < f → e ≡ i + sizeF ts → formsTree f s i e ≡ ts
-    readF fnil f i e w l h m p = forms-at f i e (omega arith) ∙ rw (le-leb e i (omega arith))
-    readF (fcons t ts) f i e w l h m p =
+    pub readF : (ts : Forms) (f i e : ℕ) → FitsF ts → LentF (calendarIn s) ts → i + sizeF ts ≤ formWords → Holds s i (flatF ts) → 2 * sizeF ts < f → e ≡ i + sizeF ts → formsTree f s i e ≡ ts
+    readF fnil f i e w y l h m p = forms-at f i e (omega arith) ∙ rw (le-leb e i (omega arith))
+    readF (fcons t ts) f i e w y l h m p =
         let h₁ = holds-first s (flat t) (flatF ts) i h in
         let n = next-is t i (omega arith) h₁ in
         forms-at f i e (omega arith) ∙ rw (lt-leb e i (omega (arith, size-some t)))
-        (ap₂ fcons (read t (pred f) i (w .0) (omega arith) h₁ (omega arith))
-        (readF ts (pred f) (next s i) e (w .1) (omega arith) (holds-second s (flat t) (flatF ts) i (next s i) (omega (arith, length-flat t)) h) (omega (arith, size-some t)) (omega arith)))
+        (ap₂ fcons (read t (pred f) i (w .0) (y .0) (omega arith) h₁ (omega arith))
+        (readF ts (pred f) (next s i) e (w .1) (y .1) (omega arith) (holds-second s (flat t) (flatF ts) i (next s i) (omega (arith, length-flat t)) h) (omega (arith, size-some t)) (omega arith)))
 
     -- clauses, with the words of a form at e behind them
-    pub readC : (q : Clauses) (u : Form) (f i e : ℕ) → FitsC q → Fits u → e + size u ≤ formWords → Holds s i (flatC q) → Holds s e (flat u) → e ≡ i + sizeC q → 2 * sizeC q < f → clausesTree f s i ≡ q
-    readC done u f i e w v l h k p m =
+    pub readC : (q : Clauses) (u : Form) (f i e : ℕ) → FitsC q → LentC (calendarIn s) q → Fits u → e + size u ≤ formWords → Holds s i (flatC q) → Holds s e (flat u) → e ≡ i + sizeC q → 2 * sizeC q < f → clausesTree f s i ≡ q
+    readC done u f i e w y v l h k p m =
         clauses-at f i (omega arith)
         ∙ ap (clausesNode (pred f) s i) (subst (λ x. clauseOf (nodeAt s x) ≡ Cl.Head) (omega arith) (ap clauseOf (node-is u e v l k) ∙ head-node u e))
-    readC (gen g t q) u f i e w v l h k p m =
+    readC (gen g t q) u f i e w y v l h k p m =
         clauses-at f i (omega arith) ∙ ap (clausesNode (pred f) s i) (ap clauseOf (gen-node g t q i w (omega arith) h))
-        ∙ ap (gen g t) (readC q u (pred f) (i + 1) e (w .2) v l (h .1) k (omega arith) (omega arith))
-    readC (cond t q) u f i e w v l h k p m =
+        ∙ ap (gen g t) (readC q u (pred f) (i + 1) e (w .2) y v l (h .1) k (omega arith) (omega arith))
+    readC (cond t q) u f i e w y v l h k p m =
         let h₁ = holds-first s (flat t) (flatC q) (i + 1) (h .1) in
         let n = cond-next t q i (omega arith) h in
         clauses-at f i (omega arith) ∙ ap (clausesNode (pred f) s i) (ap clauseOf (cond-node t q i (omega arith) h))
-        ∙ ap₂ cond (read t (pred f) (i + 1) (w .0) (omega arith) h₁ (omega arith))
-        (readC q u (pred f) (next s i) e (w .1) v l (holds-second s (flat t) (flatC q) (i + 1) (next s i) (omega (arith, length-flat t)) (h .1)) k (omega arith) (omega arith))
+        ∙ ap₂ cond (read t (pred f) (i + 1) (w .0) (y .0) (omega arith) h₁ (omega arith))
+        (readC q u (pred f) (next s i) e (w .1) (y .1) v l (holds-second s (flat t) (flatC q) (i + 1) (next s i) (omega (arith, length-flat t)) (h .1)) k (omega arith) (omega arith))
 
--- Where scratch holds the words of a form from place i on, the form is read there, at every fuel that is enough.
-pub read-back : (t : Form) (s : List ℕ) (i : ℕ) → Fits t → i + length (flat t) ≤ formWords → Holds s i (flat t) → (f : ℕ) → left i < f → formTree f s i ≡ t
-read-back t s i w l h f m = read s t f i w (omega (arith, length-flat t)) h (omega (arith, length-flat t))
+-- Where scratch holds the words of a form from place i on, and the calendars that it was lent, the form is read there, at every fuel that is enough.
+pub read-back : (t : Form) (s : List ℕ) (i : ℕ) → Fits t → Lent (calendarIn s) t → i + length (flat t) ≤ formWords → Holds s i (flat t) → (f : ℕ) → left i < f → formTree f s i ≡ t
+read-back t s i w y l h f m = read s t f i w y (omega (arith, length-flat t)) h (omega (arith, length-flat t))

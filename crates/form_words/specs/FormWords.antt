@@ -5,9 +5,10 @@ use mathlib.Core.List.{List, [], _∷_, _++_}
 use Prim.Native.Nat.{ℕ, suc, _+_, _-_, _*_, _^_, _<_}
 use lib.IntN.{ℤ, pos, negsuc}
 use lib.Signed.{mag}
+use Rattle.spec_calendar.specs.Hours.{Calendar}
 use Rattle.spec_calculus.specs.Lists.{pick}
 use Rattle.spec_normal_form.specs.Form.{Form, Forms, Clauses, num, truth, row, cell, rec, bin, negate, app, comp, fnil, fcons, done, gen, cond}
-use Rattle.base_syntax.specs.Numbers.{opArg, funArg, monoidArg}
+use Rattle.base_syntax.specs.Numbers.{opArg, funArg, FitsOp, LentOp, monoidArg}
 use Rattle.form_words.specs.NodeWord.{wordAt, pack}
 use Rattle.form_words.specs.Kinds.{numberKind, truthKind, rowKind, cellKind, recordKind, binaryKind, negationKind, comprehensionKind, generatorKind, conditionKind, operatorKind, pairSpan}
 
@@ -60,7 +61,7 @@ unfoldable mutual
   flatC (gen g k q) = pack generatorKind 0 (pairSpan * g + k) ∷ flatC q
   flatC (cond t q) = pack conditionKind (size t) 0 ∷ (flat t ++ flatC q)
 
--- constants within 32 bits signed; generators, columns and tables below 1,024
+-- constants within 32 bits signed; generators, columns and tables below 1,024; calendars' numbers below 256
 abbrev mutual
   pub Fits : Form → Type 0
   Fits (num z) = mag z < 2 ^ 31
@@ -70,7 +71,7 @@ abbrev mutual
   Fits (rec ts) = FitsF ts
   Fits (bin o s t) = Fits s × Fits t
   Fits (negate t) = Fits t
-  Fits (app f ts) = FitsF ts
+  Fits (app f ts) = FitsOp f × FitsF ts
   Fits (comp m q h) = FitsC q × Fits h
 
   pub FitsF : Forms → Type 0
@@ -81,6 +82,28 @@ abbrev mutual
   FitsC done = Unit {0}
   FitsC (gen g k q) = (g < 1024) × (k < 1024) × FitsC q
   FitsC (cond t q) = Fits t × FitsC q
+
+-- each calendar is that of its number
+abbrev mutual
+  pub Lent : (ℕ → Calendar) → Form → Type 0
+  Lent K (num z) = Unit {0}
+  Lent K (truth b) = Unit {0}
+  Lent K (row g) = Unit {0}
+  Lent K (cell c g) = Unit {0}
+  Lent K (rec ts) = LentF K ts
+  Lent K (bin o s t) = Lent K s × Lent K t
+  Lent K (negate t) = Lent K t
+  Lent K (app f ts) = LentOp K f × LentF K ts
+  Lent K (comp m q h) = LentC K q × Lent K h
+
+  pub LentF : (ℕ → Calendar) → Forms → Type 0
+  LentF K fnil = Unit {0}
+  LentF K (fcons t ts) = Lent K t × LentF K ts
+
+  pub LentC : (ℕ → Calendar) → Clauses → Type 0
+  LentC K done = Unit {0}
+  LentC K (gen g k q) = LentC K q
+  LentC K (cond t q) = Lent K t × LentC K q
 
 abbrev pub Holds : List ℕ → ℕ → List ℕ → Type 0
 Holds s i [] = Unit {0}

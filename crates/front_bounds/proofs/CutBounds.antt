@@ -11,8 +11,9 @@ use lib.Dec.{T, leb}
 use lib.ListN.{length, getD}
 use lib.IntN.{ℤ, natAbs}
 use mir.Val.{Fits}
+use Rattle.spec_calendar.specs.Hours.{Calendar}
 use Rattle.spec_calculus.specs.Lists.{pick}
-use Rattle.spec_calculus.specs.Syntax.{of, sum, max, some, all, Bin, plus, minus, times, equal, less, and, or, choice}
+use Rattle.spec_calculus.specs.Syntax.{of, sum, max, some, all, Bin, plus, minus, times, equal, less, and, or, choice, isOpen}
 use Rattle.spec_calculus.specs.Syntax as Sy
 use Rattle.spec_normal_form.specs.Form.{Form, Forms, Clauses, app, fnil, fcons, NormalForm, asForm}
 use Rattle.spec_normal_form.specs.Bound.{ownGens, binBound, larger, appBound, compBound, Declared, bound, bounds, small, within, withinF, withinC, numbersFit}
@@ -23,13 +24,15 @@ use Rattle.base_syntax.specs.declared.Monoid.{Monoid}
 use Rattle.base_syntax.specs.MonoidWord.{monoidOf}
 use Rattle.base_syntax.specs.declared.Fun.{Fun}
 use Rattle.base_syntax.specs.declared.Op.{Op}
-use Rattle.base_syntax.specs.Numbers.{binOf, funOf}
+use Rattle.base_syntax.specs.Numbers.{binOf, funOf, lentOf}
+use Rattle.base_syntax.specs.declared.Fun.the-variants.{Choice, Open}
+use Rattle.base_windows.specs.KeptCalendars.{calendarIn}
 use Rattle.form_words.specs.declared.FormNode.{FormNode}
 use Rattle.form_words.specs.declared.FormNode.the-variants.{Number, Truth, Row, Cell, Record, Binary, Negation, Operator, Comprehension, Generator, Condition, Nothing}
 use Rattle.form_words.specs.declared.Clause.{Clause}
 use Rattle.form_words.specs.declared.Clause.the-variants as Cl
 use Rattle.form_words.specs.NodeWord.{next}
-use Rattle.form_words.specs.FormTree.{formTree, formsTree, clausesTree, headTree, left}
+use Rattle.form_words.specs.FormTree.{opIn, formTree, formsTree, clausesTree, headTree, left}
 use Rattle.base_scratch.specs.Map.{formWords}
 use Rattle.form_words.specs.Look.{Looks, LooksC}
 use Rattle.form_words.specs.FormWords.{flat, Holds}
@@ -101,6 +104,7 @@ cut-larger a b = by-test (leb a b)
 cut-app : (f : Sy.Fun) (bs : List ℕ) → appBound f (cut (getD bs 0 0) ∷ cut (getD bs 1 0) ∷ cut (getD bs 2 0) ∷ []) ≡ cut (appBound f bs)
 unfolding appBound
 cut-app choice bs = cut-larger (getD bs 1 0) (getD bs 2 0)
+cut-app (isOpen n c) bs = refl
 
 small-cut : (n : ℕ) → leb (cut n) (2 ^ 62) ≡ leb n (2 ^ 62)
 small-cut n = by-test (leb n (2 ^ 62)) (λ p. le-leb (cut n) (2 ^ 62) (omega (arith, leb-true n (2 ^ 62) p)) ∙ sym p) (λ p. lt-leb (cut n) (2 ^ 62) (omega (arith, leb-false n (2 ^ 62) p)) ∙ sym p)
@@ -368,6 +372,11 @@ term-some {D} {s} {i} {e} {r} h A = record {
   is = elim [ zero ↦ λ l. absurd (omega arith) | suc f ↦ λ l. subst (λ ts. FirstOf D ts r) (sym (forms-more f s i e h)) (A .is f (omega arith)) ];
 }
 
+bound-lent : (K : ℕ → Calendar) (o : Fun) (bs : List ℕ) → appBound (funOf o) bs ≡ appBound (lentOf K o) bs
+unfolding appBound
+bound-lent K Choice bs = refl
+bound-lent K (Open n) bs = refl
+
 module _ (o : Fun) {D : Declared} {s : List ℕ} {i e j k n w : ℕ} {a b c x : Size} {r t u v : Bool} (h : e ≤ formWords) (A : TermSizePost D s i e a) (pj : j ≡ next s i) (B : TermSizePost D s j e b) (pk : k ≡ next s j)
     (C : TermSizePost D s k e c) (pn : n ≡ next s k) (R : RecordFitsPost D s n e r) (pw : w ≡ appBound (funOf o) (a .bound ∷ b .bound ∷ c .bound ∷ [])) (pt : t ≡ (c .fits && r)) (pu : u ≡ (b .fits && t))
     (pv : v ≡ (a .fits && u)) (X : CheckedPost w v x) where
@@ -391,24 +400,24 @@ module _ (o : Fun) {D : Declared} {s : List ℕ} {i e j k n w : ℕ} {a b c x : 
     at-third : FirstOf D (rest (rest given)) c
     at-third = subst (λ ts. FirstOf D ts c) (sym third) (C .is (suc g) lk)
 
-    three-bounds : appBound (funOf o) (a .bound ∷ b .bound ∷ c .bound ∷ []) ≡ cut (appBound (funOf o) (bounds D given))
+    three-bounds : appBound (opIn s o) (a .bound ∷ b .bound ∷ c .bound ∷ []) ≡ cut (appBound (opIn s o) (bounds D given))
     three-bounds =
         rw (first-bound D given a (A .is (suc (suc (suc g))) li), first-bound D (rest given) b at-second ∙ ap cut (later-bound D given 0), first-bound D (rest (rest given)) c at-third ∙ ap cut (later-bound D (rest given) 0 ∙ later-bound D given 1))
-        (cut-app (funOf o) (bounds D given))
+        (cut-app (opIn s o) (bounds D given))
 
     all-within : v ≡ withinF D given
     all-within =
         pv ∙ ap (λ y. a .fits && y) (pu ∙ ap (λ y. b .fits && y) (pt ∙ ap (λ y. c .fits && y) (R .is g ln ∙ sym (ap (withinF D) behind)) ∙ first-within D (rest (rest given)) c at-third) ∙ first-within D (rest given) b at-second)
         ∙ first-within D given a (A .is (suc (suc (suc g))) li)
 
-    three-terms : SizeOf D (app (funOf o) given) x
+    three-terms : SizeOf D (app (opIn s o) given) x
     unfolding bound within
-    three-terms = checked-size (app (funOf o) given) X (pw ∙ three-bounds) (ap (λ y. small D (app (funOf o) given) && y) (sym all-within))
+    three-terms = checked-size (app (opIn s o) given) X (pw ∙ bound-lent (calendarIn s) o _ ∙ three-bounds) (ap (λ y. small D (app (opIn s o) given) && y) (sym all-within))
 
   pub operator-terms : OperatorSizePost D s i e o x
   operator-terms = record { is = go }
     where
-      go : (f : ℕ) → left i + 2 < f → SizeOf D (app (funOf o) (formsTree f s i e)) x
+      go : (f : ℕ) → left i + 2 < f → SizeOf D (app (opIn s o) (formsTree f s i e)) x
       go zero l = absurd (omega arith)
       go (suc zero) l = absurd (omega arith)
       go (suc (suc zero)) l = absurd (omega arith)
@@ -416,7 +425,7 @@ module _ (o : Fun) {D : Declared} {s : List ℕ} {i e j k n w : ℕ} {a b c x : 
           (λ p.
           let q = leb-true e i p in
           let m = left i + left j + left k + left n + 2 in
-          subst (λ ts. SizeOf D (app (funOf o) ts) x) (no-forms (suc (suc (suc m))) s i e q ∙ sym (no-forms (suc (suc (suc g))) s i e q))
+          subst (λ ts. SizeOf D (app (opIn s o) ts) x) (no-forms (suc (suc (suc m))) s i e q ∙ sym (no-forms (suc (suc (suc g))) s i e q))
           (three-terms m (omega arith) (omega arith) (omega arith) (omega arith)))
           (λ p.
           let q = leb-false e i p in
@@ -427,5 +436,5 @@ pub verdict : {D : Declared} {s : List ℕ} {a : Size} → FormSizePost D s 0 a 
 verdict A = record { is = λ f l. A .is f l .fits-is }
 
 -- Where scratch holds the words of a normal form, and D says of each generator what its table's columns declare, the answer is whether its numbers fit.
-pub verdict-is : {D : Declared} {s : List ℕ} {r : Bool} → BoundFitsPost D s r → (B : Declared) (n : NormalForm) → Numbered (asForm n) 0 → Named D B (asForm n) → Fl.Fits (asForm n) → length (flat (asForm n)) ≤ formWords → Holds s 0 (flat (asForm n)) → r ≡ numbersFit B n
-verdict-is {D} {s} A B n u v w l h = A .is (left 0 + 1) (omega arith) ∙ ap (within D) (read-back (asForm n) s 0 w (omega arith) h (left 0 + 1) (omega arith)) ∙ numbers-fit-as B D n u v
+pub verdict-is : {D : Declared} {s : List ℕ} {r : Bool} → BoundFitsPost D s r → (B : Declared) (n : NormalForm) → Numbered (asForm n) 0 → Named D B (asForm n) → Fl.Fits (asForm n) → Fl.Lent (calendarIn s) (asForm n) → length (flat (asForm n)) ≤ formWords → Holds s 0 (flat (asForm n)) → r ≡ numbersFit B n
+verdict-is {D} {s} A B n u v w y l h = A .is (left 0 + 1) (omega arith) ∙ ap (within D) (read-back (asForm n) s 0 w y (omega arith) h (left 0 + 1) (omega arith)) ∙ numbers-fit-as B D n u v

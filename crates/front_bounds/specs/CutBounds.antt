@@ -11,8 +11,7 @@ use Rattle.spec_normal_form.specs.Bound.{ownGens, compBound, Declared, bound, w
 use Rattle.base_syntax.specs.declared.Fun.{Fun}
 use Rattle.base_syntax.specs.declared.Monoid.{Monoid}
 use Rattle.base_syntax.specs.MonoidWord.{monoidOf}
-use Rattle.base_syntax.specs.Numbers.{funOf}
-use Rattle.form_words.specs.FormTree.{formTree, formsTree, clausesTree, headTree, left}
+use Rattle.form_words.specs.FormTree.{opIn, formTree, formsTree, clausesTree, headTree, left}
 use Rattle.front_bounds.specs.declared.Size.{Size}
 
 abbrev pub cut : ℕ → ℕ
@@ -78,7 +77,7 @@ pub record TermSizePost (D : Declared) (s : List ℕ) (i e : ℕ) (r : Size) : T
   pub is : (f : ℕ) → left i + 1 < f → FirstOf D (formsTree f s i e) r
 
 pub record OperatorSizePost (D : Declared) (s : List ℕ) (i e : ℕ) (o : Fun) (r : Size) : Type 0 where
-  pub is : (f : ℕ) → left i + 2 < f → SizeOf D (app (funOf o) (formsTree f s i e)) r
+  pub is : (f : ℕ) → left i + 2 < f → SizeOf D (app (opIn s o) (formsTree f s i e)) r
 
 -- whether 28 does not refuse the form at place 0
 pub record BoundFitsPost (D : Declared) (s : List ℕ) (r : Bool) : Type 0 where

@@ -65,12 +65,13 @@ fn binary_bound(o: Op, a: u64, b: u64) -> u64
     }
 }
 
-// Of an operator's first three terms: "Its bound is the larger one." (document 02, E2)
+// Of an operator's first three terms: "Its bound is the larger one." (document 02, E2) A truth has none.
 fn operator_bound(f: Fun, a: u64, b: u64, c: u64) -> u64
     ensures { λ r. ⌜ r ≡ appBound (funOf f) (a ∷ b ∷ c ∷ []) ⌝ }
 {
     match f {
         Fun::Choice => { if b <= c { c } else { b } }
+        Fun::Open(n) => 0,
     }
 }
 

@@ -75,6 +75,7 @@ says-kind s i Re.nameK = says-name (argAt s i) s i _
 says-kind s i Re.fieldK = says-above (argAt s i) i _ tt
 says-kind s i Re.record′ = tt
 says-kind s i Re.choiceK = tt
+says-kind s i Re.openK = tt
 says-kind s i (Re.two-terms o) = says-above (argAt s i) i _ tt
 says-kind s i Re.not = says-above (argAt s i) i _ tt
 says-kind s i Re.comprehension = says-above (argAt s i) i _ tt

@@ -19,7 +19,7 @@ use Rattle.front_nodes.specs.NodeTable.{depthAt, childrenOf, nodesOf}
 use Rattle.front_nodes.specs.Look.{nth, ChildPost}
 use Rattle.front_nodes.specs.Levels.{AllAt, Level}
 use Rattle.base_syntax.specs.declared.Fun.{Fun}
-use Rattle.base_syntax.specs.declared.Fun.the-variants.{Choice}
+use Rattle.base_syntax.specs.declared.Fun.the-variants.{Choice, Open}
 use Rattle.base_syntax.specs.declared.Op.{Op}
 use Rattle.front_nodes.specs.declared.Found.the-variants as Fd
 use Rattle.front_nodes.proofs.PostOrder.{post-order}
@@ -207,6 +207,7 @@ headed-operator {o = o} e p = subst₂ (λ f a. Headed f 11 a) (sym e) (sym p) (
 
 arg-small : (o : Fun) → funArg (funOf o) < 2 ^ 50
 arg-small Choice = omega arith
+arg-small (Open n) = omega arith
 
 pub headed-small : {f : Form} {k a : ℕ} → Headed f k a → (k < 16) × (a < 2 ^ 50)
 headed-small a-record = omega arith

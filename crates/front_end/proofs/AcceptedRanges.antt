@@ -1,9 +1,10 @@
 -- An accepted question has its constants, fields and tables in range: constants by reading; tables and fields by 25, since
 -- there are at most 8 tables, of at most 8 columns, and records have at most 8 terms.
 use mathlib.Core.Path.{_≡_, refl, sym, ap, subst, _∙_}
-use mathlib.Core.Bool.{Bool, true, false}
+use mathlib.Core.Bool.{Bool, true, false, _&&_, and-eq-true-iff}
 use Prim.Native.Nat.{ℕ, zero, suc, _≤_, _<_}
 use native.Mathlib.Omega.{arith}
+use borrow.Author.Tests.{ltb-true}
 use lib.Dec.{eqb}
 use Rattle.spec_calculus.specs.Lists.{upd}
 use Rattle.spec_calculus.specs.Syntax.{Monoid, of, sum, max, some, all, Bin, plus, minus, times, equal, less, and, or, Fun, Term, Terms, Quals, num, name, field, rec, bin, negate, app, comp, table, tnil, tcons, qnil, gen, bind, cond, Question, asTerm}
@@ -16,7 +17,8 @@ use Rattle.spec_encoding.specs.Reader.{readQuestion}
 use Rattle.spec_encoding.proofs.Data.{read-well-formed}
 use Rattle.spec_checks.specs.Types.{Ty, Tys, number, truth, record′, coll, ynil, ycons, wrong, has, cells, typeAt, Context, generatorsFit}
 use Rattle.spec_checks.proofs.Judgement.{operand, result, Takes, Gathers, Has, HasL, HasQ, untyped, same-type, question-typed}
-use Rattle.spec_normal_form.proofs.Ranges.{InRange, InRangeL, InRangeQ, Ranges}
+use Rattle.spec_normal_form.proofs.Ranges.{OpInRange, InRange, InRangeL, InRangeQ, Ranges}
+use Rattle.spec_checks.specs.Calendars.{lentOp, lentT, lentTs, lentQ, calendarsLent}
 use Rattle.front_words.specs.LaidTree.{countL}
 use Rattle.front_end.proofs.QuestionLimits.{Literal, LiteralL, LiteralQ, question-given}
 
@@ -63,6 +65,7 @@ takes-narrow Sy.choice us number h = tt
 takes-narrow Sy.choice us truth h = tt
 takes-narrow Sy.choice us (record′ ts) h = absurd (h .0)
 takes-narrow Sy.choice us (coll c τ) h = absurd (h .0)
+takes-narrow (Sy.isOpen n c) us τ h = subst Narrow (sym (h .0)) tt
 
 gathers-narrow : (m : Monoid) (σ τ : Ty) → Narrow σ → Gathers m σ τ → Narrow τ
 unfolding Narrow
@@ -84,56 +87,69 @@ upd-narrow x σ Γ a e y τ = go (eqb x y) refl
     go true p = rw (p, upd) (λ h. subst Narrow (sym (same-type σ τ h)) a)
     go false p = rw (p, upd) (e y τ)
 
-module _ {T : Tables} (W : WellFormed T) where
-  mutual
-    unfolding Narrow countL width
+-- a calendar's number that is lent is a byte
+op-narrow : {k : ℕ} (f : Fun) → k ≤ 256 → lentOp k f ≡ true → OpInRange f
+unfolding lentOp
+op-narrow Sy.choice m v = tt
+op-narrow {k} (Sy.isOpen n c) m v = omega (arith, ltb-true n k v, m)
 
-    narrow : (t : Term) (Γ : Context) (τ : Ty) → Literal t → NarrowE Γ → Has T Γ t τ → Narrow τ × InRange t
-    narrow (num z) Γ τ l e h = (subst Narrow (sym h) tt, l)
-    narrow (Sy.truth b) Γ τ l e h = (subst Narrow (sym h) tt, tt)
-    narrow (name x) Γ τ l e h = (e x τ h, tt)
-    narrow (field i t) Γ τ l e h =
-        let a = narrow t Γ (record′ (h .0)) l e (h .1) in
+first : (a b : Bool) → (a && b) ≡ true → a ≡ true
+first a b e = and-eq-true-iff a b .0 e .0
+
+second : (a b : Bool) → (a && b) ≡ true → b ≡ true
+second a b e = and-eq-true-iff a b .0 e .1
+
+module _ {T : Tables} (W : WellFormed T) {k : ℕ} (m′ : k ≤ 256) where
+  mutual
+    unfolding Narrow countL width lentT
+
+    narrow : (t : Term) (Γ : Context) (τ : Ty) → Literal t → lentT k t ≡ true → NarrowE Γ → Has T Γ t τ → Narrow τ × InRange t
+    narrow (num z) Γ τ l v e h = (subst Narrow (sym h) tt, l)
+    narrow (Sy.truth b) Γ τ l v e h = (subst Narrow (sym h) tt, tt)
+    narrow (name x) Γ τ l v e h = (e x τ h, tt)
+    narrow (field i t) Γ τ l v e h =
+        let a = narrow t Γ (record′ (h .0)) l v e (h .1) in
         let b = at-narrow i (h .0) τ (h .2) (a .0 .1) in
         (b .1, (omega (arith, b .0, a .0 .0), a .1))
-    narrow (rec ts) Γ τ l e h =
-        let a = narrowL ts Γ (h .0) (l .1) e (h .1) in
+    narrow (rec ts) Γ τ l v e h =
+        let a = narrowL ts Γ (h .0) (l .1) v e (h .1) in
         (subst Narrow (sym (h .2)) (omega (arith, a .0, l .0), a .1), a .2)
-    narrow (app f ts) Γ τ l e h = (takes-narrow f (h .0) τ (h .2), (l .0, narrowL ts Γ (h .0) (l .1) e (h .1) .2))
-    narrow (bin o s t) Γ τ l e h =
-        (subst Narrow (sym (h .2)) (result-narrow o), (narrow s Γ (operand o) (l .0) e (h .0) .1, narrow t Γ (operand o) (l .1) e (h .1) .1))
-    narrow (negate t) Γ τ l e h = (subst Narrow (sym (h .1)) tt, narrow t Γ truth l e (h .0) .1)
-    narrow (comp m qs t) Γ τ l e h =
-        let a = narrowQ qs m Γ (h .0) (l .0) e (h .2) in
-        let b = narrow t (h .0) (h .1) (l .1) (a .0) (h .3) in
+    narrow (app f ts) Γ τ l v e h = (takes-narrow f (h .0) τ (h .2), (l .0, narrowL ts Γ (h .0) (l .1) (second (lentOp k f) (lentTs k ts) v) e (h .1) .2, op-narrow f m′ (first (lentOp k f) (lentTs k ts) v)))
+    narrow (bin o s t) Γ τ l v e h =
+        (subst Narrow (sym (h .2)) (result-narrow o), (narrow s Γ (operand o) (l .0) (first (lentT k s) (lentT k t) v) e (h .0) .1, narrow t Γ (operand o) (l .1) (second (lentT k s) (lentT k t) v) e (h .1) .1))
+    narrow (negate t) Γ τ l v e h = (subst Narrow (sym (h .1)) tt, narrow t Γ truth l v e (h .0) .1)
+    narrow (comp m qs t) Γ τ l v e h =
+        let a = narrowQ qs m Γ (h .0) (l .0) (first (lentQ k qs) (lentT k t) v) e (h .2) in
+        let b = narrow t (h .0) (h .1) (l .1) (second (lentQ k qs) (lentT k t) v) (a .0) (h .3) in
         (gathers-narrow m (h .1) τ (b .0) (h .4), (a .1, b .1))
-    narrow (table k) Γ τ l e h =
+    narrow (table k) Γ τ l v e h =
         let a = cells-narrow (columnsOf T k) in
         (subst Narrow (sym (h .1)) (omega (arith, a .0, columns-at-most W k), a .1), omega (arith, number-few W k (h .0)))
 
-    narrowL : (ts : Terms) (Γ : Context) (us : Tys) → LiteralL ts → NarrowE Γ → HasL T Γ ts us → (width us ≡ countL ts) × NarrowL us × InRangeL ts
-    narrowL tnil Γ us l e h = (ap width h, subst NarrowL (sym h) tt, tt)
-    narrowL (tcons t ts) Γ us l e h =
-        let a = narrow t Γ (h .0) (l .0) e (h .2) in
-        let b = narrowL ts Γ (h .1) (l .1) e (h .3) in
+    narrowL : (ts : Terms) (Γ : Context) (us : Tys) → LiteralL ts → lentTs k ts ≡ true → NarrowE Γ → HasL T Γ ts us → (width us ≡ countL ts) × NarrowL us × InRangeL ts
+    narrowL tnil Γ us l v e h = (ap width h, subst NarrowL (sym h) tt, tt)
+    narrowL (tcons t ts) Γ us l v e h =
+        let a = narrow t Γ (h .0) (l .0) (first (lentT k t) (lentTs k ts) v) e (h .2) in
+        let b = narrowL ts Γ (h .1) (l .1) (second (lentT k t) (lentTs k ts) v) e (h .3) in
         (ap width (h .4) ∙ ap suc (b .0), subst NarrowL (sym (h .4)) (a .0, b .1), (a .1, b .2))
 
-    narrowQ : (qs : Quals) (m : Monoid) (Γ Δ : Context) → LiteralQ qs → NarrowE Γ → HasQ T m Γ qs Δ → NarrowE Δ × InRangeQ qs
-    narrowQ qnil m Γ Δ l e h = (subst NarrowE h e, tt)
-    narrowQ (gen x t qs) m Γ Δ l e h =
-        let a = narrow t Γ (coll (h .0) (h .1)) (l .0) e (h .2) in
-        let b = narrowQ qs m (upd x (has (h .1)) Γ) Δ (l .1) (upd-narrow x (h .1) Γ (a .0) e) (h .4) in
+    narrowQ : (qs : Quals) (m : Monoid) (Γ Δ : Context) → LiteralQ qs → lentQ k qs ≡ true → NarrowE Γ → HasQ T m Γ qs Δ → NarrowE Δ × InRangeQ qs
+    narrowQ qnil m Γ Δ l v e h = (subst NarrowE h e, tt)
+    narrowQ (gen x t qs) m Γ Δ l v e h =
+        let a = narrow t Γ (coll (h .0) (h .1)) (l .0) (first (lentT k t) (lentQ k qs) v) e (h .2) in
+        let b = narrowQ qs m (upd x (has (h .1)) Γ) Δ (l .1) (second (lentT k t) (lentQ k qs) v) (upd-narrow x (h .1) Γ (a .0) e) (h .4) in
         (b .0, (a .1, b .1))
-    narrowQ (bind x t qs) m Γ Δ l e h =
-        let a = narrow t Γ (h .0) (l .0) e (h .1) in
-        let b = narrowQ qs m (upd x (has (h .0)) Γ) Δ (l .1) (upd-narrow x (h .0) Γ (a .0) e) (h .2) in
+    narrowQ (bind x t qs) m Γ Δ l v e h =
+        let a = narrow t Γ (h .0) (l .0) (first (lentT k t) (lentQ k qs) v) e (h .1) in
+        let b = narrowQ qs m (upd x (has (h .0)) Γ) Δ (l .1) (second (lentT k t) (lentQ k qs) v) (upd-narrow x (h .0) Γ (a .0) e) (h .2) in
         (b .0, (a .1, b .1))
-    narrowQ (cond t qs) m Γ Δ l e h =
-        let b = narrowQ qs m Γ Δ (l .1) e (h .1) in
-        (b .0, (narrow t Γ truth (l .0) e (h .0) .1, b .1))
+    narrowQ (cond t qs) m Γ Δ l v e h =
+        let b = narrowQ qs m Γ Δ (l .1) (second (lentT k t) (lentQ k qs) v) e (h .1) in
+        (b .0, (narrow t Γ truth (l .0) (first (lentT k t) (lentQ k qs) v) e (h .0) .1, b .1))
 
--- Where the data and a question are read and 25 and 26 let it pass, its constants, fields and tables are in range.
-pub read-ranges : (d l : Bytes) {T : Tables} {q : Question} → readData d ≡ got T → readQuestion l ≡ got q → generatorsFit T q ≡ true → Ranges q
-read-ranges d l {T} {q} D L g =
+-- Where the data and a question are read, and 25, 42 and 26 let it pass, its constants, fields, tables and calendars are in range.
+pub read-ranges : (d l : Bytes) {T : Tables} {q : Question} {k : ℕ} → readData d ≡ got T → readQuestion l ≡ got q → k ≤ 256 → calendarsLent k q ≡ true → generatorsFit T q ≡ true → Ranges q
+unfolding calendarsLent
+read-ranges d l {T} {q} D L m v g =
     let h = question-typed T q g in
-    narrow (read-well-formed d D) (asTerm q) (λ x. wrong) (h .0) (question-given l L .2) (λ x τ e. untyped e) (h .1) .1
+    narrow (read-well-formed d D) m (asTerm q) (λ x. wrong) (h .0) (question-given l L .2) v (λ x τ e. untyped e) (h .1) .1

@@ -6,12 +6,17 @@ use Prim.Native.Nat.{ℕ, _+_, _-_, _≤_, _<_}
 use native.Mathlib.Omega.{arith}
 use lib.ListN.{length}
 use borrow.Author.Tests.{le-leb, lt-leb}
+use Rattle.spec_calendar.specs.Hours.{Calendars}
 use Rattle.spec_calculus.specs.Syntax.{Question}
+use Rattle.spec_calculus.specs.Value.{Tables}
+use Rattle.spec_hours.specs.CalendarBytes.{calendarsFit, mostCalendars, calendarsOf}
+use Rattle.spec_checks.specs.Calendars.{calendarsLent}
+use Rattle.spec_outcome.specs.Acceptance.{Lent}
 use Rattle.spec_encoding.specs.Record.{Bytes, refused}
 use Rattle.spec_encoding.specs.Data.{readData}
 use Rattle.spec_encoding.specs.Reader.{readQuestion}
 use Rattle.spec_encoding.proofs.Refusals.{Only, data-only, question-only}
-use Rattle.spec_outcome.proofs.CheckOrder.{data-refused, question-refused, judged-as, names-decide, types-decide, generators-decide, size-decides}
+use Rattle.spec_outcome.proofs.CheckOrder.{data-refused, unread, judged-as, calendars-refused, question-refused, question-read}
 use Rattle.base_scratch.specs.Map.{scratchSize}
 use Rattle.base_tables.specs.DataReader.{ReadDataPost}
 use Rattle.base_tables.proofs.ReadData.{WellFormed, well-formed, not-well-formed}
@@ -29,6 +34,9 @@ use Rattle.front_end.specs.LoadedQuestion.{Loaded, Ready, Apart}
 use Rattle.front_end.specs.PartContracts.{JudgedBy, SizedPost, TypedPost, JudgedPost, FrontBy, FrontEndPost}
 use Rattle.front_end.specs.declared.FrontResult.{FrontResult}
 use Rattle.front_end.specs.declared.FrontResult.the-variants as FrontResult
+use Rattle.front_calendars.specs.LentNodes.{lentFrom}
+use Rattle.front_calendars.proofs.LentQuestion.{question-lent}
+use Rattle.front_end.proofs.LentChecks.{calendars-read, calendars-broken, names-decide, types-decide, calendars-decide, generators-decide, size-decides}
 use Rattle.front_end.proofs.QuestionLimits.{question-given}
 use Rattle.front_end.proofs.PassChain.{apart-then, binders-away, names-said, made-ready, ready-checked, judges-away, judges-ready}
 use Rattle.front_end.proofs.MeasuredRoot.{after, size-said, root-form, root-writable}
@@ -41,42 +49,56 @@ module _ {s r : List ℕ} {n : ℕ} (M : MeasurePost s n r) (few : n ≤ 256) wh
   module _ {z : ℕ} (e : z ≡ termCount r (n - 1) .size) where
     pub too-large : 512 < z → SizedPost s r n (FrontResult.Refused 27)
     too-large h = record {
-      is = λ d T q R b c. (size-decides T q (R .names) b c (sym (size-said M few R) ∙ lt-leb (termCount r (n - 1) .size) 512 (omega (arith, e, h))), omega arith);
+      is = λ d T C q R b v c. (size-decides T C q (R .names) b v c (sym (size-said M few R) ∙ lt-leb (termCount r (n - 1) .size) 512 (omega (arith, e, h))), λ p. absurd (omega arith));
       away = measures-away;
     }
 
     pub small-enough : z ≤ 512 → SizedPost s r n (FrontResult.Nodes n)
     small-enough h = record {
-      is = λ d T q R b c.
+      is = λ d T C q R b v c.
           let w = sym (size-said M few R) ∙ le-leb (termCount r (n - 1) .size) 512 (omega (arith, e, h)) in
-          record { ready = after M few R; types = b; generators = c; size = w; writable = root-writable M few R w; form = root-form M few R w };
+          record { ready = after M few R; types = b; calendars = v; generators = c; size = w; writable = root-writable M few R w; form = root-form M few R w };
       away = measures-away;
     }
 
--- ---- 25 and 26
+-- ---- 25, 42 and 26
 module _ {s t : List ℕ} {n : ℕ} {a : Bool} (A : Judges false s n t a) (few : n ≤ 256) where
-  pub types-wrong : a ≡ false → TypedPost s t n (FrontResult.Refused 25)
-  types-wrong e = record { is = λ d T q R. (types-decide T q (R .names) (sym (types-fit (ready-checked R) A) ∙ e), omega arith); away = judges-away A few }
+  pub types-wrong : {k : Bytes} → a ≡ false → TypedPost k s t n (FrontResult.Refused 25)
+  types-wrong {k} e = record { is = λ d T q R. (types-decide T (calendarsOf k) q (R .names) (sym (types-fit (ready-checked R) A) ∙ e), λ h. absurd (omega arith)); away = judges-away A few }
 
-  module _ {u : List ℕ} {b : Bool} (p : a ≡ true) (B : Judges true t n u b) where
-    pub generators-wrong : b ≡ false → TypedPost s u n (FrontResult.Refused 26)
-    generators-wrong e = record {
-      is = λ d T q R. (generators-decide T q (R .names) (sym (types-fit (ready-checked R) A) ∙ p) (sym (generators-fit (ready-checked (judges-ready A R)) B) ∙ e), omega arith);
-      away = apart-then (judges-away A few) (judges-away B few);
+  module _ (p : a ≡ true) (k : Bytes) {x : Bool} (X : x ≡ lentFrom (length (calendarsOf k)) t 0 n) where
+    abbrev C : Calendars
+    C = calendarsOf k
+
+    -- the nodes pass where the question does
+    lent-said : {d : Bytes} {T : Tables} {q : Question} → Ready d T q s n → x ≡ calendarsLent (length C) q
+    lent-said {q = q} R = let L = judges-ready A R .loaded in X ∙ question-lent (length C) t q n (L .laid) (L .count)
+
+    pub calendars-wrong : x ≡ false → TypedPost k s t n (FrontResult.Refused 42)
+    calendars-wrong e = record {
+      is = λ d T q R. (calendars-decide T C q (R .names) (sym (types-fit (ready-checked R) A) ∙ p) (sym (lent-said R) ∙ e), λ h. absurd (omega arith));
+      away = judges-away A few;
     }
 
-    pub both-fit : b ≡ true → {v : List ℕ} {r : FrontResult} → SizedPost u v n r → TypedPost s v n r
-    both-fit e F = record {
-      is = λ d T q R. F .is d T q (judges-ready B (judges-ready A R)) (sym (types-fit (ready-checked R) A) ∙ p) (sym (generators-fit (ready-checked (judges-ready A R)) B) ∙ e);
-      away = apart-then (apart-then (judges-away A few) (judges-away B few)) (F .away);
-    }
+    module _ (y : x ≡ true) {u : List ℕ} {b : Bool} (B : Judges true t n u b) where
+      pub generators-wrong : b ≡ false → TypedPost k s u n (FrontResult.Refused 26)
+      generators-wrong e = record {
+        is = λ d T q R. (generators-decide T C q (R .names) (sym (types-fit (ready-checked R) A) ∙ p) (sym (lent-said R) ∙ y) (sym (generators-fit (ready-checked (judges-ready A R)) B) ∙ e), λ h. absurd (omega arith));
+        away = apart-then (judges-away A few) (judges-away B few);
+      }
+
+      pub both-fit : b ≡ true → {v : List ℕ} {r : FrontResult} → SizedPost u v n r → TypedPost k s v n r
+      both-fit e F = record {
+        is = λ d T q R. F .is d T C q (judges-ready B (judges-ready A R)) (sym (types-fit (ready-checked R) A) ∙ p) (sym (lent-said R) ∙ y) (sym (generators-fit (ready-checked (judges-ready A R)) B) ∙ e);
+        away = apart-then (apart-then (judges-away A few) (judges-away B few)) (F .away);
+      }
 
 -- ---- 24
-module _ {s : List ℕ} {n : ℕ} {a : Bool} (A : NamesHoldPost s n a) where
-  pub names-wrong : a ≡ false → JudgedPost s s n (FrontResult.Refused 24)
-  names-wrong e = record { is = λ d T q L. (names-decide T q (sym (names-said L A) ∙ e), omega arith); away = record { long = refl; above = λ j l. refl } }
+module _ {s : List ℕ} {n : ℕ} {a : Bool} (A : NamesHoldPost s n a) {k : Bytes} where
+  pub names-wrong : a ≡ false → JudgedPost k s s n (FrontResult.Refused 24)
+  names-wrong e = record { is = λ d T q L. (names-decide T (calendarsOf k) q (sym (names-said L A) ∙ e), λ h. absurd (omega arith)); away = record { long = refl; above = λ j l. refl } }
 
-  pub names-right : a ≡ true → {t u : List ℕ} {r : FrontResult} → t ≡ bindersOf s n → TypedPost t u n r → JudgedPost s u n r
+  pub names-right : a ≡ true → {t u : List ℕ} {r : FrontResult} → t ≡ bindersOf s n → TypedPost k t u n r → JudgedPost k s u n r
   names-right e {t} {u} {r} w F = record {
     is = λ d T q L. F .is d T q (subst (λ x. Ready d T q x n) (sym w) (made-ready L (sym (names-said L A) ∙ e)));
     away = apart-then (subst (Apart s) (sym w) (binders-away s n)) (F .away);
@@ -97,22 +119,29 @@ module _ {d : Bytes} {s t : List ℕ} {z : ℕ} (D : ReadDataPost d s t z) where
   data-away : Apart s t
   data-away = record { long = D .long; above = λ j h. D .kept j (omega arith) }
 
-  pub data-wrong : {l : Bytes} → (z ≡ 0 → ⊥) → FrontEndPost d l s t (FrontResult.Refused z)
+  pub data-wrong : {l : Lent} → (z ≡ 0 → ⊥) → FrontEndPost d l s t (FrontResult.Refused z)
   data-wrong {l} h = record { is = (data-refused d l (not-well-formed D h), data-other d (not-well-formed D h)); away = data-away }
 
-  module _ (y : z ≡ 0) {l : Bytes} {u : List ℕ} {x : Read} (Q : ReadQuestionPost l t u x) where
+  -- ---- 41
+  pub calendars-wrong-before : (y : z ≡ 0) {l : Lent} {x : Bool} → x ≡ calendarsFit mostCalendars (l .calendars) → x ≡ false → FrontEndPost d l s t (FrontResult.Refused 41)
+  calendars-wrong-before y {l} X e = record { is = (unread d l (well-formed D y .is) (calendars-refused l (calendars-broken (l .calendars) (sym X ∙ e))), λ h. absurd (omega arith)); away = data-away }
+
+  module _ (y : z ≡ 0) (l : Lent) {c : Bool} (X : c ≡ calendarsFit mostCalendars (l .calendars)) (w : c ≡ true) {u : List ℕ} {x : Read} (Q : ReadQuestionPost (l .question) t u x) where
+    fit : calendarsFit mostCalendars (l .calendars) ≡ true
+    fit = sym X ∙ w
+
     both-away : Apart s u
     both-away = apart-then data-away (record { long = Q .kept .long; above = λ j h. Q .kept .above j (omega arith) })
 
     pub question-wrong : {k : ℕ} → x ≡ Answer.Refused k → FrontEndPost d l s u (FrontResult.Refused k)
     question-wrong e =
-        let k = subst (QuestionBy (readQuestion l) u) e (Q .is) in
-        record { is = (question-refused d l (well-formed D y .is) k, question-other l k); away = both-away }
+        let k = subst (QuestionBy (readQuestion (l .question)) u) e (Q .is) in
+        record { is = (unread d l (well-formed D y .is) (question-refused l (calendars-read (l .calendars) fit) k), question-other (l .question) k); away = both-away }
 
-    module _ (W : WellFormed d) {n : ℕ} (H : Held (readQuestion l) u n) where
+    module _ (W : WellFormed d) {n : ℕ} (H : Held (readQuestion (l .question)) u n) where
       loaded : scratchSize ≤ length s → Loaded d (W .tables) (H .question) u n
       loaded room =
-          let G = question-given l (H .is) in
+          let G = question-given (l .question) (H .is) in
           record {
             tables = W .is;
             stored = stored-same u (λ j h. Q .kept .below j (omega arith)) (D .stored (W .tables) (W .is));
@@ -125,14 +154,14 @@ module _ {d : Bytes} {s t : List ℕ} {z : ℕ} (D : ReadDataPost d s t z) where
             long = omega (arith, room, both-away .long);
           }
 
-      carried : (v : List ℕ) (r : FrontResult) → JudgedBy d (W .tables) (H .question) v r → FrontBy d l v r
-      carried v (FrontResult.Refused k) p = (judged-as d l (W .is) (H .is) ∙ p .0, λ e. omega (arith, p .1))
-      carried v (FrontResult.Nodes m) p = record { tables = W .tables; question = H .question; asked = H .is; passed = p }
+      carried : (v : List ℕ) (r : FrontResult) → JudgedBy d (W .tables) (calendarsOf (l .calendars)) (H .question) v r → FrontBy d l v r
+      carried v (FrontResult.Refused k) p = (judged-as d l (W .is) (question-read l (calendars-read (l .calendars) fit) (H .is)) ∙ p .0, p .1)
+      carried v (FrontResult.Nodes m) p = record { tables = W .tables; question = H .question; fit = fit; asked = H .is; passed = p }
 
-    pub question-right : scratchSize ≤ length s → {n : ℕ} → x ≡ Answer.Question n → {v : List ℕ} {r : FrontResult} → JudgedPost u v n r → FrontEndPost d l s v r
+    pub question-right : scratchSize ≤ length s → {n : ℕ} → x ≡ Answer.Question n → {v : List ℕ} {r : FrontResult} → JudgedPost (l .calendars) u v n r → FrontEndPost d l s v r
     question-right room {n} e {v} {r} F =
         let W = well-formed D y in
-        let H : Held (readQuestion l) u n = subst (QuestionBy (readQuestion l) u) e (Q .is) in
+        let H : Held (readQuestion (l .question)) u n = subst (QuestionBy (readQuestion (l .question)) u) e (Q .is) in
         record { is = carried W H v r (F .is d (W .tables) (H .question) (loaded W H room)); away = apart-then both-away (F .away) }
 
 pub question-few : {l : Bytes} {t u : List ℕ} {x : Read} → ReadQuestionPost l t u x → {n : ℕ} → x ≡ Answer.Question n → n ≤ 256

@@ -1,4 +1,6 @@
 -- What the composition of the passes needs.
+pub mod LentChecks
+pub mod LentForm
 pub mod QuestionLimits
 pub mod AcceptedRanges
 pub mod PassChain

@@ -9,7 +9,7 @@ use lib.Seq.{getD-set-other}
 use Rattle.spec_calculus.specs.Syntax.{Question, asTerm}
 use Rattle.spec_calculus.specs.Value.{Tables}
 use Rattle.spec_encoding.specs.Record.{Bytes}
-use Rattle.spec_encoding.specs.Reader.{Kind, kinds, unknown, number, truthK, nameK, fieldK, record′, not, tableK, comprehension, generator, binding, condition, choiceK, two-terms}
+use Rattle.spec_encoding.specs.Reader.{Kind, kinds, unknown, number, truthK, nameK, fieldK, record′, not, tableK, comprehension, generator, binding, condition, choiceK, openK, two-terms}
 use Rattle.spec_checks.specs.Scope.{namesHold}
 use Rattle.base_tables.proofs.TableWords.{stored-same}
 use Rattle.base_scratch.specs.Map.{nodesAt, bindersAt, shapesAt}
@@ -91,6 +91,7 @@ binding-binds nameK b = absurd b
 binding-binds fieldK b = absurd b
 binding-binds record′ b = absurd b
 binding-binds choiceK b = absurd b
+binding-binds openK b = absurd b
 binding-binds (two-terms o) b = absurd b
 binding-binds not b = absurd b
 binding-binds comprehension b = absurd b

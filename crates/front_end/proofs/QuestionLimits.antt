@@ -57,6 +57,7 @@ reader-keeps = record {
   binary = λ d o t u p q. (omega (arith, p .0, q .0), (p .1, q .1), (p .2, q .2));
   negation = λ d t p. (omega (arith, p .0), p .1, p .2);
   choice = λ d t u v p q r. (omega (arith, p .0, q .0, r .0), (p .1, (q .1, (r .1, tt))), (tt, (p .2, (q .2, (r .2, tt)))));
+  opening = λ d n t p. (omega (arith, p .0), (p .1, tt), (tt, (p .2, tt)));
   comprehension = λ d m qs h p q. (omega (arith, p .0, q .0), (p .1, q .1), (p .2, q .2));
   table = λ d k. (omega arith, tt, tt);
   deeper = λ d t p. (omega (arith, p .0), p .1, p .2);

@@ -7,7 +7,7 @@ use native.Mathlib.Omega.{arith}
 use lib.Dec.{leb, ltb}
 use borrow.Author.Tests.{ltb-true, ltb-false, lt-ltb, eq-eqb, ne-eqb}
 use Rattle.spec_calculus.specs.Lists.{pick}
-use Rattle.spec_calculus.specs.Syntax.{choice, Term, Terms, Quals, num, truth, name, field, rec, bin, negate, app, comp, table, tnil, tcons, qnil, gen, bind, cond}
+use Rattle.spec_calculus.specs.Syntax.{choice, isOpen, Term, Terms, Quals, num, truth, name, field, rec, bin, negate, app, comp, table, tnil, tcons, qnil, gen, bind, cond}
 use Rattle.base_signed.proofs.SignedWords.{by-test}
 use Rattle.spec_encoding.specs.Reader.{Kind, comprehension}
 use Rattle.front_words.specs.NodeTree.{monoidAt, argAt, startAt}
@@ -19,7 +19,7 @@ use Rattle.base_scratch.specs.Map.{mostNodes}
 use Rattle.front_nodes.specs.NodeTable.{depthAt, childrenOf, chain, qualifiersOf, above, nameBy, nodeBy, nodesOf}
 use Rattle.front_nodes.proofs.PostOrder.{by-pick}
 use Rattle.front_nodes.proofs.QualifierChain.{chain-none, chain-more}
-use Rattle.front_nodes.proofs.TableHolds.{node-is, up, node-at, lastsL, children-are}
+use Rattle.front_nodes.proofs.TableHolds.{node-is, up, node-at, lastsL, counted, counted-op, children-are}
 use Rattle.front_nodes.proofs.Levels.{laid-levelled}
 use Rattle.front_measure.specs.MeasurableNodes.{qualifies, ends, row, TermAt, TermsAt, Aligned, Arranged}
 use Rattle.front_measure.proofs.WeighExits.{row-none, row-more}
@@ -53,6 +53,7 @@ last (name x) s d a L m j e = last-by (L .0) j (omega arith) (omega arith) (qual
 last (field i t) s d a L m j e = last-by (L .1) j (omega arith) (omega arith) (qualifies-above j (No.nfield (argAt s j) (j - 1)) refl)
 last (rec ts) s d a L m j e = last-by (L .1) j (omega arith) (omega arith) refl
 last (app choice ts) s d a L m j e = last-by (L .1) j (omega arith) (omega arith) refl
+last (app (isOpen n c) ts) s d a L m j e = last-by (L .1) j (omega arith) (omega arith) refl
 last (bin o t u) s d a L m j e = last-by (L .2) j (omega arith) (omega arith) (qualifies-above j (No.nbin o (startAt s (j - 1) - 1) (j - 1)) refl)
 last (negate t) s d a L m j e = last-by (L .1) j (omega arith) (omega arith) (qualifies-above j (No.nnegate (j - 1)) refl)
 last (comp n qs h) s d a L m j e = last-by (L .2) j (omega arith) (omega arith) (qualifies-above j (No.ncomp (monoidAt (argAt s j)) (qualifiersOf s j) (j - 1)) refl)
@@ -180,10 +181,13 @@ mutual
       (λ e. aligned-by (L .1) j e (omega arith) (aligned-above s j (No.nfield (argAt s j) (j - 1)) (last-at t s d a j (L .0) (omega arith) e .kind)))
   aligned (rec ts) s d a L m B j p q =
       upto s j (a + nodesL ts) (omega arith) (λ l. alignedL ts s d a (L .0) (omega arith) B j p l)
-      (λ e. aligned-by (L .1) j e (omega arith) (subst (TermsAt s) (sym (ap (childrenOf s) (sym e) ∙ children-are ts s d a (L .0) (L .2))) (terms-at ts s d a (L .0) (omega arith))))
+      (λ e. aligned-by (L .1) j e (omega arith) (subst (TermsAt s) (sym (ap (childrenOf s) (sym e) ∙ children-are ts s d a (L .0) (counted ts (L .1) (L .2)))) (terms-at ts s d a (L .0) (omega arith))))
   aligned (app choice ts) s d a L m B j p q =
       upto s j (a + nodesL ts) (omega arith) (λ l. alignedL ts s d a (L .0) (omega arith) B j p l)
-      (λ e. aligned-by (L .1) j e (omega arith) (subst (TermsAt s) (sym (ap (childrenOf s) (sym e) ∙ children-are ts s d a (L .0) (L .2))) (terms-at ts s d a (L .0) (omega arith))))
+      (λ e. aligned-by (L .1) j e (omega arith) (subst (TermsAt s) (sym (ap (childrenOf s) (sym e) ∙ children-are ts s d a (L .0) (counted-op choice ts (L .1) (L .2) (L .3)))) (terms-at ts s d a (L .0) (omega arith))))
+  aligned (app (isOpen n c) ts) s d a L m B j p q =
+      upto s j (a + nodesL ts) (omega arith) (λ l. alignedL ts s d a (L .0) (omega arith) B j p l)
+      (λ e. aligned-by (L .1) j e (omega arith) (subst (TermsAt s) (sym (ap (childrenOf s) (sym e) ∙ children-are ts s d a (L .0) (counted-op (isOpen n c) ts (L .1) (L .2) (L .3)))) (terms-at ts s d a (L .0) (omega arith))))
   aligned (bin o t u) s d a L m B j p q =
       upto s j (a + nodes t + nodes u) (omega arith)
       (λ l. either s j (a + nodes t) (λ k. aligned t s d a (L .0) (omega arith) B j p k) (λ k. aligned u s d (a + nodes t) (L .1) (omega arith) (behind-tree t s d a (L .0) (omega arith)) j k l))

@@ -15,7 +15,8 @@ use Rattle.spec_calculus.specs.Syntax as Sy
 use Rattle.spec_normal_form.specs.Normal.{idempotent, givesWay}
 use Rattle.front_theory.specs.NodeForms.{levels}
 use Rattle.front_theory.specs.CappedOffsets.{limit}
-use Rattle.front_words.specs.NodeTree.{argAt, startAt}
+use Rattle.front_words.specs.NodeTree.{kindAt, argAt, startAt}
+use Rattle.spec_encoding.specs.Reader.{Kind, unknown, number, truthK, nameK, fieldK, record′, not, tableK, comprehension, generator, binding, condition, choiceK, openK, two-terms}
 use Rattle.front_sizes.specs.declared.FormSize.{FormSize}
 use Rattle.front_sizes.specs.SizeWords.{place, pack, termCount, conditionCount}
 use Rattle.front_nodes.proofs.QueryNode as node
@@ -23,7 +24,7 @@ use Rattle.front_nodes.proofs.PostOrder.{by-pick}
 use Rattle.front_nodes.specs.declared.QueryNode.{QueryNode}
 use Rattle.front_nodes.specs.declared.QueryNode.the-variants.{Number, Truth, Name, Field, Record, Two, Not, Comp, Table, Gen, Bind, Cond, Operator, Bad}
 use Rattle.front_nodes.specs.declared.Found.the-variants.{At, Nothing}
-use Rattle.front_nodes.specs.NodeTable.{depthAt, siblings, childrenOf, nodesOf}
+use Rattle.front_nodes.specs.NodeTable.{depthAt, countOf, countAt, siblings, childrenOf, nodesOf}
 use Rattle.front_nodes.specs.Look.{nodeNamed, LookPost, nth, ChildPost}
 use Rattle.front_resolve.specs.declared.Form.{Form}
 use Rattle.front_resolve.specs.Place.{Place, Heads}
@@ -199,8 +200,25 @@ siblings-long s zero e cs = omega arith
 siblings-long s (suc n) e cs = siblings-long s n (startAt s (e - 1)) ((e - 1) ∷ cs) ∙ omega arith
 
 -- the argument of a record's word has 33 bits
+count-small : (K : Kind) (a : ℕ) → a < 8589934592 → countOf K a < 8589934592
+count-small openK a h = omega arith
+count-small number a h = h
+count-small truthK a h = h
+count-small nameK a h = h
+count-small fieldK a h = h
+count-small record′ a h = h
+count-small choiceK a h = h
+count-small (two-terms o) a h = h
+count-small not a h = h
+count-small comprehension a h = h
+count-small tableK a h = h
+count-small generator a h = h
+count-small binding a h = h
+count-small condition a h = h
+count-small unknown a h = h
+
 pub few-terms : (s : List ℕ) (i : ℕ) → length (childrenOf s i) < 8589934592
-few-terms s i = by-pick (λ (l : List ℕ). length l < 8589934592) (ltb 0 i) (siblings s (argAt s i) i []) [] (λ t. omega (arith, siblings-long s (argAt s i) i [])) (λ t. omega arith)
+few-terms s i = by-pick (λ (l : List ℕ). length l < 8589934592) (ltb 0 i) (siblings s (countAt s i) i []) [] (λ t. omega (arith, siblings-long s (countAt s i) i [], count-small (kindAt s i) (argAt s i) (omega arith))) (λ t. omega arith)
 
 pub terms-none : (s : List ℕ) (i : ℕ) → Summed s i none 0
 unfolding total

@@ -5,7 +5,7 @@ use mathlib.Core.List.{List}
 use Prim.Native.Nat.{ℕ, _+_, _<_, _≤_}
 use native.Mathlib.Omega.{arith}
 use Rattle.spec_calculus.specs.Syntax.{Term, Terms, Quals, num, truth, name, field, rec, bin, negate, app, comp, table, tnil, tcons, qnil, gen, bind, cond, Question, asTerm}
-use Rattle.spec_encoding.specs.Reader.{Kind, unknown, number, truthK, nameK, fieldK, record′, not, tableK, comprehension, generator, binding, condition, choiceK, two-terms}
+use Rattle.spec_encoding.specs.Reader.{Kind, unknown, number, truthK, nameK, fieldK, record′, not, tableK, comprehension, generator, binding, condition, choiceK, openK, two-terms}
 use lib.ListN.{getD}
 use Rattle.base_scratch.specs.Map.{bindersAt, mostNodes}
 use Rattle.front_words.specs.NodeTree.{kindAt, argAt}
@@ -22,6 +22,7 @@ Binding nameK = ⊥
 Binding fieldK = ⊥
 Binding record′ = ⊥
 Binding choiceK = ⊥
+Binding openK = ⊥
 Binding (two-terms o) = ⊥
 Binding not = ⊥
 Binding comprehension = ⊥

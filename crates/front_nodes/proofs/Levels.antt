@@ -6,7 +6,7 @@ use native.Mathlib.Omega.{arith}
 use lib.Dec.{ltb, leb}
 use borrow.Author.Tests.{ltb-true, ltb-false}
 use Rattle.spec_calculus.specs.Lists.{pick}
-use Rattle.spec_calculus.specs.Syntax.{choice, Term, Terms, Quals, num, truth, name, field, rec, bin, negate, app, comp, table, tnil, tcons, qnil, gen, bind, cond}
+use Rattle.spec_calculus.specs.Syntax.{choice, isOpen, Term, Terms, Quals, num, truth, name, field, rec, bin, negate, app, comp, table, tnil, tcons, qnil, gen, bind, cond}
 use Rattle.base_signed.proofs.SignedWords.{by-test}
 use Rattle.spec_encoding.specs.Reader.{Kind, comprehension}
 use Rattle.front_words.specs.NodeTree.{monoidAt, argAt, startAt}
@@ -18,7 +18,7 @@ use Rattle.base_scratch.specs.Map.{mostNodes}
 use Rattle.front_nodes.specs.NodeTable.{depthAt, childrenOf, qualifiersOf, above, nameBy, nodeBy, nodesOf}
 use Rattle.front_nodes.specs.Levels.{AllAt, Level, Levelled}
 use Rattle.front_nodes.proofs.PostOrder.{by-pick}
-use Rattle.front_nodes.proofs.TableHolds.{node-is, node-at, lastsL, lastsQ, children-are, qualifiers-are}
+use Rattle.front_nodes.proofs.TableHolds.{node-is, node-at, lastsL, lastsQ, counted, counted-op, children-are, qualifiers-are}
 
 -- the depth of a tree's last node
 depth-at : {s : List ℕ} {d a i : ℕ} {K : Kind} → Node s d a i K → (j : ℕ) → i ≡ j → depthAt s j ≡ d
@@ -108,10 +108,13 @@ mutual
       (λ e. level-by (L .1) j e (omega arith) (level-above s d j (No.nfield (argAt s j) (j - 1)) (child-depth t s d a j (L .0) e)))
   levels (rec ts) s d a L m j p q =
       upto s j (a + nodesL ts) (omega arith) (λ l. levelsL ts s d a (L .0) (omega arith) j p l)
-      (λ e. level-by (L .1) j e (omega arith) (subst (AllAt (depthAt s) d) (sym (ap (childrenOf s) (sym e) ∙ children-are ts s d a (L .0) (L .2))) (all-terms ts s d a (L .0))))
+      (λ e. level-by (L .1) j e (omega arith) (subst (AllAt (depthAt s) d) (sym (ap (childrenOf s) (sym e) ∙ children-are ts s d a (L .0) (counted ts (L .1) (L .2)))) (all-terms ts s d a (L .0))))
   levels (app choice ts) s d a L m j p q =
       upto s j (a + nodesL ts) (omega arith) (λ l. levelsL ts s d a (L .0) (omega arith) j p l)
-      (λ e. level-by (L .1) j e (omega arith) (subst (AllAt (depthAt s) d) (sym (ap (childrenOf s) (sym e) ∙ children-are ts s d a (L .0) (L .2))) (all-terms ts s d a (L .0))))
+      (λ e. level-by (L .1) j e (omega arith) (subst (AllAt (depthAt s) d) (sym (ap (childrenOf s) (sym e) ∙ children-are ts s d a (L .0) (counted-op choice ts (L .1) (L .2) (L .3)))) (all-terms ts s d a (L .0))))
+  levels (app (isOpen n c) ts) s d a L m j p q =
+      upto s j (a + nodesL ts) (omega arith) (λ l. levelsL ts s d a (L .0) (omega arith) j p l)
+      (λ e. level-by (L .1) j e (omega arith) (subst (AllAt (depthAt s) d) (sym (ap (childrenOf s) (sym e) ∙ children-are ts s d a (L .0) (counted-op (isOpen n c) ts (L .1) (L .2) (L .3)))) (all-terms ts s d a (L .0))))
   levels (bin o t u) s d a L m j p q =
       upto s j (a + nodes t + nodes u) (omega arith)
       (λ l. either s j (a + nodes t) (λ k. levels t s d a (L .0) (omega arith) j p k) (λ k. levels u s d (a + nodes t) (L .1) (omega arith) j k l))

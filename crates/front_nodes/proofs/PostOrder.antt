@@ -7,11 +7,11 @@ use native.Mathlib.Omega.{arith}
 use lib.Dec.{leb, ltb}
 use borrow.Author.Tests.{ltb-true, leb-true, leb-false}
 use Rattle.spec_calculus.specs.Lists.{pick}
-use Rattle.spec_encoding.specs.Reader.{Kind, unknown, number, truthK, nameK, fieldK, record′, not, tableK, comprehension, generator, binding, condition, choiceK, two-terms}
+use Rattle.spec_encoding.specs.Reader.{Kind, unknown, number, truthK, nameK, fieldK, record′, not, tableK, comprehension, generator, binding, condition, choiceK, openK, two-terms}
 use Rattle.front_words.specs.NodeTree.{monoidAt, kindAt, argAt, startAt}
 use Rattle.front_theory.specs.NodeTable.{Node, nname, nfield, nbin, nnegate, ncomp, ngen, nbind, ncond, nbad, Below, Inside, PostOrder}
 use Rattle.base_scratch.specs.Map.{mostNodes}
-use Rattle.front_nodes.specs.NodeTable.{depthAt, siblings, childrenOf, chainUpto, qualifiersOf, above, nameBy, nodeBy, nodesOf}
+use Rattle.front_nodes.specs.NodeTable.{depthAt, countAt, siblings, childrenOf, chainUpto, qualifiersOf, above, nameBy, nodeBy, nodesOf}
 
 -- what holds where the test does, and where it does not
 pub by-pick : {A : Type 0} (P : A → Type 0) (b : Bool) (x y : A) → (b ≡ true → P x) → (b ≡ false → P y) → P (pick b x y)
@@ -39,7 +39,7 @@ below-chain s i (suc f) lo e q =
 pub below-children : (s : List ℕ) (i : ℕ) → Below i (childrenOf s i)
 unfolding Below
 below-children s i =
-    by-pick (Below i) (ltb 0 i) (siblings s (argAt s i) i []) [] (λ t. below-siblings s i (argAt s i) i [] (ltb-true 0 i t) (omega arith) tt) (λ t. tt)
+    by-pick (Below i) (ltb 0 i) (siblings s (countAt s i) i []) [] (λ t. below-siblings s i (countAt s i) i [] (ltb-true 0 i t) (omega arith) tt) (λ t. tt)
 
 inside-above : (i : ℕ) (n : Node) → (0 < i → Inside i n) → Inside i (above i n)
 unfolding above
@@ -63,6 +63,7 @@ inside-kind s i nameK = inside-name s i _
 inside-kind s i fieldK = inside-above i (nfield (argAt s i) (i - 1)) (λ p. omega arith)
 inside-kind s i record′ = below-children s i
 inside-kind s i choiceK = below-children s i
+inside-kind s i openK = below-children s i
 inside-kind s i (two-terms o) = inside-above i (nbin o (startAt s (i - 1) - 1) (i - 1)) (λ p. (omega arith, omega arith))
 inside-kind s i not = inside-above i (nnegate (i - 1)) (λ p. omega arith)
 inside-kind s i comprehension =

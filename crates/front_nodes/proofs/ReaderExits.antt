@@ -2,6 +2,7 @@
 use mathlib.Core.Path.{_≡_, refl, sym, ap, ap₂, subst, _∙_}
 use mathlib.Core.List.{List, [], _∷_}
 use mathlib.Core.Bool.{Bool, true, false, cond}
+use mathlib.Core.Logic.{_⊎_, inl, inr}
 use Prim.Native.Nat.{ℕ, zero, suc, _+_, _-_, _^_, _<_, _≤_}
 use native.Mathlib.Omega.{arith}
 use lib.Dec.{ltb, eqb}
@@ -14,8 +15,9 @@ use Rattle.front_nodes.proofs.QueryNode as node
 use mir.Syntax.{w64}
 use mir.Val.{SFits, toZ, ofZ}
 use mir.Facts.{toZ-pos, toZ-ofZ}
-use borrow.Author.Tests.{ltb-true, ltb-false, lt-ltb, le-ltb, lt-leb, le-leb}
+use borrow.Author.Tests.{ltb-true, ltb-false, lt-ltb, le-ltb, lt-leb, le-leb, eqb-true, eqb-false}
 use Rattle.spec_calculus.specs.Lists.{pick}
+use Rattle.spec_calculus.specs.Lending.{unlent}
 use Rattle.base_signed.proofs.SignedWords.{by-test, fits}
 use Rattle.spec_encoding.specs.Reader.{kinds, unknown}
 use Rattle.spec_encoding.specs.Reader as Re
@@ -24,19 +26,17 @@ use Rattle.base_syntax.specs.MonoidWord.{monoidOf}
 use Rattle.base_scratch.specs.Map.{mostNodes}
 use Rattle.front_words.specs.NodeWord.{kindOf, argOf, nodeWord}
 use Rattle.front_words.specs.NodeTree.{monoidAt, kindAt, argAt, startAt}
-use Rattle.base_syntax.specs.Numbers.{constantOf, binOf, funOf}
-use Rattle.front_words.specs.LaidTree.{operator}
+use Rattle.base_syntax.specs.Numbers.{constantOf, binOf}
 use Rattle.front_theory.specs.NodeTable as No
 use Rattle.front_theory.specs.NodeTable.{Inside}
 use Rattle.base_syntax.specs.declared.Op.{Op}
-use Rattle.base_syntax.specs.declared.Fun.{Fun}
-use Rattle.base_syntax.specs.declared.Fun.the-variants.{Choice}
+use Rattle.base_syntax.specs.declared.Fun.the-variants.{Choice, Open}
 use Rattle.front_nodes.specs.declared.Kind.{Kind}
 use Rattle.front_nodes.specs.declared.QueryNode.{QueryNode}
 use Rattle.front_nodes.specs.declared.QueryNode.the-variants.{Number, Truth, Name, Field, Record, Two, Not, Comp, Table, Gen, Bind, Cond, Operator, Bad}
 use Rattle.front_nodes.specs.declared.Found.the-variants.{At, Nothing}
 use Rattle.front_nodes.specs.declared.Binder.the-variants as Bi
-use Rattle.front_nodes.specs.NodeTable.{depthAt, siblings, qualifiersOf, above, nameBy, nodeBy, nodesOf}
+use Rattle.front_nodes.specs.NodeTable.{childrenOf, depthAt, countOf, countAt, siblings, qualifiersOf, above, nameBy, nodeBy, nodesOf}
 use Rattle.front_nodes.specs.Look.{kindNamed, nodeNamed, Small, LookPost, NamedPost, RaisedPost, nth, ChildPost, Unbinding, BoundByPost}
 use Rattle.front_words.specs.Binders.{binderWord}
 use Rattle.front_nodes.proofs.PostOrder.{by-pick, post-order}
@@ -54,9 +54,46 @@ past-all : (b k n : ℕ) → b < k → Missed b k n → b + n < k
 past-all b k zero h m = omega arith
 past-all b k (suc n) h m = let q = past-all b k n h (m .0) in let r = m .1 in omega arith
 
-pub no-kind : (k : ℕ) → Missed 0 k 19 → unknown ≡ getD kinds k unknown
+twenty-two : (k : ℕ) → (k ≡ 20) ⊎ (22 ≤ k) → unknown ≡ getD kinds k unknown
+twenty-two k (inl e) = kind-at e
+twenty-two k (inr h) = sym (List·getD-eq-default kinds unknown h)
+
+pub no-kind : (k : ℕ) → Missed 0 k 19 × (k ≡ 21 → ⊥) → unknown ≡ getD kinds k unknown
 no-kind zero m = refl
-no-kind (suc k) m = let h : 20 ≤ suc k = omega (arith, past-all 0 (suc k) 19 (omega arith) m) in sym (List·getD-eq-default kinds unknown h)
+no-kind (suc k) m = let h : 20 ≤ suc k = omega (arith, past-all 0 (suc k) 19 (omega arith) (m .0)) in twenty-two (suc k) (go (eqb (suc k) 20) refl h (m .1))
+  where
+    go : (b : Bool) → eqb (suc k) 20 ≡ b → 20 ≤ suc k → (suc k ≡ 21 → ⊥) → (suc k ≡ 20) ⊎ (22 ≤ suc k)
+    go true t h n = inl (eqb-true (suc k) 20 t)
+    go false t h n = inr (omega (arith, eqb-false (suc k) 20 t))
+
+-- how many terms
+pub count-open : (k a : ℕ) → k ≡ 21 → 1 ≡ countOf (getD kinds k unknown) a
+count-open k a e = sym (ap (λ (x : ℕ). countOf (getD kinds x unknown) a) e)
+
+pub count-plain : (k a : ℕ) → (k ≡ 21 → ⊥) → a ≡ countOf (getD kinds k unknown) a
+count-plain zero a n = refl
+count-plain (suc zero) a n = refl
+count-plain (suc (suc zero)) a n = refl
+count-plain (suc (suc (suc zero))) a n = refl
+count-plain (suc (suc (suc (suc zero)))) a n = refl
+count-plain (suc (suc (suc (suc (suc zero))))) a n = refl
+count-plain (suc (suc (suc (suc (suc (suc zero)))))) a n = refl
+count-plain (suc (suc (suc (suc (suc (suc (suc zero))))))) a n = refl
+count-plain (suc (suc (suc (suc (suc (suc (suc (suc zero)))))))) a n = refl
+count-plain (suc (suc (suc (suc (suc (suc (suc (suc (suc zero))))))))) a n = refl
+count-plain (suc (suc (suc (suc (suc (suc (suc (suc (suc (suc zero)))))))))) a n = refl
+count-plain (suc (suc (suc (suc (suc (suc (suc (suc (suc (suc (suc zero))))))))))) a n = refl
+count-plain (suc (suc (suc (suc (suc (suc (suc (suc (suc (suc (suc (suc zero)))))))))))) a n = refl
+count-plain (suc (suc (suc (suc (suc (suc (suc (suc (suc (suc (suc (suc (suc zero))))))))))))) a n = refl
+count-plain (suc (suc (suc (suc (suc (suc (suc (suc (suc (suc (suc (suc (suc (suc zero)))))))))))))) a n = refl
+count-plain (suc (suc (suc (suc (suc (suc (suc (suc (suc (suc (suc (suc (suc (suc (suc zero))))))))))))))) a n = refl
+count-plain (suc (suc (suc (suc (suc (suc (suc (suc (suc (suc (suc (suc (suc (suc (suc (suc zero)))))))))))))))) a n = refl
+count-plain (suc (suc (suc (suc (suc (suc (suc (suc (suc (suc (suc (suc (suc (suc (suc (suc (suc zero))))))))))))))))) a n = refl
+count-plain (suc (suc (suc (suc (suc (suc (suc (suc (suc (suc (suc (suc (suc (suc (suc (suc (suc (suc zero)))))))))))))))))) a n = refl
+count-plain (suc (suc (suc (suc (suc (suc (suc (suc (suc (suc (suc (suc (suc (suc (suc (suc (suc (suc (suc zero))))))))))))))))))) a n = refl
+count-plain (suc (suc (suc (suc (suc (suc (suc (suc (suc (suc (suc (suc (suc (suc (suc (suc (suc (suc (suc (suc zero)))))))))))))))))))) a n = refl
+count-plain (suc (suc (suc (suc (suc (suc (suc (suc (suc (suc (suc (suc (suc (suc (suc (suc (suc (suc (suc (suc (suc zero))))))))))))))))))))) a n = absurd (n refl)
+count-plain (suc (suc (suc (suc (suc (suc (suc (suc (suc (suc (suc (suc (suc (suc (suc (suc (suc (suc (suc (suc (suc (suc k)))))))))))))))))))))) a n = refl
 
 small-number : (a : ℕ) → a < 8589934592 → mag (constantOf a) < 2 ^ 33
 small-number a h = go (ltb a 0x80000000)
@@ -111,6 +148,10 @@ module _ (s : List ℕ) (i : ℕ) where
   pub arg-is : {w a : ℕ} → w ≡ nodeWord s i → a ≡ argOf w → a ≡ argAt s i
   arg-is p q = q ∙ ap argOf p
 
+-- how many terms it has
+pub count-is : (s : List ℕ) (i : ℕ) {w n : ℕ} → w ≡ nodeWord s i → n ≡ countOf (getD kinds (kindOf w) unknown) (argOf w) → n ≡ countAt s i
+count-is s i p q = q ∙ ap (λ (x : ℕ). countOf (getD kinds (kindOf x) unknown) (argOf x)) p
+
 pub look-far : {s : List ℕ} {i : ℕ} → mostNodes ≤ i → LookPost s i Bad
 unfolding nodesOf pick
 look-far {s} {i} h = record { is = rw (le-ltb i mostNodes h); small = tt }
@@ -154,8 +195,11 @@ module _ {s : List ℕ} {i : ℕ} (l : i < mostNodes) where
   pub look-record : kindAt s i ≡ Re.record′ → LookPost s i Record
   look-record e = plainly Re.record′ Record e refl tt
 
-  pub look-operator : (f : Fun) → kindAt s i ≡ operator (funOf f) → LookPost s i (Operator f)
-  look-operator Choice e = plainly Re.choiceK (Operator Choice) e refl tt
+  pub look-choice : kindAt s i ≡ Re.choiceK → LookPost s i (Operator Choice)
+  look-choice e = plainly Re.choiceK (Operator Choice) e refl tt
+
+  pub look-open : {a : ℕ} → a ≡ argAt s i → kindAt s i ≡ Re.openK → LookPost s i (Operator (Open a))
+  look-open {a} A e = plainly Re.openK (Operator (Open a)) e (ap (λ (n : ℕ). No.napp (unlent n) (childrenOf s i)) (sym A)) tt
 
   module _ {c : ℕ} (C : c ≡ i - 1) {r : QueryNode} where
     pub look-two : {o : Op} {b a : ℕ} → kindAt s i ≡ Re.two-terms (binOf o) → b ≡ startAt s c → a ≡ b - 1 → RaisedPost i (Two o a c) r → LookPost s i r
@@ -224,13 +268,13 @@ module _ {s : List ℕ} {i k : ℕ} where
   unfolding pick nth
   child-first e = record { is = rw e; before = tt }
 
-  pub child-past : {n : ℕ} → n ≡ argAt s i → n ≤ k → ChildPost s i k Nothing
+  pub child-past : {n : ℕ} → n ≡ countAt s i → n ≤ k → ChildPost s i k Nothing
   unfolding pick nth
-  child-past {n} e h = record { is = sym (by-pick (λ (l : List ℕ). nth k l ≡ Nothing) (ltb 0 i) (siblings s (argAt s i) i []) [] (λ t. past) (λ t. refl)); before = tt }
+  child-past {n} e h = record { is = sym (by-pick (λ (l : List ℕ). nth k l ≡ Nothing) (ltb 0 i) (siblings s (countAt s i) i []) [] (λ t. past) (λ t. refl)); before = tt }
     where
-      past : nth k (siblings s (argAt s i) i []) ≡ Nothing
-      past = let q : k ≡ argAt s i + (k - argAt s i) = omega arith in
-          ap (λ (j : ℕ). nth j (siblings s (argAt s i) i [])) q ∙ nth-behind s (argAt s i) i [] (k - argAt s i)
+      past : nth k (siblings s (countAt s i) i []) ≡ Nothing
+      past = let q : k ≡ countAt s i + (k - countAt s i) = omega arith in
+          ap (λ (j : ℕ). nth j (siblings s (countAt s i) i [])) q ∙ nth-behind s (countAt s i) i [] (k - countAt s i)
 
 -- the walk from i, of m steps, is at e with so many left
 pub record Walks (s : List ℕ) (i m left e : ℕ) : Type 0 where
@@ -243,7 +287,7 @@ module _ {s : List ℕ} {i m : ℕ} where
       let l : left ≡ suc (left - 1) = omega arith in
       record { is = ap (back s (left - 1)) (q ∙ ap (startAt s) p) ∙ ap (λ (j : ℕ). back s j e) (sym l) ∙ W .is }
 
-pub child-at : {s : List ℕ} {i k n left e c : ℕ} → (i ≡ 0 → ⊥) → n ≡ argAt s i → k < n → Walks s i (n - 1 - k) left e → left ≤ 0 → c ≡ e - 1 → ChildPost s i k (At c)
+pub child-at : {s : List ℕ} {i k n left e c : ℕ} → (i ≡ 0 → ⊥) → n ≡ countAt s i → k < n → Walks s i (n - 1 - k) left e → left ≤ 0 → c ≡ e - 1 → ChildPost s i k (At c)
 unfolding pick back
 child-at {s} {i} {k} {n} {left} {e} {c} y p h W z q =
     let zl : left ≡ 0 = omega arith in

@@ -10,14 +10,15 @@ use lib.Seq.{getD-set-other}
 use borrow.Author.Tests.{ltb-true, leb-true}
 use Rattle.spec_calculus.specs.Lists.{pick}
 use Rattle.spec_calculus.specs.Syntax.{choice}
-use Rattle.spec_encoding.specs.Reader.{Kind, kinds, unknown, number, truthK, nameK, fieldK, record′, not, tableK, comprehension, generator, binding, condition, choiceK, two-terms}
+use Rattle.spec_calculus.specs.Lending.{unlent}
+use Rattle.spec_encoding.specs.Reader.{Kind, kinds, unknown, number, truthK, nameK, fieldK, record′, not, tableK, comprehension, generator, binding, condition, choiceK, openK, two-terms}
 use Rattle.base_scratch.specs.Map.{nodesAt, bindersAt, shapesAt, mostNodes}
 use Rattle.front_words.specs.NodeWord.{kindOf, argOf, startOf, depthOf, nodeWord}
 use Rattle.front_words.specs.NodeTree.{monoidAt, kindAt, argAt, startAt}
 use Rattle.base_syntax.specs.Numbers.{constantOf}
 use Rattle.front_theory.specs.NodeTable.{Node, nnum, ntruth, nname, nfield, nrec, nbin, napp, ncomp, ntable, nbad}
 use Rattle.front_words.specs.Binders.{binderWord}
-use Rattle.front_nodes.specs.NodeTable.{depthAt, siblings, childrenOf, chainUpto, qualifiersOf, above, nameBy, nodeBy, nodesOf}
+use Rattle.front_nodes.specs.NodeTable.{depthAt, countOf, countAt, siblings, childrenOf, chainUpto, qualifiersOf, above, nameBy, nodeBy, nodesOf}
 
 -- a test's two sides
 pick-same : {A : Type 0} (b : Bool) (y : A) {x x′ : A} → (b ≡ true → x ≡ x′) → pick b x y ≡ pick b x′ y
@@ -48,8 +49,11 @@ module _ (s s′ : List ℕ) (words : (j : ℕ) → j < mostNodes → nodeWord s
       ap (λ (l : List ℕ). pick (leb e lo) [] (l ++ ((e - 1) ∷ [])))
       (ap (chainUpto f s′ lo) (start-same (e - 1) (omega arith)) ∙ chain-same f lo (startAt s (e - 1)) (omega arith))
 
+  kind-same : (i : ℕ) → i < mostNodes → kindAt s′ i ≡ kindAt s i
+  kind-same i h = ap (λ (w : ℕ). getD kinds (kindOf w) unknown) (words i h)
+
   pub children-same : (i : ℕ) → i < mostNodes → childrenOf s′ i ≡ childrenOf s i
-  children-same i h = ap (λ (l : List ℕ). pick (ltb 0 i) l []) (ap (λ (n : ℕ). siblings s′ n i []) (arg-same i h) ∙ siblings-same (argAt s i) i [] (omega arith))
+  children-same i h = ap (λ (l : List ℕ). pick (ltb 0 i) l []) (ap (λ (n : ℕ). siblings s′ n i []) (ap₂ countOf (kind-same i h) (arg-same i h)) ∙ siblings-same (countAt s i) i [] (omega arith))
 
   pub qualifiers-same : (i : ℕ) → i < mostNodes → qualifiersOf s′ i ≡ qualifiersOf s i
   qualifiers-same i h =
@@ -72,6 +76,7 @@ module _ (s s′ : List ℕ) (words : (j : ℕ) → j < mostNodes → nodeWord s
   node-same i h fieldK = ap (λ (a : ℕ). above i (nfield a (i - 1))) (arg-same i h)
   node-same i h record′ = ap nrec (children-same i h)
   node-same i h choiceK = ap (napp choice) (children-same i h)
+  node-same i h openK = ap₂ (λ (n : ℕ) (cs : List ℕ). napp (unlent n) cs) (arg-same i h) (children-same i h)
   node-same i h (two-terms o) = ap (λ (b : ℕ). above i (nbin o (b - 1) (i - 1))) (start-same (i - 1) (omega arith))
   node-same i h not = refl
   node-same i h comprehension = ap₂ (λ (a : ℕ) (l : List ℕ). above i (ncomp (monoidAt a) l (i - 1))) (arg-same i h) (qualifiers-same i h)

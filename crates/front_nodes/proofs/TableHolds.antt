@@ -6,21 +6,22 @@ use Prim.Native.Nat.{ℕ, suc, _+_, _-_, _<_, _≤_}
 use native.Mathlib.Omega.{arith}
 use lib.Dec.{eqb, ltb}
 use borrow.Author.Tests.{lt-ltb, le-leb, eqb-true}
+use Rattle.spec_calendar.specs.Hours.{Calendar}
 use Rattle.spec_calculus.specs.Lists.{pick, upd}
-use Rattle.spec_calculus.specs.Syntax.{choice, Term, Terms, Quals, num, truth, name, field, rec, bin, negate, app, comp, table, tnil, tcons, qnil, gen, bind, cond, Question, asTerm}
+use Rattle.spec_calculus.specs.Syntax.{Fun, choice, isOpen, Term, Terms, Quals, num, truth, name, field, rec, bin, negate, app, comp, table, tnil, tcons, qnil, gen, bind, cond, Question, asTerm}
 use Rattle.spec_calculus.proofs.Truths.{both}
 use Rattle.spec_checks.specs.Scope.{Scope, inScope, inScopes, inScopeQ, distinct, binders, namesHold}
-use Rattle.spec_encoding.specs.Reader.{Kind, comprehension}
+use Rattle.spec_encoding.specs.Reader.{Kind, record′, comprehension}
 use Rattle.front_words.specs.NodeTree.{monoidAt, argAt, startAt}
 use Rattle.base_syntax.specs.Numbers.{constantOf}
-use Rattle.front_words.specs.LaidTree.{nodes, nodesL, nodesQ, countL, Node, Laid, LaidL, LaidQ}
+use Rattle.front_words.specs.LaidTree.{nodes, nodesL, nodesQ, countL, operator, argued, AsRead, Node, Laid, LaidL, LaidQ}
 use Rattle.front_words.proofs.NodeWords.{some-nodes, laid-start, truth-bit}
 use Rattle.front_theory.specs.NodeTable as No
 use Rattle.front_theory.specs.NodeForms.{levels}
 use Rattle.front_theory.specs.QuestionNodes.{Slot, Slots, slot, noNames, firstOf, restOf, behind, Holds, HoldsL, HoldsQ}
 use Rattle.front_words.specs.Binders.{binderWord}
 use Rattle.base_scratch.specs.Map.{mostNodes}
-use Rattle.front_nodes.specs.NodeTable.{depthAt, siblings, childrenOf, chain, qualifiersOf, above, nameBy, nodeBy, nodesOf}
+use Rattle.front_nodes.specs.NodeTable.{depthAt, countOf, countAt, siblings, childrenOf, chain, qualifiersOf, above, nameBy, nodeBy, nodesOf}
 use Rattle.front_nodes.specs.QuestionTree.{BindersAt, BindersAtL, BindersAtQ, BindersRight, nesting, nestingL, nestingQ}
 use Rattle.front_nodes.proofs.PostOrder.{by-pick}
 use Rattle.front_nodes.proofs.QualifierChain.{chain-none, chain-more}
@@ -82,10 +83,23 @@ laid-chain (bind x t qs) s d lo a L p =
 laid-chain (cond t qs) s d lo a L p =
     chain-step lo qs (a + nodesQ (cond t qs)) p (omega arith) (L .1) (omega arith) (laid-chain qs s d lo (a + nodes t + 1) (L .2) (omega arith))
 
-pub children-are : (ts : Terms) (s : List ℕ) (d a : ℕ) → LaidL s d a ts → argAt s (a + nodesL ts) ≡ countL ts → childrenOf s (a + nodesL ts) ≡ lastsL a ts
+-- how many they are
+pub counted : (ts : Terms) {s : List ℕ} {d a i : ℕ} → Node s d a i record′ → argAt s i ≡ countL ts → countAt s i ≡ countL ts
+counted ts {s} {i = i} N e = ap (λ (K : Kind). countOf K (argAt s i)) (N .kind) ∙ e
+
+pub counted-op : (f : Fun) (ts : Terms) {s : List ℕ} {d a i : ℕ} → Node s d a i (operator f) → argAt s i ≡ argued f ts → AsRead f ts → countAt s i ≡ countL ts
+counted-op choice ts {s} {i = i} N e r = ap (λ (K : Kind). countOf K (argAt s i)) (N .kind) ∙ e
+counted-op (isOpen n c) ts {s} {i = i} N e r = ap (λ (K : Kind). countOf K (argAt s i)) (N .kind) ∙ sym (r .1)
+
+-- the node of an operator
+node-op : (f : Fun) (ts : Terms) (s : List ℕ) (i : ℕ) → argAt s i ≡ argued f ts → AsRead f ts → nodeBy s i (operator f) ≡ No.napp f (childrenOf s i)
+node-op choice ts s i e r = refl
+node-op (isOpen n c) ts s i e r = ap₂ (λ (m : ℕ) (x : Calendar). No.napp (isOpen m x) (childrenOf s i)) e (sym (r .0))
+
+pub children-are : (ts : Terms) (s : List ℕ) (d a : ℕ) → LaidL s d a ts → countAt s (a + nodesL ts) ≡ countL ts → childrenOf s (a + nodesL ts) ≡ lastsL a ts
 unfolding siblings nodes countL lastsL pick
 children-are tnil s d a L e =
-    by-pick (λ (l : List ℕ). l ≡ []) (ltb 0 (a + 0)) (siblings s (argAt s (a + 0)) (a + 0) []) [] (λ t. ap (λ (n : ℕ). siblings s n (a + 0) []) e) (λ t. refl)
+    by-pick (λ (l : List ℕ). l ≡ []) (ltb 0 (a + 0)) (siblings s (countAt s (a + 0)) (a + 0) []) [] (λ t. ap (λ (n : ℕ). siblings s n (a + 0) []) e) (λ t. refl)
 children-are (tcons t ts) s d a L e =
     let us = tcons t ts in
     let i = a + nodesL us in
@@ -167,10 +181,10 @@ mutual
       )
   holds (rec ts) s D a i S σ L e h n B I A =
       let q : a + nodesL ts ≡ i = omega arith in
-      (lastsL a ts, node-is (node-at q (L .1)) h ∙ ap No.nrec (ap (childrenOf s) (sym q) ∙ children-are ts s D a (L .0) (L .2)), holdsL ts s D a i S σ (L .0) (omega arith) h n B I A)
-  holds (app choice ts) s D a i S σ L e h n B I A =
+      (lastsL a ts, node-is (node-at q (L .1)) h ∙ ap No.nrec (ap (childrenOf s) (sym q) ∙ children-are ts s D a (L .0) (counted ts (L .1) (L .2))), holdsL ts s D a i S σ (L .0) (omega arith) h n B I A)
+  holds (app f ts) s D a i S σ L e h n B I A =
       let q : a + nodesL ts ≡ i = omega arith in
-      (lastsL a ts, node-is (node-at q (L .1)) h ∙ ap (No.napp choice) (ap (childrenOf s) (sym q) ∙ children-are ts s D a (L .0) (L .2)), holdsL ts s D a i S σ (L .0) (omega arith) h n B I A)
+      (lastsL a ts, node-is (node-at q (L .1)) h ∙ node-op f ts s i (ap (argAt s) (sym q) ∙ L .2) (L .3) ∙ ap (No.napp f) (ap (childrenOf s) (sym q) ∙ children-are ts s D a (L .0) (counted-op f ts (L .1) (L .2) (L .3))), holdsL ts s D a i S σ (L .0) (omega arith) h n B I A)
   holds (bin o t u) s D a i S σ L e h n B I A =
       let q : a + nodes t + nodes u ≡ i = omega arith in
       let one = some-nodes t in

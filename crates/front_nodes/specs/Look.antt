@@ -8,7 +8,6 @@ use Rattle.spec_calculus.specs.Lists.{pick}
 use Rattle.spec_encoding.specs.Reader as Re
 use Rattle.base_syntax.specs.MonoidWord.{monoidOf}
 use Rattle.base_syntax.specs.Numbers.{binOf, funOf}
-use Rattle.front_words.specs.LaidTree.{operator}
 use Rattle.front_theory.specs.NodeTable as No
 use Rattle.front_nodes.specs.declared.Kind.{Kind}
 use Rattle.front_nodes.specs.declared.Kind.the-variants as Ki
@@ -34,7 +33,8 @@ kindNamed Ki.Table = Re.tableK
 kindNamed Ki.Gen = Re.generator
 kindNamed Ki.Bind = Re.binding
 kindNamed Ki.Cond = Re.condition
-kindNamed (Ki.Operator f) = operator (funOf f)
+kindNamed Ki.Choice = Re.choiceK
+kindNamed Ki.Open = Re.openK
 kindNamed Ki.Unknown = Re.unknown
 
 -- the node that each case is, at i

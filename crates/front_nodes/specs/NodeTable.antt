@@ -6,7 +6,8 @@ use Prim.Native.Nat.{ℕ, zero, suc, _+_, _-_}
 use lib.Dec.{leb, ltb, eqb}
 use Rattle.spec_calculus.specs.Lists.{pick}
 use Rattle.spec_calculus.specs.Syntax.{choice}
-use Rattle.spec_encoding.specs.Reader.{Kind, unknown, number, truthK, nameK, fieldK, record′, not, tableK, comprehension, generator, binding, condition, choiceK, two-terms}
+use Rattle.spec_calculus.specs.Lending.{unlent}
+use Rattle.spec_encoding.specs.Reader.{Kind, unknown, number, truthK, nameK, fieldK, record′, not, tableK, comprehension, generator, binding, condition, choiceK, openK, two-terms}
 use Rattle.base_scratch.specs.Map.{mostNodes}
 use Rattle.front_words.specs.Binders.{binderWord}
 use Rattle.front_words.specs.NodeWord.{depthOf, nodeWord}
@@ -23,9 +24,30 @@ unfoldable pub siblings : List ℕ → ℕ → ℕ → List ℕ → List ℕ
 siblings s zero e cs = cs
 siblings s (suc n) e cs = siblings s n (startAt s (e - 1)) ((e - 1) ∷ cs)
 
--- the terms of the record or operator at node i, which says how many they are
+-- how many terms a node of a kind has, by its argument: a record or a choice says it; that of kind 21 is its calendar's number, and it has one
+abbrev pub countOf : Kind → ℕ → ℕ
+countOf openK a = 1
+countOf number a = a
+countOf truthK a = a
+countOf nameK a = a
+countOf fieldK a = a
+countOf record′ a = a
+countOf choiceK a = a
+countOf (two-terms o) a = a
+countOf not a = a
+countOf comprehension a = a
+countOf tableK a = a
+countOf generator a = a
+countOf binding a = a
+countOf condition a = a
+countOf unknown a = a
+
+abbrev pub countAt : List ℕ → ℕ → ℕ
+countAt s i = countOf (kindAt s i) (argAt s i)
+
+-- the terms of the record or operator at node i
 abbrev pub childrenOf : List ℕ → ℕ → List ℕ
-childrenOf s i = pick (ltb 0 i) (siblings s (argAt s i) i []) []
+childrenOf s i = pick (ltb 0 i) (siblings s (countAt s i) i []) []
 
 -- the qualifiers between lo and e, where at most f steps back are gone
 unfoldable pub chainUpto : ℕ → List ℕ → ℕ → ℕ → List ℕ
@@ -56,6 +78,7 @@ nodeBy s i nameK = nameBy s i (binderWord s (argAt s i))
 nodeBy s i fieldK = above i (nfield (argAt s i) (i - 1))
 nodeBy s i record′ = nrec (childrenOf s i)
 nodeBy s i choiceK = napp choice (childrenOf s i)
+nodeBy s i openK = napp (unlent (argAt s i)) (childrenOf s i)
 nodeBy s i (two-terms o) = above i (nbin o (startAt s (i - 1) - 1) (i - 1))
 nodeBy s i not = above i (nnegate (i - 1))
 nodeBy s i comprehension = above i (ncomp (monoidAt (argAt s i)) (qualifiersOf s i) (i - 1))

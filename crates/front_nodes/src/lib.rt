@@ -4,10 +4,12 @@ ghost use Prim.Native.Nat.{_-_, _<_};
 ghost use lib.ListN.{getD};
 ghost use Rattle.spec_encoding.specs.Reader.{kinds, unknown};
 ghost use Rattle.base_syntax.specs.Numbers.{constantOf};
-ghost use Rattle.front_nodes.specs.NodeTable.{depthAt};
+ghost use Rattle.front_nodes.specs.NodeTable.{countOf, depthAt};
+ghost use Rattle.front_words.specs.NodeWord.{kindOf, argOf};
 ghost use Rattle.front_nodes.specs.Look.{kindNamed, LookPost, NamedPost, RaisedPost, ChildPost, BoundByPost};
 use base_scratch::MOST_NODES;
 use base_syntax::Fun;
+use base_syntax::KIND_OPEN;
 use base_syntax::Monoid;
 use base_syntax::OFFSET;
 use base_syntax::Op;
@@ -26,7 +28,8 @@ pub enum Kind {
     Gen,
     Bind,
     Cond,
-    Operator(Fun),
+    Choice,
+    Open,
     Unknown,
 }
 
@@ -82,7 +85,8 @@ fn kind_of(k: u64) -> Kind
         base_syntax::KIND_GENERATOR => Kind::Gen,
         base_syntax::KIND_BINDING => Kind::Bind,
         base_syntax::KIND_CONDITION => Kind::Cond,
-        base_syntax::KIND_CHOICE => Kind::Operator(Fun::Choice),
+        base_syntax::KIND_CHOICE => Kind::Choice,
+        base_syntax::KIND_OPEN => Kind::Open,
         _ => Kind::Unknown,
     }
 }
@@ -157,16 +161,27 @@ pub fn look(s: &[u64], i: usize) -> QueryNode
         Kind::Gen => raised(i, QueryNode::Gen(c)),
         Kind::Bind => raised(i, QueryNode::Bind(c)),
         Kind::Cond => raised(i, QueryNode::Cond(c)),
-        Kind::Operator(f) => QueryNode::Operator(f),
+        Kind::Choice => QueryNode::Operator(Fun::Choice),
+        Kind::Open => QueryNode::Operator(Fun::Open(a as usize)),
         Kind::Unknown => QueryNode::Bad,
     }
+}
+
+// How many terms the record or operator of a word has.
+pub fn term_count(w: u64) -> u64
+    ensures { λ r. ⌜ r ≡ countOf (getD kinds (kindOf w) unknown) (argOf w) ⌝ }
+{
+    if front_words::kind(w) == KIND_OPEN {
+        return 1;
+    }
+    front_words::arg(w)
 }
 
 // Term k of the record or operator at node i, by walking back from its last one.
 pub fn child(s: &[u64], i: usize, k: usize) -> Found
     ensures { λ r. ⌜ ChildPost (now (s .entry)) i k r ⌝ }
 {
-    let n = front_words::arg(front_words::node_word(s, i)) as usize;
+    let n = term_count(front_words::node_word(s, i)) as usize;
     if i == 0 {
         return Found::Nothing;
     }

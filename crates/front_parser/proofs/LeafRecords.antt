@@ -368,7 +368,7 @@ shaped-two {k} l m =
     let two = from-at Two 6 7 (of-two plus, (of-two minus, (of-two times, (of-two equal, (of-two less, (of-two and, (of-two or, tt))))))) k l (omega arith) in
     record { is = (two, omega arith) }
 
-no-kind : (k : ℕ) → 20 ≤ k → getD kinds k unknown ≡ unknown
+no-kind : (k : ℕ) → 22 ≤ k → getD kinds k unknown ≡ unknown
 no-kind k h = List·getD-eq-default kinds unknown {n = k} h
 
 abbrev Refuses : ℕ → Type 0
@@ -378,13 +378,17 @@ pub shaped-none : ShapeOfPost 0 ContentKind.Other
 unfolding content
 shaped-none = record { is = λ R c n. refl }
 
-pub shaped-over : {k : ℕ} → 15 < k → (k ≡ 19 → ⊥) → ShapeOfPost k ContentKind.Other
+pub shaped-over : {k : ℕ} → 15 < k → (k ≡ 19 → ⊥) → (k ≡ 21 → ⊥) → ShapeOfPost k ContentKind.Other
 unfolding content require
-shaped-over {k} h j = record { is = go (leb k 18) refl }
+shaped-over {k} h j m = record { is = go (leb k 18) refl }
   where
     go : (b : Bool) → leb k 18 ≡ b → Refuses k
     go true e = from-at Refuses 16 3 (λ R c n. refl, (λ R c n. refl, (λ R c n. refl, tt))) k h (omega (arith, leb-true k 18 e))
-    go false e = let d = leb-false k 18 e in λ R c n. ap (λ (K : Kind). content R false K c n) (no-kind k (omega arith))
+    go false e = rest (leb k 20) refl (leb-false k 18 e)
+      where
+        rest : (b : Bool) → leb k 20 ≡ b → 18 < k → Refuses k
+        rest true t d = from-at Refuses 20 1 (λ R c n. refl, tt) k (omega arith) (omega (arith, leb-true k 20 t))
+        rest false t d = let g = leb-false k 20 t in λ R c n. ap (λ (K : Kind). content R false K c n) (no-kind k (omega arith))
 
 abbrev Alike : ℕ → Type 0
 Alike k = (R : Reader) (c : Bytes) (n : ℕ) → content R true (getD kinds k unknown) c n ≡ content R false (getD kinds k unknown) c n
@@ -393,10 +397,10 @@ pub looks-term : {k : ℕ} → (k ≡ 16 → ⊥) → (k ≡ 17 → ⊥) → (k 
 unfolding content
 looks-term {k} h i j = record { is = go (leb k 15) refl }
   where
-    -- behind the qualifiers: a choice, or no kind
-    rest : (b : Bool) → leb k 19 ≡ b → 19 ≤ k → Alike k
-    rest true e l = from-at Alike 19 1 (λ R c n. refl, tt) k l (omega (arith, leb-true k 19 e))
-    rest false e l = let d = leb-false k 19 e in λ R c n. rw (no-kind k (omega arith)) refl
+    -- behind the qualifiers: document 02's, or no kind
+    rest : (b : Bool) → leb k 21 ≡ b → 19 ≤ k → Alike k
+    rest true e l = from-at Alike 19 3 (λ R c n. refl, (λ R c n. refl, (λ R c n. refl, tt))) k l (omega (arith, leb-true k 21 e))
+    rest false e l = let d = leb-false k 21 e in λ R c n. rw (no-kind k (omega arith)) refl
 
     go : (b : Bool) → leb k 15 ≡ b → Alike k
     go true e =
@@ -426,4 +430,4 @@ looks-term {k} h i j = record { is = go (leb k 15) refl }
           ),
         )
         k (omega arith) (omega (arith, leb-true k 15 e))
-    go false e = let d = leb-false k 15 e in rest (leb k 19) refl (omega arith)
+    go false e = let d = leb-false k 15 e in rest (leb k 21) refl (omega arith)

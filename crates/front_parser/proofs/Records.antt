@@ -16,7 +16,7 @@ use Rattle.front_words.specs.LaidTree.{nodes, nodesL, nodesQ, Laid, LaidL, Laid
 use Rattle.front_words.proofs.NodeWords.{three, laid-same, laid-same-terms, laid-same-quals}
 use Rattle.front_parser.specs.ReaderScratch.{Kept}
 use Rattle.front_parser.specs.RecordFront.{Whole, Began, BeginPost, BeginsBy}
-use Rattle.front_parser.specs.RecordKinds.{LeafKind, HasTerms, of-field, of-record, of-two, of-not, of-choice, ShapeOfPost, ShapedBy, LookAheadPost, LooksBy}
+use Rattle.front_parser.specs.RecordKinds.{LeafKind, HasTerms, of-field, of-record, of-two, of-not, of-choice, of-open, ShapeOfPost, ShapedBy, LookAheadPost, LooksBy}
 use Rattle.front_parser.specs.ReaderContracts.{LaidP, Found, FillsBy, ContentRead, CompoundPost, FrontFound, TermBy, TermPost, headOf, ItemBy, QualifierPost, ComprehensionBy, ComprehensionPost}
 use Rattle.front_parser.specs.declared.ParseState.{ParseState}
 use Rattle.front_parser.specs.declared.Arity.{Arity}
@@ -142,6 +142,7 @@ terms-alike of-record R c j = refl
 terms-alike (of-two o) R c j = refl
 terms-alike of-not R c j = refl
 terms-alike of-choice R c j = refl
+terms-alike of-open R c j = refl
 
 pub content-terms : {k : ℕ} {c : Bytes} {s s′ : List ℕ} {p : ParseState} {r : Filled} {g : ContentKind} {h : Arity} → ShapeOfPost k g → g ≡ ContentKind.Terms h →
     CompoundPost k h c s p s′ r → ContentRead k c s p s′ r

@@ -7,6 +7,7 @@ use native.Mathlib.Omega.{arith}
 use lib.ListN.{length, drop}
 use borrow.Author.Tests.{le-leb}
 use Rattle.spec_calculus.specs.Syntax.{choice, Term, Terms, field, rec, bin, negate, app, tnil, tcons, asTerm}
+use Rattle.spec_calculus.specs.Lending.{unlent}
 use Rattle.spec_encoding.specs.Record.{Bytes, Result, refused, got, andThen, require, byte, two}
 use Rattle.spec_encoding.specs.Reader as E
 use Rattle.spec_encoding.specs.Reader.{Kind, record′, Part, term, generates, binds, holds, Step, Reader, yields, oneTerm, filled, named, content, readPart}
@@ -14,7 +15,7 @@ use Rattle.front_words.specs.NodeTree.{argAt}
 use Rattle.front_words.specs.LaidTree.{nodes, nodesL, countL, Node, Laid, LaidL}
 use Rattle.front_words.proofs.NodeWords.{some-nodes}
 use Rattle.front_parser.specs.ReaderScratch.{Kept, Room, FinishPost}
-use Rattle.front_parser.specs.RecordKinds.{HasTerms, of-field, of-record, of-two, of-not, of-choice, of-generator, of-binding, of-condition, fixedOk, fixedOf, FixedIs, FixedBy, Fixed}
+use Rattle.front_parser.specs.RecordKinds.{HasTerms, of-field, of-record, of-two, of-not, of-choice, of-open, of-generator, of-binding, of-condition, fixedOk, fixedOf, FixedIs, FixedBy, Fixed}
 use Rattle.front_parser.specs.ReaderContracts.{behindOf, qualifies, nodesP, LaidP, Found, CompoundPost, FrontFound, TermBy, TermPost, TermsFound, TermsBy, TermsPost}
 use Rattle.front_parser.specs.declared.ParseState.{ParseState}
 use Rattle.front_parser.specs.declared.Arity.{Arity}
@@ -235,6 +236,10 @@ triple F (tcons t ts) = pair (F t) ts
 chosen : Term → Term → Term → Part
 chosen t u v = term (app choice (tcons t (tcons u (tcons v tnil))))
 
+-- a calendar's number and one term
+opening : ℕ → Term → Part
+opening a t = term (app (unlent a) (tcons t tnil))
+
 some : Terms → Result Part
 some tnil = refused 22
 some (tcons t ts) = got (term (rec (tcons t ts)))
@@ -245,6 +250,7 @@ make of-record a ts = some ts
 make (of-two o) a ts = pair (λ t u. term (bin o t u)) ts
 make of-not a ts = one (λ t. term (negate t)) ts
 make of-choice a ts = triple chosen ts
+make of-open a ts = one (opening a) ts
 make of-generator a ts = one (generates a) ts
 make of-binding a ts = one (binds a) ts
 make of-condition a ts = one holds ts
@@ -305,12 +311,13 @@ module _ (R : Reader) (nothing : (n : ℕ) → R false [] n ≡ refused 22) wher
 
   content-by : {K : Kind} {q : Bool} {l m j : ℕ} (H : HasTerms K q l m j) (c : Bytes) (n : ℕ) → fixedOk j c ≡ true →
       content R true K c n ≡ andThen (E.terms R m (drop j c) n) (λ s. andThen (make H (fixedOf j c) (s .is)) (λ p. yields p [] (s .left)))
-  unfolding content require named make chosen
+  unfolding content require named make chosen opening
   content-by of-field c n h = rw h (one-term (λ t. term (field (byte c 0) t)) (drop 1 c) n)
   content-by of-record c n h = record-terms c n
   content-by (of-two o) c n h = two-terms-are (λ t u. term (bin o t u)) c n
   content-by of-not c n h = one-term (λ t. term (negate t)) c n
   content-by of-choice c n h = three-terms-are chosen c n
+  content-by of-open c n h = rw h (one-term (opening (byte c 0)) (drop 1 c) n)
   content-by of-generator c n h = rw h (one-term (generates (two c 0)) (drop 2 c) n)
   content-by of-binding c n h = rw h (one-term (binds (two c 0)) (drop 2 c) n)
   content-by of-condition c n h = one-term holds c n
@@ -322,6 +329,7 @@ module _ (R : Reader) (nothing : (n : ℕ) → R false [] n ≡ refused 22) wher
   content-broken (of-two o) c n h = absurd (differ h)
   content-broken of-not c n h = absurd (differ h)
   content-broken of-choice c n h = absurd (differ h)
+  content-broken of-open c n h = rw h
   content-broken of-generator c n h = rw h
   content-broken of-binding c n h = rw h
   content-broken of-condition c n h = absurd (differ h)
@@ -379,6 +387,7 @@ few of-record a ts h = some-few ts h
 few (of-two o) a ts h = pair-few _ ts h
 few of-not a ts h = one-few _ ts h
 few of-choice a ts h = triple-few _ ts h
+few of-open a ts h = one-few _ ts h
 few of-generator a ts h = one-few _ ts h
 few of-binding a ts h = one-few _ ts h
 few of-condition a ts h = one-few _ ts h
@@ -400,7 +409,7 @@ module _ {s : List ℕ} {d a i : ℕ} where
   -- the record's own node stands behind its terms: the argument is what stands before them, or else their count
   made : {K : Kind} {q : Bool} {l m j : ℕ} (H : HasTerms K q l m j) (x : ℕ) (ts : Terms) → l ≤ countL ts → countL ts ≤ m → LaidL s d a ts → Node s d a i K → i ≡ a + nodesL ts →
       (j ≡ 0 → argAt s i ≡ countL ts) → ((j ≡ 0 → ⊥) → argAt s i ≡ x) → Made (make H x ts) q s d a (nodesL ts)
-  unfolding make one pair triple chosen some nodes nodesL
+  unfolding make one pair triple chosen opening some nodes nodesL countL
   made of-field x ts lo hi L N e z f =
       with-one (λ ts. LaidL s d a ts → i ≡ a + nodesL ts → Made (make of-field x ts) false s d a (nodesL ts))
       (λ t L e. let p : i ≡ a + nodes t = omega arith in
@@ -418,7 +427,10 @@ module _ {s : List ℕ} {d a i : ℕ} where
       record { part = term (negate t); is = refl; sort = refl; laid = (L .0, node-at N p); size = omega arith }) ts lo hi L e
   made of-choice x ts lo hi L N e z f =
       with-three (λ ts. LaidL s d a ts → i ≡ a + nodesL ts → argAt s i ≡ countL ts → Made (make of-choice x ts) false s d a (nodesL ts))
-      (λ t u v L e c. record { part = chosen t u v; is = refl; sort = refl; laid = (L, node-at N e, arg-at s c e); size = refl }) ts lo hi L e (z refl)
+      (λ t u v L e c. record { part = chosen t u v; is = refl; sort = refl; laid = (L, node-at N e, arg-at s c e, tt); size = refl }) ts lo hi L e (z refl)
+  made of-open x ts lo hi L N e z f =
+      with-one (λ ts. LaidL s d a ts → i ≡ a + nodesL ts → Made (make of-open x ts) false s d a (nodesL ts))
+      (λ t L e. record { part = opening x t; is = refl; sort = refl; laid = (L, node-at N e, arg-at s (f (omega arith)) e, (refl, refl)); size = refl }) ts lo hi L e
   made of-generator x ts lo hi L N e z f =
       with-one (λ ts. LaidL s d a ts → i ≡ a + nodesL ts → Made (make of-generator x ts) true s d a (nodesL ts))
       (λ t L e. let p : i ≡ a + nodes t = omega arith in

@@ -8,7 +8,7 @@ use lib.ListN.{length, getD}
 use Rattle.spec_calculus.specs.Lists.{pick}
 use Rattle.spec_calculus.specs.Syntax.{Bin, Term, num, truth, name, table}
 use Rattle.spec_encoding.specs.Record.{Bytes, refused, byte, two}
-use Rattle.spec_encoding.specs.Reader.{Kind, kinds, unknown, number, truthK, nameK, fieldK, record′, not, tableK, comprehension, generator, binding, condition, choiceK, two-terms, Reader, term, yields, content}
+use Rattle.spec_encoding.specs.Reader.{Kind, kinds, unknown, number, truthK, nameK, fieldK, record′, not, tableK, comprehension, generator, binding, condition, choiceK, openK, two-terms, Reader, term, yields, content}
 use Rattle.base_syntax.specs.Numbers.{constantOf}
 use Rattle.front_parser.specs.declared.value.ContentKind.{ContentKind}
 use Rattle.front_parser.specs.declared.value.ContentKind.the-variants as ContentKind
@@ -31,6 +31,7 @@ pub data HasTerms : Kind → Bool → ℕ → ℕ → ℕ → Type 0 where
   of-two : (o : Bin) → HasTerms (two-terms o) false 2 2 0
   of-not : HasTerms not false 1 1 0
   of-choice : HasTerms choiceK false 3 3 0
+  of-open : HasTerms openK false 1 1 1
   of-generator : HasTerms generator true 1 1 2
   of-binding : HasTerms binding true 1 1 2
   of-condition : HasTerms condition true 1 1 0
@@ -53,7 +54,7 @@ LooksBy k Ahead.Term = (R : Reader) (c : Bytes) (n : ℕ) → content R true (ge
 pub record LookAheadPost (k : ℕ) (r : Ahead) : Type 0 where
   pub is : LooksBy k r
 
--- the bytes before a record's terms: none, a field's index, a name; whether they may stand, and what they say
+-- the bytes before a record's terms: none, a field's index or a calendar's number, a name; whether they may stand, and what they say
 abbrev pub fixedOk : ℕ → Bytes → Bool
 fixedOk skip c = getD (true ∷ leb 1 (length c) ∷ (leb 2 (length c) && leb (two c 0) 255) ∷ []) skip false
 

@@ -121,7 +121,7 @@ fn content(k: u64, c: &[u8], s: &mut [u64], p: ParseState) -> Filled
     }
 }
 
-// Content that is terms, behind a field's index or a name: kinds 4 to 13, a choice and the qualifiers.
+// Content that is terms, behind a field's index, a calendar's number or a name: kinds 4 to 13, document 02's and the qualifiers.
 fn compound(k: u64, h: Arity, c: &[u8], s: &mut [u64], p: ParseState) -> Filled
     requires { ⌜ (k < 32) × Room 1 (now s) p ⌝ }
     ensures { λ r. ⌜ CompoundPost k h (now (c .entry)) (now (s .entry)) p (now (s .exit)) r ⌝ }

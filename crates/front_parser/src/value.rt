@@ -20,6 +20,7 @@ use base_syntax::KIND_GENERATOR;
 use base_syntax::KIND_NAME;
 use base_syntax::KIND_NOT;
 use base_syntax::KIND_NUMBER;
+use base_syntax::KIND_OPEN;
 use base_syntax::KIND_RECORD;
 use base_syntax::KIND_TABLE;
 use base_syntax::KIND_TRUTH;
@@ -59,6 +60,11 @@ fn later_shape(k: u64) -> ContentKind
             least: 3,
             most: 3,
             skip: 0,
+        }),
+        KIND_OPEN => ContentKind::Terms(Arity {
+            least: 1,
+            most: 1,
+            skip: 1,
         }),
         _ => ContentKind::Other,
     }

@@ -10,7 +10,7 @@ use lib.ListN.{length, getD, set, length-set}
 use lib.Seq.{getD-set-same, getD-set-other}
 use borrow.Author.Tests.{lt-ltb, le-ltb, ltb-true, ltb-false, eqb-true, eqb-false, eq-eqb, ne-eqb}
 use Rattle.spec_calculus.specs.Lists.{pick}
-use Rattle.spec_encoding.specs.Reader.{Kind, kinds, unknown, number, truthK, nameK, fieldK, record′, not, tableK, comprehension, generator, binding, condition, choiceK, two-terms}
+use Rattle.spec_encoding.specs.Reader.{Kind, kinds, unknown, number, truthK, nameK, fieldK, record′, not, tableK, comprehension, generator, binding, condition, choiceK, openK, two-terms}
 use Rattle.base_scratch.specs.Map.{nodesAt, bindersAt, shapesAt}
 use Rattle.front_words.specs.NodeWord.{kindOf, argOf, nodeWord}
 use Rattle.front_words.specs.NodeTree.{kindAt, argAt}
@@ -27,6 +27,7 @@ binds-not nameK h = refl
 binds-not fieldK h = refl
 binds-not record′ h = refl
 binds-not choiceK h = refl
+binds-not openK h = refl
 binds-not not h = refl
 binds-not tableK h = refl
 binds-not comprehension h = refl
@@ -43,6 +44,7 @@ binds-so nameK h l = absurd (omega arith)
 binds-so fieldK h l = absurd (omega arith)
 binds-so record′ h l = absurd (omega arith)
 binds-so choiceK h l = absurd (omega arith)
+binds-so openK h l = absurd (omega arith)
 binds-so not h l = absurd (omega arith)
 binds-so tableK h l = absurd (omega arith)
 binds-so comprehension h l = absurd (omega arith)

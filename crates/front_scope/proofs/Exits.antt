@@ -9,7 +9,7 @@ use lib.Seq.{set-out}
 use borrow.Author.Tests.{le-leb, lt-leb}
 use Rattle.spec_calculus.specs.Lists.{pick}
 use Rattle.spec_calculus.specs.Syntax.{Bin, Term, Terms, Quals, num, truth, name, field, rec, bin, negate, app, comp, table, tnil, tcons, qnil, gen, bind, cond, Question, asTerm}
-use Rattle.spec_encoding.specs.Reader.{Kind, unknown, number, truthK, nameK, fieldK, record′, tableK, comprehension, generator, binding, condition, choiceK, two-terms}
+use Rattle.spec_encoding.specs.Reader.{Kind, unknown, number, truthK, nameK, fieldK, record′, tableK, comprehension, generator, binding, condition, choiceK, openK, two-terms}
 use Rattle.spec_encoding.specs.Reader as Re
 use Rattle.spec_checks.specs.Scope.{namesHold}
 use Rattle.front_words.specs.LaidTree.{nodes, Laid}
@@ -57,7 +57,7 @@ module _ (n : Names) (x : ℕ) (h : x < length (n .seen)) where
 
 -- a term of this kind uses and binds no name and has no part
 abbrev Bare : Kind → Type 0
-Bare K = (3 ≤ code K → code K ≤ 14 → ⊥) × (code K ≡ 19 → ⊥)
+Bare K = (3 ≤ code K → code K ≤ 14 → ⊥) × (code K ≡ 19 → ⊥) × (code K ≡ 21 → ⊥)
 
 bare-passed : (s : List ℕ) (n : Names) (T : ℕ → Term) (L : ℕ → ℕ → Terms → Terms) (Q : ℕ → ℕ → Quals → Quals) (i : ℕ) (K : Kind) → Bare K → n ≡ passTerm (termBy T L Q s i K) n
 unfolding passTerm
@@ -67,6 +67,7 @@ bare-passed s n T L Q i nameK b = absurd (b .0 (omega arith) (omega arith))
 bare-passed s n T L Q i fieldK b = absurd (b .0 (omega arith) (omega arith))
 bare-passed s n T L Q i record′ b = absurd (b .0 (omega arith) (omega arith))
 bare-passed s n T L Q i choiceK b = absurd (b .1 refl)
+bare-passed s n T L Q i openK b = absurd (b .2 refl)
 bare-passed s n T L Q i Re.not b = absurd (b .0 (omega arith) (omega arith))
 bare-passed s n T L Q i tableK b = refl
 bare-passed s n T L Q i comprehension b = absurd (b .0 (omega arith) (omega arith))
@@ -103,6 +104,10 @@ module _ {s : List ℕ} {e : ℕ} {n r : Names} where
   pub term-choice : 1 < e → kindAt s (e - 1) ≡ choiceK → {a : ℕ} → a ≡ startAt s (e - 1) → TermsPost s a (e - 1) n r → TermPost s e n r
   unfolding passTerm
   term-choice h p q P = term-step p (λ g l. sym (P .is g (omega arith) tnil) ∙ ap (λ a. passTerms (termsAt g s a (e - 1) tnil) n) q)
+
+  pub term-open : 1 < e → kindAt s (e - 1) ≡ openK → {a : ℕ} → a ≡ startAt s (e - 1) → TermsPost s a (e - 1) n r → TermPost s e n r
+  unfolding passTerm
+  term-open h p q P = term-step p (λ g l. sym (P .is g (omega arith) tnil) ∙ ap (λ a. passTerms (termsAt g s a (e - 1) tnil) n) q)
 
   pub term-two : 1 < e → {o : Bin} → kindAt s (e - 1) ≡ two-terms o → OperandsPost s (e - 1) n r → TermPost s e n r
   unfolding passTerm
@@ -201,6 +206,7 @@ no-qual-by T s i nameK qs h = refl
 no-qual-by T s i fieldK qs h = refl
 no-qual-by T s i record′ qs h = refl
 no-qual-by T s i choiceK qs h = refl
+no-qual-by T s i openK qs h = refl
 no-qual-by T s i Re.not qs h = refl
 no-qual-by T s i tableK qs h = refl
 no-qual-by T s i comprehension qs h = refl
@@ -244,6 +250,7 @@ module _ (s : List ℕ) (n : Names) where
     leaf-by fieldK h = part 0 (omega arith)
     leaf-by record′ h = rw (hL (startAt s 0))
     leaf-by choiceK h = rw (hL (startAt s 0))
+    leaf-by openK h = rw (hL (startAt s 0))
     leaf-by Re.not h = part 0 (omega arith)
     leaf-by tableK h = refl
     leaf-by comprehension h = rw (hQ (startAt s 0)) (ap (leaves n) (part 0 (omega arith)))

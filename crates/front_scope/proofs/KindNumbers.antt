@@ -5,7 +5,7 @@ use Prim.Native.Nat.{ℕ, zero, suc, _+_, _-_, _≤_, _<_}
 use native.Mathlib.Omega.{arith}
 use lib.ListN.{length, getD}
 use Rattle.spec_calculus.specs.Syntax.{Bin, plus, minus, times, equal, less, and, or}
-use Rattle.spec_encoding.specs.Reader.{Kind, kinds, unknown, number, truthK, nameK, fieldK, record′, not, tableK, comprehension, generator, binding, condition, choiceK, two-terms}
+use Rattle.spec_encoding.specs.Reader.{Kind, kinds, unknown, number, truthK, nameK, fieldK, record′, not, tableK, comprehension, generator, binding, condition, choiceK, openK, two-terms}
 use Rattle.front_words.specs.NodeWord.{kindOf, nodeWord}
 use Rattle.front_words.specs.NodeTree.{kindAt}
 
@@ -48,6 +48,7 @@ code generator = 16
 code binding = 17
 code condition = 18
 code choiceK = 19
+code openK = 21
 
 pub two-code : (o : Bin) → (6 ≤ code (two-terms o)) × (code (two-terms o) ≤ 12)
 two-code plus = omega arith
@@ -72,7 +73,7 @@ entry P (K ∷ l) h d (suc k) = entry (λ j. P (suc j)) l (h .1) (λ j p. d (suc
 pub code-is : (m k : ℕ) → 1 ≤ m → code (getD kinds k unknown) ≡ m → k ≡ m
 code-is m k l =
     entry (λ j K. code K ≡ m → j ≡ m) kinds
-    (same, (same, (same, (same, (same, (same, (same, (same, (same, (same, (same, (same, (same, (same, (same, (same, (same, (same, (same, (same, tt)))))))))))))))))))) (λ j p e. absurd (omega arith)) k
+    (same, (same, (same, (same, (same, (same, (same, (same, (same, (same, (same, (same, (same, (same, (same, (same, (same, (same, (same, (same, (λ e. absurd (omega arith), (same, tt)))))))))))))))))))))) (λ j p e. absurd (omega arith)) k
   where
     same : {A : Type 0} → A → A
     same a = a
@@ -96,7 +97,7 @@ module _ (s : List ℕ) (i : ℕ) {k : ℕ} (e : k ≡ kindOf (nodeWord s i)) wh
 pub code-of : (k : ℕ) → k < 20 → code (getD kinds k unknown) ≡ k
 code-of =
     entry (λ j K. j < 20 → code K ≡ j) kinds
-    (own, (own, (own, (own, (own, (own, (own, (own, (own, (own, (own, (own, (own, (own, (own, (own, (own, (own, (own, (own, tt)))))))))))))))))))) (λ j p l. absurd (omega arith))
+    (own, (own, (own, (own, (own, (own, (own, (own, (own, (own, (own, (own, (own, (own, (own, (own, (own, (own, (own, (own, (λ l. absurd (omega arith), (λ l. absurd (omega arith), tt)))))))))))))))))))))) (λ j p l. absurd (omega arith))
   where
     own : {A : Type 0} {k : ℕ} → A → k ≡ k
     own a = refl

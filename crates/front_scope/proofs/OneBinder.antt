@@ -10,7 +10,7 @@ use lib.Dec.{eqb}
 use lib.ListN.{length, getD}
 use borrow.Author.Tests.{eqb-true, eqb-false, eq-eqb, ne-eqb}
 use Rattle.spec_calculus.specs.Lists.{pick, guard}
-use Rattle.spec_calculus.specs.Syntax.{choice, Term, Terms, Quals, num, truth, name, field, rec, bin, negate, app, comp, table, tnil, tcons, qnil, gen, bind, cond, Question, asTerm}
+use Rattle.spec_calculus.specs.Syntax.{choice, isOpen, Term, Terms, Quals, num, truth, name, field, rec, bin, negate, app, comp, table, tnil, tcons, qnil, gen, bind, cond, Question, asTerm}
 use Rattle.spec_calculus.proofs.Lists.{All, all-append}
 use Rattle.spec_checks.specs.Scope.{inScope, binders, bindersL, bindersQ, member, distinct, namesHold}
 use Rattle.spec_encoding.specs.Reader.{Kind, kinds, unknown}
@@ -80,6 +80,7 @@ mutual
   laid-bound (field i t) s d a L = over (nodes t) (laid-bound t s d a (L .0)) (L .1) refl
   laid-bound (rec ts) s d a L = over (nodesL ts) (laid-boundL ts s d a (L .0)) (L .1) refl
   laid-bound (app choice ts) s d a L = over (nodesL ts) (laid-boundL ts s d a (L .0)) (L .1) refl
+  laid-bound (app (isOpen n c) ts) s d a L = over (nodesL ts) (laid-boundL ts s d a (L .0)) (L .1) refl
   laid-bound (bin o t u) s d a L =
       over (nodes t + nodes u) (both s a (nodes t) (nodes u) (laid-bound t s d a (L .0)) (laid-bound u s d (a + nodes t) (L .1))) (moved (add-assoc a (nodes t) (nodes u)) (L .2)) refl
   laid-bound (negate t) s d a L = over (nodes t) (laid-bound t s d a (L .0)) (L .1) refl

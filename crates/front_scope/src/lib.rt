@@ -18,6 +18,7 @@ use base_syntax::KIND_FIELD;
 use base_syntax::KIND_GENERATOR;
 use base_syntax::KIND_NAME;
 use base_syntax::KIND_NOT;
+use base_syntax::KIND_OPEN;
 use base_syntax::KIND_OR;
 use base_syntax::KIND_PLUS;
 use base_syntax::KIND_RECORD;
@@ -99,6 +100,7 @@ fn term(s: &[u64], e: usize, seen: &mut [bool; NAMES], scope: &mut [bool; NAMES]
         KIND_NOT => term(s, i, seen, scope, ok),
         KIND_COMPREHENSION => comprehension(s, i, seen, scope, ok),
         KIND_CHOICE => terms(s, start_at(s, i), i, seen, scope, ok),
+        KIND_OPEN => terms(s, start_at(s, i), i, seen, scope, ok),
         _ => ok,
     }
 }

@@ -20,19 +20,21 @@ use Rattle.front_nodes.specs.declared.QueryNode.{QueryNode}
 use Rattle.front_nodes.specs.declared.QueryNode.the-variants as No
 use Rattle.front_nodes.specs.declared.Found.{Found}
 use Rattle.front_nodes.specs.declared.Found.the-variants.{At, Nothing}
-use Rattle.front_nodes.specs.NodeTable.{siblings, childrenOf, chain, qualifiersOf, nodesOf}
+use Rattle.front_nodes.specs.NodeTable.{countOf, siblings, childrenOf, chain, qualifiersOf, nodesOf}
 use Rattle.front_nodes.specs.Look.{nodeNamed, LookPost, nth, ChildPost}
+use Rattle.spec_encoding.specs.Reader.{kinds, unknown}
+use Rattle.front_nodes.proofs.ReaderExits.{count-is}
 use Rattle.front_nodes.proofs.QualifierChain.{chain-none, chain-more}
 use Rattle.base_syntax.specs.declared.Monoid.{Monoid}
 use Rattle.base_syntax.specs.declared.Monoid.the-variants as Mo
 use Rattle.base_syntax.specs.MonoidWord.{monoidOf}
 use Rattle.base_syntax.specs.declared.Fun.{Fun}
-use Rattle.base_syntax.specs.declared.Fun.the-variants.{Choice}
+use Rattle.base_syntax.specs.declared.Fun.the-variants.{Choice, Open}
 use Rattle.base_syntax.specs.Numbers.{funOf, numberOf}
 use Rattle.front_theory.specs.NodeTable.{Nodes}
 use Rattle.front_theory.specs.NodeTable as Nd
 use Rattle.base_scratch.specs.Map.{shapesAt}
-use Rattle.front_words.specs.NodeWord.{argOf, nodeWord}
+use Rattle.front_words.specs.NodeWord.{kindOf, argOf, nodeWord}
 use Rattle.front_words.specs.NodeTree.{startAt}
 use Rattle.base_tables.specs.Description.{collectionNumber}
 use Rattle.front_typing.specs.declared.TypeHead.{TypeHead}
@@ -40,7 +42,7 @@ use Rattle.front_typing.specs.declared.TypeHead.the-variants.{Wrong, Num
 use Rattle.front_typing.specs.declared.Made.{Made}
 use Rattle.front_typing.specs.declared.Made.the-variants as Ma
 use Rattle.front_typing.specs.NodeTypes.{Rule}
-use Rattle.front_typing.specs.Shapes.{Known, fits, isNumber, isTruth, partsOf, collects, collectionOf, headOf, partShape, fieldShape, elementShape, stands, truthShape, alikeShape, choiceShape, choiceOf, appShape, allFit, qualFits, qualsFit, shapeBy}
+use Rattle.front_typing.specs.Shapes.{Known, fits, isNumber, isTruth, partsOf, collects, collectionOf, headOf, partShape, fieldShape, elementShape, stands, truthShape, alikeShape, choiceShape, choiceOf, openShape, openOf, appShape, allFit, qualFits, qualsFit, shapeBy}
 use Rattle.front_typing.specs.ShapeWords.{shapeIn, shapesIn, collectionBy, knownIn, rules, Plain, MadeBy, MakerPost, fieldAt, elementAt, mayRange, qualFitsAt, shapeWord, shapeOf, shaped, shapedUpTo, Judges}
 
 -- ---- tests
@@ -299,9 +301,32 @@ module _ {s : List ℕ} {i : ℕ} {f : Found} (C : ChildPost s i 3 f) where
       c ≡ partShape (shapesIn s) 2 (childrenOf s i) → r ≡ choiceShape a b c → r ≡ choiceOf (shapesIn s) (childrenOf s i)
   choice-three q ea eb ec h = h ∙ rw (ea, eb, ec) (three-terms (shapesIn s) (childrenOf s i) (sym (C .is) ∙ q))
 
-pub operator-is : (f : Fun) {a : TypeHead} (σ : ℕ → TypeHead) (cs : List ℕ) → a ≡ choiceOf σ cs → a ≡ appShape (funOf f) σ cs
+two-terms : (σ : ℕ → TypeHead) (cs : List ℕ) (c : ℕ) → nth 1 cs ≡ At c → Wrong ≡ openOf σ cs
+unfolding nth openOf
+two-terms σ [] c e = refl
+two-terms σ (x ∷ []) c e = absurd (let q : _≡_ {A = ℕ} 0 1 = cc in omega arith)
+two-terms σ (x ∷ y ∷ cs) c e = refl
+
+one-term : (σ : ℕ → TypeHead) (cs : List ℕ) → nth 1 cs ≡ Nothing → openShape (partShape σ 0 cs) ≡ openOf σ cs
+unfolding nth openOf partShape pick
+one-term σ [] e = refl
+one-term σ (x ∷ []) e = refl
+one-term σ (x ∷ y ∷ cs) e = absurd (let q : _≡_ {A = ℕ} 0 1 = cc in omega arith)
+
+module _ {s : List ℕ} {i : ℕ} {f : Found} (C : ChildPost s i 1 f) where
+  pub open-many : {c : ℕ} → f ≡ At c → Wrong ≡ openOf (shapesIn s) (childrenOf s i)
+  open-many {c} q = two-terms (shapesIn s) (childrenOf s i) c (sym (C .is) ∙ q)
+
+  pub open-one : f ≡ Nothing → {a r : TypeHead} → a ≡ partShape (shapesIn s) 0 (childrenOf s i) → r ≡ openShape a → r ≡ openOf (shapesIn s) (childrenOf s i)
+  open-one q e h = h ∙ ap openShape e ∙ one-term (shapesIn s) (childrenOf s i) (sym (C .is) ∙ q)
+
+pub operator-choice : {f : Fun} {a : TypeHead} (σ : ℕ → TypeHead) (cs : List ℕ) → f ≡ Choice → a ≡ choiceOf σ cs → a ≡ appShape (funOf f) σ cs
 unfolding appShape
-operator-is Choice σ cs h = h
+operator-choice σ cs e h = h ∙ sym (ap (λ x. appShape (funOf x) σ cs) e)
+
+pub operator-open : {f : Fun} {n : ℕ} {a : TypeHead} (σ : ℕ → TypeHead) (cs : List ℕ) → f ≡ Open n → a ≡ openOf σ cs → a ≡ appShape (funOf f) σ cs
+unfolding appShape
+operator-open σ cs e h = h ∙ sym (ap (λ x. appShape (funOf x) σ cs) e)
 
 -- ---- the parts of a record
 siblings-front : (s : List ℕ) (n e : ℕ) (cs : List ℕ) → siblings s n e cs ≡ siblings s n e [] ++ cs
@@ -333,10 +358,10 @@ unfolding pick allFit
 no-parts s i e = rw e
 
 module _ {s : List ℕ} {i : ℕ} where
-  pub parts-begin : (i ≡ 0 → ⊥) → {w n : ℕ} → w ≡ nodeWord s i → n ≡ argOf w → Parts s i n i
+  pub parts-begin : (i ≡ 0 → ⊥) → {w n : ℕ} → w ≡ nodeWord s i → n ≡ countOf (getD kinds (kindOf w) unknown) (argOf w) → Parts s i n i
   unfolding pick
   parts-begin h {w} {n} p q =
-      record { is = rw (lt-ltb 0 i (omega arith)) (ap (λ x. allFit (shapesIn s) (siblings s x i [])) (sym (q ∙ ap argOf p))) }
+      record { is = rw (lt-ltb 0 i (omega arith)) (ap (λ x. allFit (shapesIn s) (siblings s x i [])) (sym (count-is s i p q))) }
 
   module _ {left e c : ℕ} {a : TypeHead} {b : Bool} (W : Parts s i left e) (l : 0 < left) (pc : c ≡ e - 1) (pa : a ≡ shapesIn s c) (pb : b ≡ fits a) where
     test-is : fits (shapesIn s (e - 1)) ≡ b

@@ -5,17 +5,18 @@ use mathlib.Core.Bool.{Bool, true, false, _&&_}
 use Prim.Native.Nat.{ℕ, zero, suc, _≤_, _<_}
 use native.Mathlib.Omega.{arith}
 use lib.Dec.{ltb, leb·zero, leb·suc-zero, leb·suc-suc}
+use Rattle.spec_calendar.specs.Hours.{Calendar}
 use Rattle.spec_calculus.specs.Lists.{pick}
 use Rattle.spec_calculus.specs.Syntax as Sy
-use Rattle.spec_calculus.specs.Syntax.{Collection, Monoid, of, sum, max, some, all, Bin, plus, minus, times, equal, less, and, or, Fun, choice}
+use Rattle.spec_calculus.specs.Syntax.{Collection, Monoid, of, sum, max, some, all, Bin, plus, minus, times, equal, less, and, or, Fun, choice, isOpen}
 use Rattle.spec_calculus.specs.Value.{Tables, kindOf, columnsOf, isThere}
-use Rattle.spec_checks.specs.Types.{Ty, Tys, number, truth, record′, coll, ynil, Typed, wrong, has, Typeds, wrongs, hass, cells, typeAt, fieldType, ofNumber, ofTruth, binType, ofThree, choiceType, appType, gathers, compType, ranges, typedAs, record″, allTyped, consType, isTyped}
+use Rattle.spec_checks.specs.Types.{Ty, Tys, number, truth, record′, coll, ynil, Typed, wrong, has, Typeds, wrongs, hass, cells, typeAt, fieldType, ofNumber, ofTruth, binType, ofThree, ofOne, choiceType, appType, gathers, compType, ranges, typedAs, record″, allTyped, consType, isTyped}
 use Rattle.spec_checks.proofs.Judgement.{cons-typed}
 use Rattle.front_theory.specs.NodeTable.{Node, Nodes, nnum, ntruth, nname, nfield, nrec, nbin, nnegate, napp, ncomp, ntable, ngen, nbind, ncond, nbad, Below, Inside, PostOrder}
 use Rattle.front_typing.specs.declared.TypeHead.{TypeHead}
 use Rattle.front_typing.specs.declared.TypeHead.the-variants.{Wrong, Number, Truth, Record, Row, Table, Coll}
 use Rattle.front_typing.specs.NodeTypes.{Rule, typesBy, behindQual, behindQuals, tableType, typeBy, nodeType}
-use Rattle.front_typing.specs.Shapes.{Known, fits, isNumber, isTruth, collectionOf, partShape, fieldShape, elementShape, stands, twoNumbers, twoTruths, binShape, truthShape, alikeShape, choiceShape, choiceOf, appShape, compShape, allFit, qualFits, qualsFit, shapeBy}
+use Rattle.front_typing.specs.Shapes.{Known, fits, isNumber, isTruth, collectionOf, partShape, fieldShape, elementShape, stands, twoNumbers, twoTruths, binShape, truthShape, alikeShape, choiceShape, choiceOf, openShape, openOf, appShape, compShape, allFit, qualFits, qualsFit, shapeBy}
 use Rattle.front_typing.proofs.NodeTypes.{node-type}
 
 -- what is known of the tables is right
@@ -102,6 +103,27 @@ three-chosen wrong v w = refl
 three-chosen (has a) wrong w = sym (no-truth (has a))
 three-chosen (has a) (has b) wrong = sym (ap (ofTruth (has a)) (alike-none (has b)) ∙ no-truth (has a))
 three-chosen (has a) (has b) (has c) = choice-type a b c
+
+-- the type of kind 21, by the types of its terms: one, or there is none
+module _ (n : ℕ) (x : Calendar) where
+  abbrev opened : Typeds → Typed
+  opened r = allTyped r (appType (isOpen n x))
+
+  none-opened : opened (hass ynil) ≡ wrong
+  unfolding allTyped appType ofOne
+  none-opened = refl
+
+  one-opened : (u : Typed) → opened (consType u (hass ynil)) ≡ ofNumber u (has truth)
+  unfolding allTyped consType appType ofOne ofNumber
+  one-opened wrong = refl
+  one-opened (has a) = refl
+
+  many-opened : (u v : Typed) (r : Typeds) → opened (consType u (consType v r)) ≡ wrong
+  unfolding allTyped consType appType ofOne
+  many-opened wrong v r = refl
+  many-opened (has a) wrong r = refl
+  many-opened (has a) (has b) wrongs = refl
+  many-opened (has a) (has b) (hass ts) = refl
 
 none-chosen : chosen (hass ynil) ≡ wrong
 unfolding allTyped appType ofThree
@@ -242,6 +264,9 @@ module _ (J : Rule) (T : Tables) (N : Nodes) where
   unfolding truthShape
   rep-truth a u p = subst (Rep (pick (isTruth a) Truth Wrong)) (sym (truth-is a u p (has truth))) (rep-pick (isTruth a) Truth (has truth) refl)
 
+  rep-open : (a : TypeHead) (u : Typed) → Rep a u → Rep (openShape a) (ofNumber u (has truth))
+  rep-open a u p = subst (Rep (pick (isNumber a) Truth Wrong)) (sym (number-is a u p (has truth))) (rep-pick (isNumber a) Truth (has truth) refl)
+
   -- ---- a choice
   rep-alike : (b c : TypeHead) (v w : Typed) → Rep b v → Rep c w → Rep (alikeShape b c) (alike v w)
   unfolding alikeShape alike pick
@@ -271,9 +296,16 @@ module _ (J : Rule) (T : Tables) (N : Nodes) where
   within-choice i σ (a ∷ b ∷ c ∷ []) = within-pick i (isTruth (σ a)) (alikeShape (σ b) (σ c)) (within-either i (isNumber (σ b)) (pick (isNumber (σ c)) Number Wrong) (pick (isTruth (σ b)) (truthShape (σ c)) Wrong) (within-pick i (isNumber (σ c)) Number tt) (within-pick i (isTruth (σ b)) (truthShape (σ c)) (within-pick i (isTruth (σ c)) Truth tt)))
   within-choice i σ (a ∷ b ∷ c ∷ d ∷ cs) = tt
 
+  within-open : (i : ℕ) (σ : ℕ → TypeHead) (cs : List ℕ) → Within i (openOf σ cs)
+  unfolding openOf
+  within-open i σ [] = tt
+  within-open i σ (a ∷ []) = within-pick i (isNumber (σ a)) Truth tt
+  within-open i σ (a ∷ b ∷ cs) = tt
+
   within-app : (f : Fun) (i : ℕ) (σ : ℕ → TypeHead) (cs : List ℕ) → Within i (appShape f σ cs)
   unfolding appShape
   within-app choice i σ cs = within-choice i σ cs
+  within-app (isOpen n c) i σ cs = within-open i σ cs
 
   -- ---- a comprehension's node i
   gathered : (c : Collection) (i h : ℕ) (cs : List ℕ) (a : TypeHead) → N i ≡ ncomp (of c) cs h → Rep a (τ h) → (u : Typed) → τ h ≡ u → Rep (pick (fits a) (Coll i) Wrong) (gathers c u)
@@ -373,9 +405,16 @@ module _ (J : Rule) (T : Tables) (N : Nodes) where
           (rep-choice (σ a) (σ c) (σ d) (τ a) (τ c) (τ d) (good a (b .0) .0) (good c (b .1 .0) .0) (good d (b .1 .1 .0) .0))
       rep-chosen (a ∷ c ∷ d ∷ e ∷ cs) b = many-chosen (τ a) (τ c) (τ d) (τ e) (typesBy τ cs)
 
+      rep-opened : (n : ℕ) (x : Calendar) (cs : List ℕ) → Below i cs → Rep (openOf σ cs) (allTyped (typesBy τ cs) (appType (isOpen n x)))
+      unfolding openOf typesBy Below
+      rep-opened n x [] b = none-opened n x
+      rep-opened n x (a ∷ []) b = subst (Rep (openShape (σ a))) (sym (one-opened n x (τ a))) (rep-open (σ a) (τ a) (good a (b .0) .0))
+      rep-opened n x (a ∷ c ∷ cs) b = many-opened n x (τ a) (τ c) (typesBy τ cs)
+
       rep-app : (f : Fun) (cs : List ℕ) → Below i cs → Rep (appShape f σ cs) (allTyped (typesBy τ cs) (appType f))
       unfolding appShape
       rep-app choice cs b = rep-chosen cs b
+      rep-app (isOpen n x) cs b = rep-opened n x cs b
 
       -- a part of a record
       rep-part : (cs : List ℕ) (k : ℕ) (ts : Tys) → Below i cs → typesBy τ cs ≡ hass ts → Rep (partShape σ k cs) (typeAt k ts) × Within i (partShape σ k cs)

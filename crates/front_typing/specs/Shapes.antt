@@ -5,7 +5,7 @@ use Prim.Native.Nat.{ℕ, zero, suc}
 use lib.Dec.{ltb, eqb}
 use Rattle.spec_calculus.specs.Lists.{pick}
 use Rattle.spec_calculus.specs.Syntax as Sy
-use Rattle.spec_calculus.specs.Syntax.{Collection, list, Monoid, of, sum, max, some, all, Bin, plus, minus, times, equal, less, and, or, Fun, choice}
+use Rattle.spec_calculus.specs.Syntax.{Collection, list, Monoid, of, sum, max, some, all, Bin, plus, minus, times, equal, less, and, or, Fun, choice, isOpen}
 use Rattle.front_theory.specs.NodeTable.{Node, Nodes, nnum, ntruth, nname, nfield, nrec, nbin, nnegate, napp, ncomp, ntable, ngen, nbind, ncond, nbad}
 use Rattle.front_typing.specs.declared.TypeHead.{TypeHead}
 use Rattle.front_typing.specs.declared.TypeHead.the-variants.{Wrong, Number, Truth, Record, Row, Table, Coll}
@@ -170,8 +170,18 @@ choiceOf σ (a ∷ b ∷ []) = Wrong
 choiceOf σ (a ∷ b ∷ c ∷ []) = choiceShape (σ a) (σ b) (σ c)
 choiceOf σ (a ∷ b ∷ c ∷ d ∷ cs) = Wrong
 
+-- "one number term" (document 02, E4)
+abbrev pub openShape : TypeHead → TypeHead
+openShape a = pick (isNumber a) Truth Wrong
+
+unfoldable pub openOf : (ℕ → TypeHead) → List ℕ → TypeHead
+openOf σ [] = Wrong
+openOf σ (a ∷ []) = openShape (σ a)
+openOf σ (a ∷ b ∷ cs) = Wrong
+
 unfoldable pub appShape : Fun → (ℕ → TypeHead) → List ℕ → TypeHead
 appShape choice σ cs = choiceOf σ cs
+appShape (isOpen n c) σ cs = openOf σ cs
 
 -- the collection that node i makes of heads like a
 abbrev pub gathersShape : ℕ → TypeHead → TypeHead

@@ -7,7 +7,7 @@ ghost use Rattle.front_nodes.specs.NodeTable.{childrenOf, nodesOf};
 ghost use Rattle.base_syntax.specs.MonoidWord.{monoidOf};
 ghost use Rattle.base_syntax.specs.Numbers.{binOf, funOf};
 ghost use Rattle.base_tables.specs.Description.{collectionNumber};
-ghost use Rattle.front_typing.specs.Shapes.{classOf, fits, isNumber, isTruth, collects, collectionOf, headOf, cellShape, numberShape, truthShape, gathersShape, twoNumbers, twoTruths, binShape, partShape, choiceShape, choiceOf, appShape, compShape};
+ghost use Rattle.front_typing.specs.Shapes.{classOf, fits, isNumber, isTruth, collects, collectionOf, headOf, cellShape, numberShape, truthShape, gathersShape, twoNumbers, twoTruths, binShape, partShape, choiceShape, choiceOf, openShape, openOf, appShape, compShape};
 ghost use Rattle.front_typing.specs.ShapeWords.{numbered as numberedWord, shapeWord, shapeIn, shapesIn, collectionBy, rules, MakerPost, tableAt, partAt, fieldAt, elementAt, partsFit, mayRange, qualFitsAt, qualsFitAt, recordAt, compAt, shapeOf, shapedUpTo, Judges};
 use base_scratch::SHAPES;
 use base_scratch::load_at;
@@ -349,11 +349,32 @@ fn choice_at(s: &[u64], i: usize) -> TypeHead
     }
 }
 
+// "one number term" (document 02, E4)
+fn opening(a: TypeHead) -> TypeHead
+    ensures { λ r. ⌜ r ≡ openShape a ⌝ }
+{
+    if is_number(a) {
+        return TypeHead::Truth;
+    }
+    TypeHead::Wrong
+}
+
+// The minute of node i, of no more than one term.
+fn open_at(s: &[u64], i: usize) -> TypeHead
+    ensures { λ r. ⌜ r ≡ openOf (shapesIn (now (s .entry))) (childrenOf (now (s .entry)) i) ⌝ }
+{
+    match front_nodes::child(s, i, 1) {
+        Found::At(_) => TypeHead::Wrong,
+        Found::Nothing => opening(operand(s, i, 0)),
+    }
+}
+
 fn operator(s: &[u64], i: usize, f: Fun) -> TypeHead
     ensures { λ r. ⌜ r ≡ appShape (funOf f) (shapesIn (now (s .entry))) (childrenOf (now (s .entry)) i) ⌝ }
 {
     match f {
         Fun::Choice => choice_at(s, i),
+        Fun::Open(n) => open_at(s, i),
     }
 }
 
@@ -366,7 +387,7 @@ fn all_typed(s: &[u64], i: usize) -> bool
     if i == 0 {
         return true;
     }
-    let mut left = front_words::arg(front_words::node_word(s, i));
+    let mut left = front_nodes::term_count(front_words::node_word(s, i));
     let mut e = i;
     while 0 < left {
         let c = front_nodes::prior(e);

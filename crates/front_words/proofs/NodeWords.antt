@@ -11,8 +11,10 @@ use lib.Seq.{getD-set-same}
 use lib.Dec.{eqb, leb}
 use borrow.Author.Tests.{le-leb, lt-leb, lt-ltb, le-ltb}
 use Rattle.spec_calculus.specs.Lists.{pick}
-use Rattle.spec_calculus.specs.Syntax.{choice, Term, Terms, Quals, num, truth, name, field, rec, bin, negate, app, comp, table, tnil, tcons, qnil, gen, bind, cond}
-use Rattle.spec_encoding.specs.Reader.{Kind, kinds, unknown, number, truthK, nameK, fieldK, record′, not, tableK, comprehension, generator, binding, condition, choiceK, two-terms}
+use Rattle.spec_calculus.specs.Syntax.{choice, isOpen, Term, Terms, Quals, num, truth, name, field, rec, bin, negate, app, comp, table, tnil, tcons, qnil, gen, bind, cond}
+use Rattle.spec_calendar.specs.Hours.{Calendar}
+use Rattle.spec_calculus.specs.Lending.{unlent}
+use Rattle.spec_encoding.specs.Reader.{Kind, kinds, unknown, number, truthK, nameK, fieldK, record′, not, tableK, comprehension, generator, binding, condition, choiceK, openK, two-terms}
 use Rattle.base_scratch.specs.Map.{nodesAt, bindersAt, names}
 use Rattle.front_words.specs.Binders.{binderWord}
 use Rattle.front_words.specs.NodeWord.{kindOf, argOf, startOf, depthOf, pack, nodeWord}
@@ -54,6 +56,7 @@ module _ (s s′ : List ℕ) (b : ℕ) (some : 1 ≤ b) (same : (i : ℕ) → i 
     term-by-same i h fieldK = ap₂ field (arg-same i h) (hT i (omega arith))
     term-by-same i h record′ = ap rec (ap (λ (a : ℕ). L′ a i tnil) (start-same i h) ∙ hL (startAt s i) i tnil (omega arith))
     term-by-same i h choiceK = ap (app choice) (ap (λ (a : ℕ). L′ a i tnil) (start-same i h) ∙ hL (startAt s i) i tnil (omega arith))
+    term-by-same i h openK = ap₂ (λ (n : ℕ) (ts : Terms). app (unlent n) ts) (arg-same i h) (ap (λ (a : ℕ). L′ a i tnil) (start-same i h) ∙ hL (startAt s i) i tnil (omega arith))
     term-by-same i h (two-terms o) = ap₂ (bin o) (ap T′ (start-same (i - 1) (omega arith)) ∙ hT (startAt s (i - 1)) (omega arith)) (hT i (omega arith))
     term-by-same i h not = ap negate (hT i (omega arith))
     term-by-same i h comprehension =
@@ -75,6 +78,7 @@ module _ (s s′ : List ℕ) (b : ℕ) (some : 1 ≤ b) (same : (i : ℕ) → i 
     qual-by-same i h fieldK qs = refl
     qual-by-same i h record′ qs = refl
     qual-by-same i h choiceK qs = refl
+    qual-by-same i h openK qs = refl
     qual-by-same i h (two-terms o) qs = refl
     qual-by-same i h not qs = refl
     qual-by-same i h comprehension qs = refl
@@ -129,7 +133,7 @@ module _ (s s′ : List ℕ) (b : ℕ) (same : (i : ℕ) → i < b → nodeWord 
     laid-same (rec ts) d a h L =
         let e = same (a + nodesL ts) (omega arith) in (laid-same-terms ts d a (omega arith) (L .0), node-same e (L .1), ap argOf e ∙ L .2)
     laid-same (app f ts) d a h L =
-        let e = same (a + nodesL ts) (omega arith) in (laid-same-terms ts d a (omega arith) (L .0), node-same e (L .1), ap argOf e ∙ L .2)
+        let e = same (a + nodesL ts) (omega arith) in (laid-same-terms ts d a (omega arith) (L .0), node-same e (L .1), ap argOf e ∙ L .2, L .3)
     laid-same (bin o t u) d a h L =
         (laid-same t d a (omega arith) (L .0), laid-same u d (a + nodes t) (omega arith) (L .1), node-same (same (a + nodes t + nodes u) (omega arith)) (L .2))
     laid-same (negate t) d a h L = (laid-same t d a (omega arith) (L .0), node-same (same (a + nodes t) (omega arith)) (L .1))
@@ -278,6 +282,10 @@ mutual
       node-tree (L .1) _ (omega arith) f (omega arith)
       (λ g p. ap (app choice) (ap (λ (x : ℕ). termsAt g s x (a + nodesL ts) tnil) (last-start (L .1) (omega arith) _ refl) ∙
       laid-terms ts s d a a (omega arith) (L .0) tnil (λ k l. terms-end s a (ontoL ts tnil) k ∙ onto-nil ts) g (omega arith)))
+  laid-tree (app (isOpen n c) ts) s d a L f h =
+      node-tree (L .1) _ (omega arith) f (omega arith)
+      (λ g p. ap₂ (λ (x : ℕ) (us : Terms). app (unlent x) us) (L .2) (ap (λ (x : ℕ). termsAt g s x (a + nodesL ts) tnil) (last-start (L .1) (omega arith) _ refl) ∙
+      laid-terms ts s d a a (omega arith) (L .0) tnil (λ k l. terms-end s a (ontoL ts tnil) k ∙ onto-nil ts) g (omega arith)) ∙ ap (λ (x : Calendar). app (isOpen n x) ts) (sym (L .3 .0)))
   laid-tree (bin o t u) s d a L f h =
       node-tree (L .2) _ (omega arith) f (omega arith)
       (λ g p. ap₂ (bin o) (ap (λ (x : ℕ). treeAt g s x) (laid-start u s d (a + nodes t) (L .1)) ∙ laid-tree t s d a (L .0) g (omega arith)) (laid-tree u s d (a + nodes t) (L .1) g (omega arith)))

@@ -1,11 +1,11 @@
 -- How a tree lies in the node words: its children one behind the other, then the node itself. `nodes` counts its nodes,
 -- so a tree that begins at node a ends at node a + nodes t - 1, which is its own node.
 use mathlib.Core.Path.{_≡_}
-use mathlib.Core.List.{List}
+use mathlib.Core.List.{List, []}
 use Prim.Native.Nat.{ℕ, suc, _+_, _≤_}
 use Rattle.spec_calculus.specs.Lists.{pick}
-use Rattle.spec_calculus.specs.Syntax.{Fun, choice, Term, Terms, Quals, num, truth, name, field, rec, bin, negate, app, comp, table, tnil, tcons, qnil, gen, bind, cond}
-use Rattle.spec_encoding.specs.Reader.{Kind, number, truthK, nameK, fieldK, record′, not, tableK, comprehension, generator, binding, condition, choiceK, two-terms}
+use Rattle.spec_calculus.specs.Syntax.{Fun, choice, isOpen, Term, Terms, Quals, num, truth, name, field, rec, bin, negate, app, comp, table, tnil, tcons, qnil, gen, bind, cond}
+use Rattle.spec_encoding.specs.Reader.{Kind, number, truthK, nameK, fieldK, record′, not, tableK, comprehension, generator, binding, condition, choiceK, openK, two-terms}
 use Rattle.front_words.specs.NodeWord.{startOf, depthOf, nodeWord}
 use Rattle.front_words.specs.NodeTree.{monoidAt, kindAt, argAt}
 use Rattle.base_syntax.specs.Numbers.{constantOf}
@@ -41,6 +41,17 @@ countL (tcons t ts) = suc (countL ts)
 -- the kind of each of document 02's operators
 abbrev pub operator : Fun → Kind
 operator choice = choiceK
+operator (isOpen n c) = openK
+
+-- the argument of its node: how many terms it has, or its calendar's number
+abbrev pub argued : Fun → Terms → ℕ
+argued choice ts = countL ts
+argued (isOpen n c) ts = n
+
+-- as it is read: of one term, calendars being lent to a question later
+abbrev pub AsRead : Fun → Terms → Type 0
+AsRead choice ts = Unit {0}
+AsRead (isOpen n c) ts = (c ≡ []) × (countL ts ≡ 1)
 
 -- node i: its kind, the first node of its subtree, and how many comprehensions are around it
 pub record Node (s : List ℕ) (d a i : ℕ) (K : Kind) : Type 0 where
@@ -57,7 +68,7 @@ abbrev mutual
   Laid s d a (name x) = Node s d a a nameK × (argAt s a ≡ x)
   Laid s d a (field i t) = Laid s d a t × Node s d a (a + nodes t) fieldK × (argAt s (a + nodes t) ≡ i)
   Laid s d a (rec ts) = LaidL s d a ts × Node s d a (a + nodesL ts) record′ × (argAt s (a + nodesL ts) ≡ countL ts)
-  Laid s d a (app f ts) = LaidL s d a ts × Node s d a (a + nodesL ts) (operator f) × (argAt s (a + nodesL ts) ≡ countL ts)
+  Laid s d a (app f ts) = LaidL s d a ts × Node s d a (a + nodesL ts) (operator f) × (argAt s (a + nodesL ts) ≡ argued f ts) × AsRead f ts
   Laid s d a (bin o t u) = Laid s d a t × Laid s d (a + nodes t) u × Node s d a (a + nodes t + nodes u) (two-terms o)
   Laid s d a (negate t) = Laid s d a t × Node s d a (a + nodes t) not
   Laid s d a (comp m qs h) =

@@ -8,7 +8,8 @@ use lib.ListN.{getD}
 use lib.IntN.{pos}
 use Rattle.spec_calculus.specs.Lists.{pick}
 use Rattle.spec_calculus.specs.Syntax.{Monoid, choice, Term, Terms, Quals, num, truth, name, field, rec, bin, negate, app, comp, table, tnil, tcons, qnil, gen, bind, cond}
-use Rattle.spec_encoding.specs.Reader.{Kind, kinds, unknown, number, truthK, nameK, fieldK, record′, not, tableK, comprehension, generator, binding, condition, choiceK, two-terms}
+use Rattle.spec_calculus.specs.Lending.{unlent}
+use Rattle.spec_encoding.specs.Reader.{Kind, kinds, unknown, number, truthK, nameK, fieldK, record′, not, tableK, comprehension, generator, binding, condition, choiceK, openK, two-terms}
 use Rattle.base_syntax.specs.MonoidWord.{monoidOf}
 use Rattle.base_syntax.specs.Numbers.{monoidNumbered, constantOf}
 use Rattle.front_words.specs.NodeWord.{kindOf, argOf, startOf, nodeWord}
@@ -35,6 +36,7 @@ termBy T L Q s i nameK = name (argAt s i)
 termBy T L Q s i fieldK = field (argAt s i) (T i)
 termBy T L Q s i record′ = rec (L (startAt s i) i tnil)
 termBy T L Q s i choiceK = app choice (L (startAt s i) i tnil)
+termBy T L Q s i openK = app (unlent (argAt s i)) (L (startAt s i) i tnil)
 termBy T L Q s i (two-terms o) = bin o (T (startAt s (i - 1))) (T i)
 termBy T L Q s i not = negate (T i)
 termBy T L Q s i comprehension = comp (monoidAt (argAt s i)) (Q (startAt s i) (startAt s (i - 1)) qnil) (T i)
@@ -55,6 +57,7 @@ qualBy T s i nameK qs = qs
 qualBy T s i fieldK qs = qs
 qualBy T s i record′ qs = qs
 qualBy T s i choiceK qs = qs
+qualBy T s i openK qs = qs
 qualBy T s i (two-terms o) qs = qs
 qualBy T s i not qs = qs
 qualBy T s i comprehension qs = qs

@@ -1,7 +1,7 @@
 -- `front_nodes::child` meets its contract, by ReaderExits.
 use mathlib.Core.Path.{refl}
 use Prim.Native.Nat.{_-_}
-use Rattle.front_nodes.proofs.ReaderExits.{arg-is, Walks, child-first, child-past, walk-on, child-at}
+use Rattle.front_nodes.proofs.ReaderExits.{count-is, Walks, child-first, child-past, walk-on, child-at}
 use borrow.Author.Needs.{needs}
 use Rattle.front_nodes.proofs.child.Statement.{statement}
 use Rattle.front_nodes.proofs.child.Tie as tie
@@ -16,7 +16,7 @@ returns : tie.Need-returns Inv-loop μ-loop
 returns c = child-first (c .if1 .taken)
 
 returns-2 : tie.Need-returns-2 Inv-loop μ-loop
-returns-2 c = child-past (arg-is (c .before .before .before .before .before .args .s .now) (c .before .before .before .before .before .args .i) (c .before .before .before .node-word .ensures) (c .before .before .arg .ensures)) (c .if2 .taken)
+returns-2 c = child-past (count-is (c .before .before .before .before .before .args .s .now) (c .before .before .before .before .before .args .i) (c .before .before .before .node-word .ensures) (c .before .before .term-count .ensures)) (c .if2 .taken)
 
 loop-holds : tie.Need-loop-holds Inv-loop μ-loop
 loop-holds c = record { is = refl }
@@ -25,7 +25,7 @@ loop-again : tie.Need-loop-again Inv-loop μ-loop
 loop-again c = walk-on (c .before .before .before .loop .inv) (c .before .before .loop-test .taken) (c .before .prior .ensures) (c .start-at .ensures .0)
 
 returns-3 : tie.Need-returns-3 Inv-loop μ-loop
-returns-3 c = child-at (c .before .before .before .before .if1 .left) (arg-is (c .before .before .before .before .before .before .before .before .args .s .now) (c .before .before .before .before .before .before .before .before .args .i) (c .before .before .before .before .before .before .node-word .ensures) (c .before .before .before .before .before .arg .ensures)) (c .before .before .before .if2 .left) (c .before .before .loop .inv) (c .before .loop-test .left) (c .prior2 .ensures)
+returns-3 c = child-at (c .before .before .before .before .if1 .left) (count-is (c .before .before .before .before .before .before .before .before .args .s .now) (c .before .before .before .before .before .before .before .before .args .i) (c .before .before .before .before .before .before .node-word .ensures) (c .before .before .before .before .before .term-count .ensures)) (c .before .before .before .if2 .left) (c .before .before .loop .inv) (c .before .loop-test .left) (c .prior2 .ensures)
 
 pub child-spec : {M : Type 1} → statement M
 child-spec =

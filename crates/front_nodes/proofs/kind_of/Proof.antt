@@ -25,11 +25,8 @@ returns-11 c = kind-at (c .match .keys11)
 returns-12 : tie.Need-returns-12
 returns-12 c = kind-at (c .match .keys12)
 
-returns-19 : tie.Need-returns-19
-returns-19 c = kind-at (c .match .keys19)
-
-returns-20 : tie.Need-returns-20
-returns-20 c = no-kind (c .before .args .k) (c .match .rest)
+returns-21 : tie.Need-returns-21
+returns-21 c = no-kind (c .before .args .k) (c .match .rest)
 
 pub kind-of-spec : {M : Type 1} → statement M
 kind-of-spec =
@@ -53,5 +50,6 @@ kind-of-spec =
     (λ c. search needs)
     (λ c. search needs)
     (λ c. search needs)
-    returns-19
-    returns-20)
+    (λ c. search needs)
+    (λ c. search needs)
+    returns-21)

@@ -3,7 +3,7 @@ use mathlib.Core.Path.{ap, _∙_}
 use mir.Facts.{toZ-ofZ}
 use Rattle.base_syntax.specs.MonoidWord.{monoidOf}
 use Rattle.base_signed.proofs.SignedWords.{fits}
-use Rattle.front_nodes.proofs.ReaderExits.{kind-is, arg-is, look-number, look-truth, look-name, look-table, look-field, look-comp, look-record, look-two, look-not, look-gen, look-bind, look-cond, look-operator, look-bad, look-far}
+use Rattle.front_nodes.proofs.ReaderExits.{kind-is, arg-is, look-number, look-truth, look-name, look-table, look-field, look-comp, look-record, look-two, look-not, look-gen, look-bind, look-cond, look-choice, look-open, look-bad, look-far}
 use borrow.Author.Needs.{needs}
 use Rattle.front_nodes.proofs.look.Statement.{statement}
 use Rattle.front_nodes.proofs.look.Tie as tie
@@ -48,46 +48,50 @@ returns-13 : tie.Need-returns-13
 returns-13 c = look-cond (c .before .before .before .before .before .before .before .before .if1 .left) (c .before .before .before .before .before .prior .ensures) (kind-is (c .before .before .before .before .before .before .before .before .before .before .args .s .now) (c .before .before .before .before .before .before .before .before .before .before .args .i) (c .before .before .before .before .before .before .before .node-word .ensures) (c .before .before .before .before .kind .ensures) (c .before .before .before .kind-of .ensures) (c .before .enum-told11 .given .1)) (c .raised7 .ensures)
 
 returns-14 : tie.Need-returns-14
-returns-14 c = look-operator (c .before .before .before .before .before .before .before .before .if1 .left) _ (kind-is (c .before .before .before .before .before .before .before .before .before .before .args .s .now) (c .before .before .before .before .before .before .before .before .before .before .args .i) (c .before .before .before .before .before .before .before .node-word .ensures) (c .before .before .before .before .kind .ensures) (c .before .before .before .kind-of .ensures) (c .before .f .given .1))
+returns-14 c = look-choice (c .before .before .before .before .before .before .before .if1 .left) (kind-is (c .before .before .before .before .before .before .before .before .before .args .s .now) (c .before .before .before .before .before .before .before .before .before .args .i) (c .before .before .before .before .before .before .node-word .ensures) (c .before .before .before .kind .ensures) (c .before .before .kind-of .ensures) (c .enum-told12 .given .1))
 
 returns-15 : tie.Need-returns-15
-returns-15 c = look-bad (c .before .before .before .before .before .before .before .if1 .left) (kind-is (c .before .before .before .before .before .before .before .before .before .args .s .now) (c .before .before .before .before .before .before .before .before .before .args .i) (c .before .before .before .before .before .before .node-word .ensures) (c .before .before .before .kind .ensures) (c .before .before .kind-of .ensures) (c .enum-told12 .given .1))
+returns-15 c = let w = c .before .before .before .before .before .before .node-word .ensures in look-open (c .before .before .before .before .before .before .before .if1 .left) (arg-is (c .before .before .before .before .before .before .before .before .before .args .s .now) (c .before .before .before .before .before .before .before .before .before .args .i) w (c .before .before .before .before .before .arg .ensures)) (kind-is (c .before .before .before .before .before .before .before .before .before .args .s .now) (c .before .before .before .before .before .before .before .before .before .args .i) w (c .before .before .before .kind .ensures) (c .before .before .kind-of .ensures) (c .enum-told13 .given .1))
+
+returns-16 : tie.Need-returns-16
+returns-16 c = look-bad (c .before .before .before .before .before .before .before .if1 .left) (kind-is (c .before .before .before .before .before .before .before .before .before .args .s .now) (c .before .before .before .before .before .before .before .before .before .args .i) (c .before .before .before .before .before .before .node-word .ensures) (c .before .before .before .kind .ensures) (c .before .before .kind-of .ensures) (c .enum-told14 .given .1))
 
 pub look-spec : {M : Type 1} → statement M
 look-spec =
     tie.close
     (tie.spec
     returns
-    (λ c κs. search needs)
-    (λ c κs. search needs)
-    (λ c κs. search needs)
-    (λ c κs. search needs)
-    (λ c κs. search needs)
-    (λ c. search needs)
-    (λ c κs. search needs)
     (λ c. search needs)
     (λ c. search needs)
-    (λ c κs. search needs)
-    (λ c κs. search needs)
-    (λ c. search needs)
-    (λ c κs. search needs)
     (λ c. search needs)
     (λ c. search needs)
-    (λ c κs. search needs)
-    (λ c κs. search needs)
-    (λ c κs. search needs)
-    (λ c. search needs)
-    (λ c κs. search needs)
-    (λ c. search needs)
-    (λ c κs. search needs)
-    (λ c κs. search needs)
     (λ c. search needs)
     (λ c. search needs)
-    (λ c κs. search needs)
     (λ c. search needs)
-    (λ c κs. search needs)
     (λ c. search needs)
-    (λ c κs. search needs)
+    (λ c. search needs)
+    (λ c. search needs)
+    (λ c. search needs)
+    (λ c. search needs)
+    (λ c. search needs)
+    (λ c. search needs)
+    (λ c. search needs)
+    (λ c. search needs)
+    (λ c. search needs)
+    (λ c. search needs)
+    (λ c. search needs)
+    (λ c. search needs)
+    (λ c. search needs)
+    (λ c. search needs)
+    (λ c. search needs)
+    (λ c. search needs)
+    (λ c. search needs)
+    (λ c. search needs)
+    (λ c. search needs)
+    (λ c. search needs)
+    (λ c. search needs)
+    (λ c. search needs)
+    (λ c. search needs)
     (λ c. search needs)
     (λ c. search needs)
     returns-2
@@ -103,4 +107,5 @@ look-spec =
     returns-12
     returns-13
     returns-14
-    returns-15)
+    returns-15
+    returns-16)

@@ -3,7 +3,7 @@ use native.Mathlib.Omega.{arith}
 use Prim.Native.Nat.{_+_, _-_, _*_, ℕ, _<_}
 use mathlib.Core.Path.{refl}
 use Rattle.front_scope.proofs.KindNumbers.{kind-is, kind-not, kind-outside, two-kind-at, kind-above}
-use Rattle.front_scope.proofs.Exits.{term-leaf, term-name, term-field, term-not, term-record, term-choice, term-two, term-comp, term-bare, operands-both, comp-both, terms-none, terms-more, quals-none, quals-more, qual-gen, qual-bind, qual-cond, qual-none, behind-term, behind-terms, behind-quals}
+use Rattle.front_scope.proofs.Exits.{term-leaf, term-name, term-field, term-not, term-record, term-choice, term-open, term-two, term-comp, term-bare, operands-both, comp-both, terms-none, terms-more, quals-none, quals-more, qual-gen, qual-bind, qual-cond, qual-none, behind-term, behind-terms, behind-quals}
 use borrow.Author.Needs.{needs}
 use Prim.Native.Nat.{ℕ, _<_}
 use borrow.Fn.Kinds.{In}
@@ -198,6 +198,9 @@ term-comprehension-requires t c κs = (search needs, (search needs, c .before .b
 term-terms-requires-2 : (t : ℕ) → term-lts.Need-terms-requires-2 (term-claims t) (term-at t) term.Post
 term-terms-requires-2 t c κs = (search needs, c .before .before .before .before .before .before .before .pre .1)
 
+term-terms-requires-3 : (t : ℕ) → term-lts.Need-terms-requires-3 (term-claims t) (term-at t) term.Post
+term-terms-requires-3 t c κs = (search needs, c .before .before .before .before .before .before .before .pre .1)
+
 term-operands-requires : (t : ℕ) → term-lts.Need-operands-requires (term-claims t) (term-at t) term.Post
 term-operands-requires t c κs = (search needs, (search needs, c .before .before .before .before .before .before .before .before .pre .1))
 
@@ -220,15 +223,18 @@ term-returns-7 : (t : ℕ) → term-lts.Need-returns-7 (term-claims t) (term-at 
 term-returns-7 t c = term-choice (c .before .before .before .before .before .before .if1 .left) (kind-is (c .before .before .before .before .before .before .before .before .args .s .now) (c .before .before .before .before .before .before .before .before .args .e - 1) 19 (c .before .before .before .before .before .kind-at .ensures) (c .before .before .before .before .match .keys6)) (c .before .before .before .start-at2 .ensures .0) (c .terms2 .ensures)
 
 term-returns-8 : (t : ℕ) → term-lts.Need-returns-8 (term-claims t) (term-at t) term.Post
-term-returns-8 t c = let r = c .before .before .before .before .before .match .rest in
-    let o = two-kind-at (c .before .before .before .before .before .before .before .before .before .args .s .now) (c .before .before .before .before .before .before .before .before .before .args .e - 1) (c .before .before .before .before .before .before .kind-at .ensures) (r .0 .0 .0 .0 .0 .1) (r .0 .0 .0 .0 .1) (r .0 .0 .0 .1) (c .before .before .before .before .if2 .left) (c .before .before .before .if3 .taken) in
-    term-two (c .before .before .before .before .before .before .before .if1 .left) (o .1) (c .operands .ensures)
+term-returns-8 t c = term-open (c .before .before .before .before .before .before .if1 .left) (kind-is (c .before .before .before .before .before .before .before .before .args .s .now) (c .before .before .before .before .before .before .before .before .args .e - 1) 21 (c .before .before .before .before .before .kind-at .ensures) (c .before .before .before .before .match .keys7)) (c .before .before .before .start-at3 .ensures .0) (c .terms3 .ensures)
 
 term-returns-9 : (t : ℕ) → term-lts.Need-returns-9 (term-claims t) (term-at t) term.Post
-term-returns-9 t c = term-bare (kind-outside (c .before .before .before .before .before .args .s .now) (c .before .before .before .before .before .args .e - 1) (c .before .before .kind-at .ensures) 3 14 (omega arith) (omega arith), kind-not (c .before .before .before .before .before .args .s .now) (c .before .before .before .before .before .args .e - 1) (c .before .before .kind-at .ensures) 19 (omega arith) (c .before .match .rest .1)) refl
+term-returns-9 t c = let r = c .before .before .before .before .before .match .rest in
+    let o = two-kind-at (c .before .before .before .before .before .before .before .before .before .args .s .now) (c .before .before .before .before .before .before .before .before .before .args .e - 1) (c .before .before .before .before .before .before .kind-at .ensures) (r .0 .0 .0 .0 .0 .0 .1) (r .0 .0 .0 .0 .0 .1) (r .0 .0 .0 .0 .1) (c .before .before .before .before .if2 .left) (c .before .before .before .if3 .taken) in
+    term-two (c .before .before .before .before .before .before .before .if1 .left) (o .1) (c .operands .ensures)
 
 term-returns-10 : (t : ℕ) → term-lts.Need-returns-10 (term-claims t) (term-at t) term.Post
-term-returns-10 t c = term-bare (kind-above (c .before .before .before .before .before .before .args .s .now) (c .before .before .before .before .before .before .args .e - 1) (c .before .before .before .kind-at .ensures) (c .before .before .match .rest .0 .0 .1) (c .before .before .match .rest .0 .1) (c .if3 .left), kind-not (c .before .before .before .before .before .before .args .s .now) (c .before .before .before .before .before .before .args .e - 1) (c .before .before .before .kind-at .ensures) 19 (omega arith) (c .before .before .match .rest .1)) refl
+term-returns-10 t c = term-bare (kind-outside (c .before .before .before .before .before .args .s .now) (c .before .before .before .before .before .args .e - 1) (c .before .before .kind-at .ensures) 3 14 (omega arith) (omega arith), kind-not (c .before .before .before .before .before .args .s .now) (c .before .before .before .before .before .args .e - 1) (c .before .before .kind-at .ensures) 19 (omega arith) (c .before .match .rest .0 .1), kind-not (c .before .before .before .before .before .args .s .now) (c .before .before .before .before .before .args .e - 1) (c .before .before .kind-at .ensures) 21 (omega arith) (c .before .match .rest .1)) refl
+
+term-returns-11 : (t : ℕ) → term-lts.Need-returns-11 (term-claims t) (term-at t) term.Post
+term-returns-11 t c = term-bare (kind-above (c .before .before .before .before .before .before .args .s .now) (c .before .before .before .before .before .before .args .e - 1) (c .before .before .before .kind-at .ensures) (c .before .before .match .rest .0 .0 .0 .1) (c .before .before .match .rest .0 .0 .1) (c .if3 .left), kind-not (c .before .before .before .before .before .before .args .s .now) (c .before .before .before .before .before .before .args .e - 1) (c .before .before .before .kind-at .ensures) 19 (omega arith) (c .before .before .match .rest .0 .1), kind-not (c .before .before .before .before .before .before .args .s .now) (c .before .before .before .before .before .before .args .e - 1) (c .before .before .before .kind-at .ensures) 21 (omega arith) (c .before .before .match .rest .1)) refl
 
 abbrev terms-claims : ℕ → terms-lts.Claims
 terms-claims t = (start-at-reads.Asked, start-at-reads.Learnt, terms-below t, terms.Post, term-below t, term.Post)
@@ -313,6 +319,8 @@ pub +comprehension+operands+qualifier+quals+term+terms-spec : {M : Type 1} → s
     (term-comprehension-requires t)
     (λ c κs. search needs)
     (term-terms-requires-2 t)
+    (λ c κs. search needs)
+    (term-terms-requires-3 t)
     (term-operands-requires t)
     (term-returns-2 t)
     (term-returns-3 t)
@@ -322,7 +330,8 @@ pub +comprehension+operands+qualifier+quals+term+terms-spec : {M : Type 1} → s
     (term-returns-7 t)
     (term-returns-8 t)
     (term-returns-9 t)
-    (term-returns-10 t))
+    (term-returns-10 t)
+    (term-returns-11 t))
     λ t. terms-lts.spec (terms-claims t)
     (terms-at t)
     terms.Post

@@ -15,7 +15,7 @@ returns : tie.Need-returns Inv-loop μ-loop
 returns c = no-parts (c .before .before .args .s .now) (c .before .before .args .i) (c .if1 .taken)
 
 loop-holds : tie.Need-loop-holds Inv-loop μ-loop
-loop-holds c = parts-begin (c .before .before .if1 .left) (c .before .node-word .ensures) (c .arg .ensures)
+loop-holds c = parts-begin (c .before .before .if1 .left) (c .before .node-word .ensures) (c .term-count .ensures)
 
 returns-2 : tie.Need-returns-2 Inv-loop μ-loop
 returns-2 c = parts-off (c .before .before .before .before .before .loop .inv) (c .before .before .before .before .loop-test .taken) (c .before .before .before .prior .ensures) (c .before .before .shape-at .ensures) (c .before .is-typed .ensures) (not-true (c .before .is-typed .result) (c .if2 .taken))

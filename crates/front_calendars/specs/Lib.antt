@@ -1,0 +1,2 @@
+-- The calendars that a question's nodes name.
+pub mod LentNodes
