@@ -9,10 +9,9 @@ use lib.IntN.{ℤ, pos}
 use Rattle.spec_calculus.specs.Value.{Value, Tables}
 use Rattle.spec_calculus.specs.Monoid.{canonical, raw}
 use Rattle.spec_encoding.specs.Record.{Bytes, got}
-use Rattle.spec_encoding.specs.Reader.{readQuestion}
 use Rattle.spec_normal_form.specs.Form.{asForm, normalValue}
 use Rattle.spec_outcome.specs.WrittenForm.{words}
-use Rattle.spec_outcome.specs.Acceptance.{Accepted}
+use Rattle.spec_outcome.specs.Acceptance.{Lent, readLent, posedOf, Accepted}
 use Rattle.spec_outcome.specs.Outcome.{G, written}
 use Rattle.form_words.specs.FormTree.{left}
 use Rattle.form_prepared.specs.PreparedQuestion.{Prepared}
@@ -31,7 +30,7 @@ module _ {d : Bytes} {a : Accepted} {s t : List ℕ} (P : Prepared d a s) (S : S
   all-rooted : Rooted (columns t) (a .tables) (λ g. false) (asForm (a .form))
   all-rooted = subst (λ (T : Tables). Rooted (columns t) T (λ g. false) (asForm (a .form))) (tables-are P) (rooted (S .held) (asForm (a .form)) (λ g. false) 0 (form-in-scope P) (S .named) (even P (columns t)))
 
-  module _ {o₁ o₂ : List ℤ} {n : ℕ} (K : FinishPost t 0 o₁ o₂ n) (o : List ℤ) (e : o₁ ≡ words (normalValue raw (a .tables) (a .form)) ++ drop (G a) o) (q : Bytes) (r : readQuestion q ≡ got (a .question)) where
+  module _ {o₁ o₂ : List ℤ} {n : ℕ} (K : FinishPost t 0 o₁ o₂ n) (o : List ℤ) (e : o₁ ≡ words (normalValue raw (a .tables) (a .form)) ++ drop (G a) o) (q : Lent) (r : readLent q ≡ got (posedOf a)) where
     finished : Answered (a .tables) (a .form) (drop (G a) o) o₂ n
     finished = normal-written K (suc (left 0)) (omega arith) (a .form) (S .form) (well-formed P) (solid P q r) all-rooted (drop (G a) o) e
 

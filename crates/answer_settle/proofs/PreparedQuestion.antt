@@ -9,13 +9,12 @@ use Rattle.spec_calculus.specs.Monoid.{raw}
 use Rattle.spec_calculus.specs.Meaning.{Env}
 use Rattle.spec_calculus.proofs.WellFormed.{WellFormed}
 use Rattle.spec_encoding.specs.Record.{Bytes, got}
-use Rattle.spec_encoding.specs.Reader.{readQuestion}
 use Rattle.spec_encoding.proofs.Data.{read-well-formed}
 use Rattle.spec_normal_form.specs.Form.{Form, Forms, row, cell, rec, bin, negate, app, comp, fnil, fcons, asForm, value, normalValue}
 use Rattle.spec_normal_form.specs.Form as Fo
 use Rattle.spec_normal_form.specs.NoRule.{Ordered}
 use Rattle.spec_normal_form.proofs.NoRuleApplies.{normal-in-scope}
-use Rattle.spec_outcome.specs.Acceptance.{Accepted}
+use Rattle.spec_outcome.specs.Acceptance.{Lent, readLent, posedOf, Accepted}
 use Rattle.spec_outcome.proofs.Checks.{Passed, judged}
 use Rattle.form_words.specs.FormTree.{formTree, left}
 use Rattle.form_words.proofs.ReadBack.{read-back}
@@ -55,7 +54,7 @@ module _ {d : Bytes} {a : Accepted} {s : List ℕ} (P : Prepared d a s) where
   tables-are = tables-in d (P .tables)
 
   pub passed : Passed a
-  passed = judged (a .tables) (a .question) a (P .judged)
+  passed = judged (a .tables) (a .lent) (a .question) a (P .judged)
 
   pub held : Held d s
   held = record {
@@ -66,7 +65,7 @@ module _ {d : Bytes} {a : Accepted} {s : List ℕ} (P : Prepared d a s) where
   }
 
   pub form-is : (f : ℕ) → left 0 < f → formTree f s 0 ≡ asForm (a .form)
-  form-is f l = read-back (asForm (a .form)) s 0 (P .fits) (omega (arith, P .few)) (P .held) f l
+  form-is f l = read-back (asForm (a .form)) s 0 (P .fits) (P .lent) (omega (arith, P .few)) (P .held) f l
 
   pub well-formed : WellFormed (a .tables)
   well-formed = read-well-formed d (P .tables)
@@ -88,8 +87,8 @@ module _ {d : Bytes} {a : Accepted} {s : List ℕ} (P : Prepared d a s) where
   even C = subst (λ t. Even C (asForm t)) (sym (passed .form-is)) (normal-even C (a .tables) (a .question) (passed .generators))
 
   -- "5 record (1 to 8 terms)"
-  pub no-empty : (l : Bytes) → readQuestion l ≡ got (a .question) → filled (asForm (a .form)) ≡ true
+  pub no-empty : (l : Lent) → readLent l ≡ got (posedOf a) → filled (asForm (a .form)) ≡ true
   no-empty l r = ap (λ t. filled (asForm t)) (passed .form-is) ∙ read-filled (kindOf (a .tables)) l r
 
-  pub solid : (l : Bytes) → readQuestion l ≡ got (a .question) → Solid (asForm (a .form))
+  pub solid : (l : Lent) → readLent l ≡ got (posedOf a) → Solid (asForm (a .form))
   solid l r = filled-solid (asForm (a .form)) (no-empty l r)

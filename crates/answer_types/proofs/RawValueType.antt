@@ -10,7 +10,7 @@ use lib.IntN.{ℤ, pos}
 use lib.ListN.{length}
 use Rattle.spec_calculus.specs.Lists.{guard, pick, upd}
 use Rattle.spec_calculus.specs.Syntax as Sy
-use Rattle.spec_calculus.specs.Syntax.{Monoid, of, sum, max, some, all, Bin, plus, minus, times, equal, less, and, or, Fun, choice}
+use Rattle.spec_calculus.specs.Syntax.{Monoid, of, sum, max, some, all, Bin, plus, minus, times, equal, less, and, or, Fun, choice, isOpen}
 use Rattle.spec_calculus.specs.Value.{Value, Values, toList, fromList, junk, asBool, nth, fieldOf, binV, notV, scalar, choiceV, appV, Tables, columnsOf, isThere, rowsOf}
 use Rattle.spec_calculus.specs.Value as Va
 use Rattle.spec_calculus.specs.Monoid.{start, step, total, finish, foldBy, raw}
@@ -207,10 +207,13 @@ unfolding appV choiceV nth
 choice-values t vs s (field {v = c} h (field {v = v} a (field {v = w} b no-field))) = choice-of (asBool c) t v w s a b
 
 app-of : (f : Fun) (us : Tys) (t : Ty) (vs : Values) → Takes f us t → OfEach us vs → Of t (appV f vs)
+unfolding appV
+app-of (isOpen n c) us t vs h k = subst (λ (x : Ty). Of x (appV (isOpen n c) vs)) (sym (h .0)) (a-truth _)
 app-of choice us t vs h k = choice-values t vs (h .0) (subst (λ (ts : Tys). OfEach ts vs) (h .1) k)
 
 pub takes-scalar : (f : Fun) (us : Tys) (t : Ty) → Takes f us t → Scalar t
 takes-scalar choice us t h = h .0
+takes-scalar (isOpen n c) us t h = subst Scalar (sym (h .0)) tt
 
 -- numbers and truths
 abbrev pub Scalars : Tys → Type 0
@@ -219,6 +222,7 @@ Scalars (ycons t ts) = Scalar t × Scalars ts
 
 pub takes-scalars : (f : Fun) (us : Tys) (t : Ty) → Takes f us t → Scalars us
 takes-scalars choice us t h = subst Scalars (sym (h .1)) (tt, (h .0, (h .0, tt)))
+takes-scalars (isOpen n c) us t h = subst Scalars (sym (h .1)) (tt, tt)
 
 guard-all : (P : Value → Type 0) (b : Bool) (l : List Value) → All P l → All P (guard b l)
 unfolding guard

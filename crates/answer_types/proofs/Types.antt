@@ -5,7 +5,7 @@ use mathlib.Core.List.{List}
 use Prim.Native.Nat.{ℕ, zero, suc, _+_, _-_, _/_, _≤_, _<_}
 use native.Mathlib.Omega.{arith}
 use Rattle.base_signed.proofs.SignedWords.{no}
-use Rattle.spec_calculus.specs.Syntax.{of, Bin, plus, minus, times, equal, less, and, or, Fun, choice}
+use Rattle.spec_calculus.specs.Syntax.{of, Bin, plus, minus, times, equal, less, and, or, Fun, choice, isOpen}
 use Rattle.spec_checks.specs.Types.{Ty, Tys, number, truth, record′, coll, ynil, ycons, cells}
 use Rattle.spec_checks.proofs.Judgement.{result}
 use Rattle.spec_checks.proofs.Refold.{second, single, gives, gathered}
@@ -13,7 +13,7 @@ use Rattle.spec_normal_form.specs.Form.{Form}
 use Rattle.base_syntax.specs.declared.Monoid.{Monoid}
 use Rattle.base_syntax.specs.declared.Monoid.the-variants as Mo
 use Rattle.base_syntax.specs.MonoidWord.{monoidOf}
-use Rattle.base_syntax.specs.Numbers.{binOf, funOf}
+use Rattle.base_syntax.specs.Numbers.{binOf}
 use Rattle.form_words.specs.declared.FormNode.{FormNode}
 use Rattle.form_words.specs.declared.FormNode.the-variants.{Number, Truth, Row, Cell, Record, Binary, Negation, Operator, Comprehension, Generator, Condition, Nothing}
 use Rattle.form_words.specs.NodeWord.{next}
@@ -161,6 +161,7 @@ single-one (coll c t) = refl
 pub single-gives : (f : Fun) (us : Tys) → true ≡ isSingle (gives f us)
 unfolding gives
 single-gives choice us = single-one (second us)
+single-gives (isOpen n c) us = refl
 
 single-node : (s : List ℕ) (i f : ℕ) (n : FormNode) → OneWord n → true ≡ isSingle (typeOf (columns s) (formNode f s i n))
 unfolding typeOf gathered
@@ -171,7 +172,7 @@ single-node s i f (Cell c g) p = refl
 single-node s i f (Record e) p = absurd p
 single-node s i f (Binary o j) p = single-result (binOf o)
 single-node s i f Negation p = refl
-single-node s i f (Operator g e) p = single-gives (funOf g) _
+single-node s i f (Operator g e) p = single-gives _ _
 single-node s i f (Comprehension Mo.List) p = absurd p
 single-node s i f (Comprehension Mo.Bag) p = absurd p
 single-node s i f (Comprehension Mo.Set) p = absurd p

@@ -10,7 +10,7 @@ use lib.ListN.{length, length-append}
 use lib.IntN.{ℤ, pos}
 use Rattle.spec_calculus.specs.Lists.{upd}
 use Rattle.spec_calculus.specs.Syntax as Sy
-use Rattle.spec_calculus.specs.Syntax.{Monoid, of, sum, max, some, all, Bin, plus, minus, times, equal, less, and, or, Fun, choice}
+use Rattle.spec_calculus.specs.Syntax.{Monoid, of, sum, max, some, all, Bin, plus, minus, times, equal, less, and, or, Fun, choice, isOpen}
 use Rattle.spec_calculus.specs.Value.{Value, Values, vnil, vcons, num, truth, rec, coll, count, fromList, junk, fieldOf, binV, notV, scalar, choiceV, appV, rowsOf}
 use Rattle.spec_calculus.specs.Monoid.{raw}
 use Rattle.spec_calculus.specs.Meaning.{Env}
@@ -80,6 +80,7 @@ whole-scalar (coll vs) = whole-num _
 whole-app : (f : Fun) (vs : Values) → Whole (appV f vs)
 unfolding appV choiceV
 whole-app choice vs = whole-scalar _
+whole-app (isOpen n c) vs = whole-truth _
 
 -- two lists of words, one behind the other
 both-exact : {a b c d : List ℤ} → (length b ≤ numberLimit → a ≡ b) → (length d ≤ numberLimit → c ≡ d) → length (b ++ d) ≤ numberLimit → a ++ c ≡ b ++ d

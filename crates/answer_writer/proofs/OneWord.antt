@@ -3,8 +3,9 @@ use mathlib.Core.Path.{_≡_, refl}
 use mathlib.Core.List.{[], _∷_}
 use mathlib.Core.Bool.{Bool, true, false}
 use lib.IntN.{ℤ}
-use Rattle.spec_calculus.specs.Syntax.{Bin, plus, minus, times, equal, less, and, or, Fun, choice}
-use Rattle.spec_calculus.specs.Value.{Value, Values, num, truth, rec, coll, asInt, asBool, binV, scalar, choiceV, appV}
+use Rattle.spec_calendar.specs.Hours.{openAt}
+use Rattle.spec_calculus.specs.Syntax.{Bin, plus, minus, times, equal, less, and, or, Fun, choice, isOpen}
+use Rattle.spec_calculus.specs.Value.{Value, Values, num, truth, rec, coll, nth, asInt, asBool, binV, scalar, choiceV, appV}
 use Rattle.spec_outcome.specs.WrittenForm.{truthWord}
 use Rattle.form_arith.specs.declared.Sort.{Sort}
 use Rattle.form_arith.specs.declared.Sort.the-variants as So
@@ -42,6 +43,11 @@ one-scalar (truth false) = refl
 one-scalar (rec vs) = refl
 one-scalar (coll vs) = refl
 
+open-scalar : (b : Bool) → OneWord So.Either (truth b)
+unfolding scalar
+open-scalar b = one-scalar (truth b)
+
 pub one-app : (f : Fun) (vs : Values) → OneWord So.Either (appV f vs)
 unfolding appV choiceV
 one-app choice vs = one-scalar _
+one-app (isOpen n c) vs = open-scalar (openAt c (asInt (nth 0 vs)))

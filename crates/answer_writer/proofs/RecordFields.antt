@@ -1,14 +1,22 @@
 -- "5 record (1 to 8 terms)": no record of a question that is read is without fields, and none of its normal form is.
-use mathlib.Core.Path.{_≡_, refl}
+use mathlib.Core.Path.{_≡_, refl, sym, ap, ap₂, _∙_}
 use mathlib.Core.Bool.{Bool, true, false, _&&_, _||_, and-eq-true-iff}
 use Prim.Native.Nat.{ℕ, zero, suc, _+_}
 use lib.Dec.{eqb}
+use lib.ListN.{length}
+use Rattle.spec_calendar.specs.Hours.{Calendar, calendarOf}
 use Rattle.spec_calculus.specs.Lists.{upd}
 use Rattle.spec_calculus.specs.Syntax.{Collection, Bin, plus, minus, times, equal, less, and, or, Term, Terms, Quals, num, truth, name, field, rec, bin, negate, app, comp, table, tnil, tcons, qnil, gen, bind, cond, Question}
-use Rattle.spec_encoding.specs.Record.{Bytes, got}
+use Rattle.spec_calculus.specs.Lending.{lend}
+use Rattle.spec_encoding.specs.Record.{Bytes, got, andThen}
 use Rattle.spec_encoding.specs.Reader.{readQuestion}
+use Rattle.spec_hours.specs.CalendarBytes.{readCalendars}
 use Rattle.spec_encoding.proofs.QuestionLimits.{Keeps, question-kept}
 use Rattle.spec_normal_form.specs.Form.{asForm, gens, gensC}
+use Rattle.spec_normal_form.specs.Form as Nf
+use Rattle.spec_normal_form.proofs.Lending.{lendF, lendFs, normal-lent}
+use Rattle.spec_outcome.specs.Acceptance.{Lent, Posed, readLent}
+use Rattle.spec_outcome.proofs.Checks.{got-is, handed}
 use Rattle.spec_normal_form.specs.Normal.{Sem, Sems, row, fields, both, nested, plain, snil, scons, nothing, quote, quotes, idempotent, ranges, nth, part, binary, before, SemEnv, norm, norms, walk, nowhere, normal}
 use Rattle.answer_writer.specs.RecordFields.{filled, someF, filledF}
 
@@ -51,6 +59,7 @@ reader-keeps = record {
   binary = λ d o t u p q. tt;
   negation = λ d t p. tt;
   choice = λ d t u v p q r. tt;
+  opening = λ d n t p. tt;
   comprehension = λ d m qs h p q. (p, q);
   table = λ d k. tt;
   deeper = λ d t p. p;
@@ -148,6 +157,29 @@ upd-full x d δ p e y = go (eqb x y)
     go true = p
     go false = e y
 
+-- Lending calendars leaves it as it is.
+mutual
+  unfolding lendF filled
+
+  filled-lent : (K : ℕ → Calendar) (t : Nf.Form) → filled (lendF K t) ≡ filled t
+  filled-lent K (Nf.num z) = refl
+  filled-lent K (Nf.truth b) = refl
+  filled-lent K (Nf.row g) = refl
+  filled-lent K (Nf.cell i g) = refl
+  filled-lent K (Nf.rec ts) = ap₂ _&&_ (some-lent K ts) (filledF-lent K ts)
+  filled-lent K (Nf.bin o s t) = refl
+  filled-lent K (Nf.negate t) = refl
+  filled-lent K (Nf.app f ts) = refl
+  filled-lent K (Nf.comp m q h) = filled-lent K h
+
+  some-lent : (K : ℕ → Calendar) (ts : Nf.Forms) → someF (lendFs K ts) ≡ someF ts
+  some-lent K Nf.fnil = refl
+  some-lent K (Nf.fcons t ts) = refl
+
+  filledF-lent : (K : ℕ → Calendar) (ts : Nf.Forms) → filledF (lendFs K ts) ≡ filledF ts
+  filledF-lent K Nf.fnil = refl
+  filledF-lent K (Nf.fcons t ts) = ap₂ _&&_ (filled-lent K t) (filledF-lent K ts)
+
 module _ (K : ℕ → Collection) where
   mutual
     unfolding norm Full filled before
@@ -180,9 +212,19 @@ module _ (K : ℕ → Collection) where
     walk-full (bind x t qs) p b h k δ e n = walk-full qs (p .1) b h k (upd x (norm K t δ) δ) (upd-full x (norm K t δ) δ (norm-full t (p .0) δ e) e) n
     walk-full (cond t qs) p b h k δ e n = walk-full qs p b h k δ e _
 
-  -- The normal form of a question that is read.
-  pub read-filled : (l : Bytes) {q : Question} → readQuestion l ≡ got q → filled (asForm (normal K q)) ≡ true
+  question-filled : (l : Bytes) {q : Question} → readQuestion l ≡ got q → filled (asForm (normal K q)) ≡ true
   unfolding normal filled Full
-  read-filled l {q} r =
+  question-filled l {q} r =
       let p = question-kept reader-keeps l r in
       quote-full _ (walk-full (q .quals) (p .0) (idempotent (q .monoid)) (λ ε. norm K (q .head) ε) (λ ε f. norm-full (q .head) (p .1) ε f) nowhere (λ x. tt) 0) _
+
+  -- The normal form of a question that is read, with the calendars that it is lent.
+  pub read-filled : (l : Lent) {p : Posed} → readLent l ≡ got p → filled (asForm (normal K (p .question))) ≡ true
+  unfolding readLent lendF
+  read-filled l {p} r =
+      let c = handed (readCalendars (l .calendars)) (λ C. andThen (readQuestion (l .question)) (λ q. got (record { lent = length C; question = lend (calendarOf C) q }))) p r in
+      let q = handed (readQuestion (l .question)) (λ q. got (record { lent = length (c .0); question = lend (calendarOf (c .0)) q })) p (c .1 .1) in
+      ap (λ (x : Posed). filled (asForm (normal K (x .question)))) (sym (got-is _ p (q .1 .1)))
+      ∙ ap (λ f. filled (asForm f)) (normal-lent (calendarOf (c .0)) K (q .0))
+      ∙ filled-lent (calendarOf (c .0)) (asForm (normal K (q .0)))
+      ∙ question-filled (l .question) (q .1 .0)

@@ -28,7 +28,7 @@ use Rattle.plan_machine.proofs.CollectionsInHeads.{Scalar, Either, Fitting}
 use Rattle.plan_links.specs.Spots.{Spots, compOf}
 use Rattle.plan_links.specs.SpotWords.{fuel}
 use Rattle.form_env.specs.Environment.{tablesIn}
-use Rattle.form_env.proofs.SameForm.{node-same, next-same}
+use Rattle.form_env.proofs.SameForm.{node-same, next-same, hours-same}
 use Rattle.form_arith.specs.WordSorts.{sortOf, wordBound, mergeBound}
 use Rattle.exec_terms.specs.PlanColumns.{planDeclared}
 use Rattle.exec_terms.specs.Agreement.{Agrees, AgreesC}
@@ -56,7 +56,7 @@ use Rattle.exec_initial.proofs.RowAgreement.{agrees-named, agrees-condi
 -- ---- what is read of the comprehension at c; b: scratch before the first row, s: with the same words of the normal form
 module _ (b s : List ℕ) (same : (i : ℕ) → wordAt s i ≡ wordAt b i) {c : ℕ} (A : CompAt b c) where
   pub lies-now : Lies s c (comp (A .monoid) (A .clauses) (A .head))
-  lies-now = lies-same b s (node-same s b same) (next-same s b same) (comp (A .monoid) (A .clauses) (A .head)) c (A .lies)
+  lies-now = lies-same b s (node-same s b same) (next-same s b same) (hours-same s b same) (comp (A .monoid) (A .clauses) (A .head)) c (A .lies)
 
   pub head-now : headAt s c ≡ headOf A
   head-now = head-node-same s b same fuel (c + 1) ∙ head-place A

@@ -24,7 +24,7 @@ use Rattle.plan_machine.specs.AnswerText.{collects}
 use Rattle.plan_links.specs.Spots.{Spots, compOf}
 use Rattle.plan_links.specs.SpotWords.{fuel}
 use Rattle.plan_links.proofs.SameNodes.{term-again, head-again, conds-again}
-use Rattle.form_env.proofs.SameForm.{node-same, form-same, clauses-same, next-same}
+use Rattle.form_env.proofs.SameForm.{node-same, form-same, clauses-same, next-same, hours-same}
 use Rattle.form_arith.specs.WordSorts.{sortOf, wordBound}
 use Rattle.exec_terms.specs.PlanColumns.{planDeclared}
 use Rattle.exec_terms.specs.Agreement.{Agrees, AgreesC}
@@ -49,17 +49,17 @@ module _ (s t : List ℕ) (w : (i : ℕ) → wordAt s i ≡ wordAt t i) where
   head-form-same c = form-same s t w fuel (headAt s c) ∙ ap (formTree fuel t) (head-node-same fuel (c + 1))
 
   head-term-same : (i : ℕ) → headIn fuel s i ≡ headIn fuel t i
-  head-term-same i = head-again t s (node-same s t w) (next-same s t w) mark-same fuel i
+  head-term-same i = head-again t s (node-same s t w) (next-same s t w) (hours-same s t w) mark-same fuel i
 
   pub smalls-same : (C : Declared) (c : ℕ) → Smalls C t c → Smalls C s c
   smalls-same C c h = record {
     clauses = ap (withinC C) (clauses-same s t w fuel (c + 1)) ∙ h .clauses;
     head = ap (within C) (head-form-same c) ∙ h .head;
-    term = head-term-same (c + 1) ∙ h .term ∙ sym (term-again t s (node-same s t w) (next-same s t w) mark-same fuel (headAt t c)) ∙ ap (termIn fuel s) (sym (head-node-same fuel (c + 1)));
+    term = head-term-same (c + 1) ∙ h .term ∙ sym (term-again t s (node-same s t w) (next-same s t w) (hours-same s t w) mark-same fuel (headAt t c)) ∙ ap (termIn fuel s) (sym (head-node-same fuel (c + 1)));
   }
 
   conds-same : (m m′ i : ℕ) → m ≡ m′ → condsIn fuel s m i ≡ condsIn fuel t m′ i
-  conds-same m m′ i e = conds-again t s (node-same s t w) (next-same s t w) mark-same fuel m i ∙ ap (λ k. condsIn fuel t k i) e
+  conds-same m m′ i e = conds-again t s (node-same s t w) (next-same s t w) (hours-same s t w) mark-same fuel m i ∙ ap (λ k. condsIn fuel t k i) e
 
 module _ {d : Bytes} (Q : Question d) (small : (π : Path) (x : Program) → Valid (Q .program) π x → Smalls (planDeclared d (Q .base)) (Q .base) (compOf (spotsAt (Q .spots) π))) {s : List ℕ} (K : Kept (Q .base) s) (r : Row) where
   small-now : (π : Path) (x : Program) → Valid (Q .program) π x → Smalls (planDeclared d s) s (compOf (spotsAt (Q .spots) π))

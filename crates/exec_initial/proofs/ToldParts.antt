@@ -27,7 +27,7 @@ use Rattle.plan_links.specs.Spots.{compOf}
 use Rattle.plan_links.specs.SpotWords.{fuel}
 use Rattle.plan_links.proofs.SameNodes.{term-again}
 use Rattle.form_env.specs.Environment.{tablesIn}
-use Rattle.form_env.proofs.SameForm.{node-same, next-same}
+use Rattle.form_env.proofs.SameForm.{node-same, next-same, hours-same}
 use Rattle.exec_terms.specs.PlanColumns.{planDeclared}
 use Rattle.exec_terms.specs.PartsWalk.{walk}
 use Rattle.exec_terms.proofs.PartsText.{partsIn}
@@ -88,7 +88,7 @@ module _ {d : Bytes} (Q : Question d) (H : Fills (Q .base) [] (Q .spots)) (small
     later-now = subst (λ (y : Form). Later s h y (basis π)) (tree-is s (A .head) h fuel (stands-there .lies) (stands-there .low) (omega arith)) (subst (λ (y : ℕ). Later s y (formTree fuel s y) (basis π)) place-now T)
 
     parts-now : parts (termIn fuel s h) ≡ headParts x
-    parts-now = ap parts (term-again (Q .base) s (node-same s (Q .base) (S .kept .form)) (next-same s (Q .base) (S .kept .form)) (mark-same s (Q .base) (S .kept .form)) fuel h ∙ sym (head-term Q H small π x v A))
+    parts-now = ap parts (term-again (Q .base) s (node-same s (Q .base) (S .kept .form)) (next-same s (Q .base) (S .kept .form)) (hours-same s (Q .base) (S .kept .form)) (mark-same s (Q .base) (S .kept .form)) fuel h ∙ sym (head-term Q H small π x v A))
 
     done-now : (b : ℕ) → NamedUpto (Q .base) (fillers (Q .spots) π) b h (A .head) → Done s h (A .head) (passes (Q .spots) π) b
     done-now b N = λ j m k l.

@@ -11,11 +11,11 @@ use Rattle.spec_plan.specs.Plan.{PTerm, prec, pbin, pnegate, papp, pnil, pcons}
 use Rattle.spec_plan.specs.Operators.{Row}
 use Rattle.form_words.specs.declared.FormNode.{FormNode}
 use Rattle.form_words.specs.NodeWord.{next, nodeAt}
-use Rattle.form_words.specs.FormTree.{left}
+use Rattle.form_words.specs.FormTree.{opIn, left}
 use Rattle.form_words.specs.FormWords.{size, sizeF}
 use Rattle.base_syntax.specs.declared.Monoid as Mo
 use Rattle.base_syntax.specs.declared.Monoid.the-variants as Mv
-use Rattle.base_syntax.specs.Numbers.{binOf, opArg, opAt, funOf, funArg, funAt, monoidArg, monoidAt}
+use Rattle.base_syntax.specs.Numbers.{binOf, opArg, opAt, funArg, funAt, monoidArg, monoidAt}
 use Rattle.base_scratch.specs.Map.{formWords}
 use Rattle.form_arith.specs.declared.Sort.the-variants as So
 use Rattle.form_arith.specs.WordSorts.{resultSort}
@@ -87,7 +87,7 @@ module _ (s : List ℕ) where
         ∙ ap₂ (pbin (binOf (opAt (opArg o)))) (term-same t (i + 1) (pred f) (pred g) (h .1 .0) (omega arith) (omega arith) (omega arith)) (term-same u (i + 1 + size t) (pred f) (pred g) (h .1 .1) (omega arith) (omega arith) (omega arith))
         ∙ sym (term-at g i (h .0) (omega arith))
     term-same (app o ts) i f g h l p q = term-at f i (h .0) (omega arith)
-        ∙ ap (papp (funOf (funAt (funArg o)))) (terms-same ts (i + 1) (pred f) (pred g) (i + 1 + sizeF ts) (h .1) refl (omega arith) (omega arith) (omega arith)) ∙ sym (term-at g i (h .0) (omega arith))
+        ∙ ap (papp (opIn s (funAt (funArg o)))) (terms-same ts (i + 1) (pred f) (pred g) (i + 1 + sizeF ts) (h .1) refl (omega arith) (omega arith) (omega arith)) ∙ sym (term-at g i (h .0) (omega arith))
     term-same (negate t) i f g h l p q = term-at f i (h .0) (omega arith) ∙ ap pnegate (term-same t (i + 1) (pred f) (pred g) (h .1) (omega arith) (omega arith) (omega arith)) ∙ sym (term-at g i (h .0) (omega arith))
     term-same (comp m c u) i f g h l p q = term-at f i (h .0) (omega arith) ∙ sym (term-at g i (h .0) (omega arith))
 

@@ -14,8 +14,10 @@ use Rattle.base_syntax.specs.declared.Monoid.{Monoid}
 use Rattle.base_syntax.specs.MonoidWord.{monoidOf}
 use Rattle.base_syntax.specs.declared.Op.{Op}
 use Rattle.base_syntax.specs.declared.Fun.{Fun}
-use Rattle.base_syntax.specs.declared.Fun.the-variants.{Choice}
-use Rattle.base_syntax.specs.Numbers.{binOf, funOf}
+use Rattle.base_syntax.specs.declared.Fun.the-variants.{Choice, Open}
+use Rattle.base_syntax.specs.Numbers.{binOf, funOf, lentOf}
+use Rattle.base_windows.specs.KeptCalendars.{calendarIn}
+use Rattle.spec_calendar.specs.Hours.{Calendar}
 use Rattle.form_words.specs.declared.FormNode.{FormNode}
 use Rattle.form_words.specs.declared.FormNode.the-variants as N
 use Rattle.form_words.specs.declared.Clause.{Clause}
@@ -32,7 +34,7 @@ use Rattle.spec_plan.specs.Lines.{ascii, digits, decimal, signedDecimal, monoid
 use Rattle.plan_marks.specs.Marks.{markAt, slotBy}
 use Rattle.plan_marks.specs.PlanIn.{termBy, termIn, termsIn, headBy, headIn, condsBy, condsIn, growsBy, growsIn, opIn, orElse, ownIn, opsBy, innerBy, opsIn, opsInF, innerIn, planAt}
 use Rattle.base_text.specs.LaidText.{Lays, Text}
-use Rattle.plan_lines.specs.PartTexts.{slotText, cellText, openText, monoidText, grower, growerText, conditionText, opens, closes, restText, GrowsPost, nestText, GrowersPost, OutermostPost}
+use Rattle.plan_lines.specs.PartTexts.{slotText, cellText, openText, operatorText, monoidText, grower, growerText, conditionText, opens, closes, restText, GrowsPost, nestText, GrowersPost, OutermostPost}
 use Rattle.base_text.proofs.LaidText.{text-by, lays-nil, lays-two, lays-as}
 use Rattle.base_text.proofs.Decimals.{decimal-text}
 use Rattle.plan_lines.proofs.JoinedConditions.{conj-text}
@@ -57,11 +59,11 @@ cell-is m A B C D E = lays-two A (lays-two (decimal-text B) (lays-two C (lays-tw
 -- ---- one step of reading
 module _ {s : List ℕ} {i : ℕ} {n : FormNode} (H : Looks s i n) where
   abbrev pub termNode : ℕ → PTerm
-  termNode f = termBy (λ j. termIn f s j) (λ j e. termsIn f s j e) i (markAt s i) n
+  termNode f = termBy (calendarIn s) (λ j. termIn f s j) (λ j e. termsIn f s j e) i (markAt s i) n
 
   pub term-lays : {lim p r : ℕ} {o o′ : List ℕ} → ((f : ℕ) → left i < suc f → Lays lim (showTerm (termNode f)) o p o′ r) → Text (left i) (λ f. showTerm (termIn f s i)) lim o p o′ r
   unfolding termIn
-  term-lays h = text-by (λ f l. lays-as (ap (λ (x : FormNode). showTerm (termBy (λ j. termIn f s j) (λ j e. termsIn f s j e) i (markAt s i) x)) (H .is)) (h f l))
+  term-lays h = text-by (λ f l. lays-as (ap (λ (x : FormNode). showTerm (termBy (calendarIn s) (λ j. termIn f s j) (λ j e. termsIn f s j e) i (markAt s i) x)) (H .is)) (h f l))
 
   abbrev opsNode : ℕ → List Pl.Op
   opsNode f = opsBy (λ j. opsIn f s j) (λ j e. opsInF f s j e) (λ m. ownIn f Pl.outer s i ++ (innerIn f s (i + 1) ++ (nest (pred (markAt s i)) (monoidOf m) (headIn f s (i + 1)) (conj (condsIn f s 0 (i + 1))) ∷ []))) i n
@@ -108,15 +110,25 @@ term-binary {s} {i} {j} {lim} {p} {q} {r} {t} {u} {v} {w} H A B C D E = term-lay
     (append-assoc (ascii "(") (ascii (binName (binOf w)) ++ ascii " ") _ ∙ ap (λ (x : List ℕ). ascii "(" ++ x) (append-assoc (ascii (binName (binOf w))) (ascii " ") _))
     (lays-two A (lays-two (B .is f (omega (arith, H .inside .0, H .inside .1))) (lays-two C (lays-two (D .is f (omega (arith, H .inside .0, H .inside .1))) E)))))
 
--- of document 02's operators there is one
-opened : (w : Fun) (x : List ℕ) → ascii "(if" ++ x ≡ ascii "(" ++ (funName (funOf w) ++ x)
-unfolding ascii funName
-opened Choice x = refl
+-- the operators of document 02: by name, whatever the calendar holds
+same-name : (K : ℕ → Calendar) (w : Fun) → funName (funOf w) ≡ funName (lentOf K w)
+unfolding funName
+same-name K Choice = refl
+same-name K (Open n) = refl
 
-pub term-operator : {s : List ℕ} {i e lim p q r t : ℕ} {w : Fun} {o o₁ o₂ o₃ : List ℕ} → Looks s i (N.Operator w e) → Lays lim (ascii "(if") o p o₁ q → Text (left (i + 1) + 1) (λ f. showTerms (termsIn f s (i + 1) e)) lim o₁ q o₂ r → Lays lim (ascii ")") o₂ r o₃ t →
+pub name-choice : {lim p q : ℕ} {o o₁ : List ℕ} {w : Fun} → w ≡ Choice → Lays lim (ascii "(if") o p o₁ q → Lays lim (operatorText w) o p o₁ q
+unfolding ascii funName
+name-choice e A = rw e A
+
+pub name-open : {lim p q r n : ℕ} {o o₁ o₂ : List ℕ} {w : Fun} → w ≡ Open n → Lays lim (ascii "(open ") o p o₁ q → Text n (λ f. digits f n) lim o₁ q o₂ r → Lays lim (operatorText w) o p o₂ r
+unfolding ascii funName
+name-open e A B = rw e (lays-two A (decimal-text B))
+
+pub term-operator : {s : List ℕ} {i e lim p q r t : ℕ} {w : Fun} {o o₁ o₂ o₃ : List ℕ} → Looks s i (N.Operator w e) → Lays lim (operatorText w) o p o₁ q → Text (left (i + 1) + 1) (λ f. showTerms (termsIn f s (i + 1) e)) lim o₁ q o₂ r → Lays lim (ascii ")") o₂ r o₃ t →
     Text (left i) (λ f. showTerm (termIn f s i)) lim o p o₃ t
 unfolding showTerm
-term-operator {w = w} H A B C = term-lays H (λ f l. lays-as (opened w _) (lays-two A (lays-two (B .is f (omega (arith, H .inside .0, H .inside .1))) C)))
+term-operator {s} {w = w} H A B C = term-lays H (λ f l. lays-as (append-assoc (ascii "(") (funName (lentOf (calendarIn s) w)) _)
+    (lays-two (lays-as (ap (λ (x : List ℕ). ascii "(" ++ x) (same-name (calendarIn s) w)) A) (lays-two (B .is f (omega (arith, H .inside .0, H .inside .1))) C)))
 
 pub term-negation : {s : List ℕ} {i lim p q r t : ℕ} {o o₁ o₂ o₃ : List ℕ} → Looks s i N.Negation → Lays lim (ascii "(not ") o p o₁ q → Text (left (i + 1)) (λ f. showTerm (termIn f s (i + 1))) lim o₁ q o₂ r → Lays lim (ascii ")") o₂ r o₃ t →
     Text (left i) (λ f. showTerm (termIn f s i)) lim o p o₃ t

@@ -23,7 +23,7 @@ use Rattle.plan_lines.specs.PlanCall.{PlanLinesPost}
 use Rattle.base_text.proofs.LaidText.{lays-as, first-same, first-length, second-length, second-text}
 
 laid : {d : Bytes} {a : Accepted} {s : List ℕ} → Prepared d a s → Laid (a .form) s
-laid P = record { fits = P .fits; few = P .few; held = P .held; blank = P .blank; long = omega (arith, P .long) }
+laid P = record { fits = P .fits; lent = P .lent; few = P .few; held = P .held; blank = P .blank; long = omega (arith, P .long) }
 
 -- 33 and the buffer as it was, or the lines in it
 module _ (a : Accepted) where

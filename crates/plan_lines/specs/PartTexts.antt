@@ -7,13 +7,14 @@ use Rattle.spec_calculus.specs.Lists.{pick}
 use Rattle.base_syntax.specs.declared.Monoid.{Monoid}
 use Rattle.base_syntax.specs.MonoidWord.{monoidOf}
 use Rattle.base_syntax.specs.declared.Op.{Op}
-use Rattle.base_syntax.specs.Numbers.{binOf}
+use Rattle.base_syntax.specs.declared.Fun.{Fun}
+use Rattle.base_syntax.specs.Numbers.{binOf, funOf}
 use Rattle.form_words.specs.NodeWord.{nodeAt}
 use Rattle.form_words.specs.FormTree.{left}
 use Rattle.spec_plan.specs.Plan.{PTerm, pfield, Source, join, outer, nest}
 use Rattle.spec_plan.specs.Plan as Pl
 use Rattle.spec_plan.specs.Planner.{conj}
-use Rattle.spec_plan.specs.Lines.{ascii, monoidName, binName, showTerm, showOp, showOps}
+use Rattle.spec_plan.specs.Lines.{ascii, monoidName, binName, funName, showTerm, showOp, showOps}
 use Rattle.plan_marks.specs.Marks.{markAt, slotBy}
 use Rattle.base_text.specs.LaidText.{Lays}
 use Rattle.plan_marks.specs.PlanIn.{headIn, condsIn, growsIn, opIn, orElse, monoidBy}
@@ -28,6 +29,9 @@ cellText c m = showTerm (pfield c (slotBy m))
 -- up to the first operand
 abbrev pub openText : Op → List ℕ
 openText o = ascii "(" ++ (ascii (binName (binOf o)) ++ ascii " ")
+
+abbrev pub operatorText : Fun → List ℕ
+operatorText f = ascii "(" ++ funName (funOf f)
 
 abbrev pub monoidText : Monoid → List ℕ
 monoidText m = ascii (monoidName (monoidOf m)) ++ ascii " "

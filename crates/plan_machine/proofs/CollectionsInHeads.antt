@@ -3,6 +3,7 @@
 use mathlib.Core.Path.{_≡_, refl, sym, subst}
 use mathlib.Core.Bool.{Bool, true, false}
 use Prim.Native.Nat.{ℕ, _+_}
+use Rattle.spec_calendar.specs.Hours.{Calendar}
 use Rattle.spec_calculus.specs.Syntax.{Monoid, of, sum, max, min, some, all, Bin, plus, minus, times, equal, less, and, or, Fun, Question}
 use Rattle.spec_calculus.specs.Syntax as Sy
 use Rattle.spec_calculus.specs.Value.{Tables, kindOf}
@@ -148,6 +149,7 @@ choice-plain (coll c τ) s = absurd s
 
 takes-plain : (f : Fun) (us : Tys) (τ : Ty) → Takes f us τ → Plain us
 takes-plain Sy.choice us τ h = subst Plain (sym (h .1)) (choice-plain τ (h .0))
+takes-plain (Sy.isOpen n c) us τ h = subst Plain (sym (h .1)) tt
 
 scalars : (us : Tys) (ds : Sems) → Plain us → GoodL us ds → (n : ℕ) → ScalarF (quotes ds n)
 unfolding quote
@@ -166,8 +168,13 @@ good-choice Ty.truth ds s h = good-truth (λ n. app Sy.choice (quotes ds n)) h
 good-choice (record′ ts) ds s h = absurd s
 good-choice (coll c τ) ds s h = absurd s
 
+good-open : (m : ℕ) (c : Calendar) (ds : Sems) → ((n : ℕ) → ScalarF (quotes ds n)) → Good Ty.truth (applied (Sy.isOpen m c) ds)
+unfolding quote
+good-open m c ds h = good-truth (λ n. app (Sy.isOpen m c) (quotes ds n)) h
+
 good-app : (f : Fun) (us : Tys) (τ : Ty) (ds : Sems) → Takes f us τ → GoodL us ds → Good τ (applied f ds)
 good-app Sy.choice us τ ds h g = good-choice τ ds (h .0) (scalars us ds (takes-plain Sy.choice us τ h) g)
+good-app (Sy.isOpen m c) us τ ds h g = subst (λ (x : Ty). Good x (applied (Sy.isOpen m c) ds)) (sym (h .0)) (good-open m c ds (scalars us ds (takes-plain (Sy.isOpen m c) us τ h) g))
 
 -- a comprehension, of which it is known what its clauses and its head come to
 module _ (q : Bool → ℕ → Clauses) (h : Bool → ℕ → Sem) where
