@@ -16,10 +16,12 @@ use Rattle.spec_encoding.specs.Record.{Bytes, Result, refused, got, require, le
 use Rattle.spec_encoding.specs.Data.{isKind, isTable, fits, tableNumber, tableBy, bounded, tablesFrom, noTables, readData}
 use Rattle.spec_encoding.proofs.Refusals.{Only, only-then, only-require}
 use Rattle.base_tables.proofs.DataRecords.{Whole, whole, whole-is, tables-one, tables-none}
+use Rattle.spec_hours.specs.CalendarBytes.{calendarsFit, readCalendars}
 use Rattle.spec_outcome.specs.Acceptance.{examine}
 use Rattle.spec_outcome.specs.Outcome.{Outcome, Answer, scratchWords, settled, withScratch, checked}
 use Rattle.spec_outcome.proofs.Agreement.{scratch-short, scratch-long}
 use Rattle.spec_outcome.proofs.Checks.{questionNumbers, examine-behind}
+use Rattle.spec_desk.specs.Desk.{alone}
 use Rattle.spec_desk.specs.TablesEnd.{tablesEnd}
 use Rattle.desk_text.proofs.TablesEnd.{end-more, end-none}
 
@@ -79,9 +81,9 @@ module _ (P : ℕ → Type 0) (p12 : P 12) (p13 : P 13) (p43 : P 43) (p50 : P 50
       (λ e. subst (λ (m : ℕ). Only P (tablesFrom (suc n) T (take m l))) (sym (end-none l e)) (subst (Only P) (sym (tables-none (suc n) T)) tt))
 
   -- the checks, over the input as the desk splits it
-  pub split-only : All P questionNumbers → (b : Bytes) → Only P (examine (take (tablesEnd b) b) (drop (tablesEnd b) b))
-  unfolding readData
-  split-only p b = examine-behind P p (take (tablesEnd b) b) (drop (tablesEnd b) b) (tables-split 8 noTables b)
+  pub split-only : All P questionNumbers → (b : Bytes) → Only P (examine (take (tablesEnd b) b) (alone (drop (tablesEnd b) b)))
+  unfolding readData readCalendars calendarsFit require
+  split-only p b = examine-behind P p (take (tablesEnd b) b) (alone (drop (tablesEnd b) b)) (tables-split 8 noTables b) tt
 
 -- ---- the checker's number
 settled-only : {A : Type 0} (P : ℕ → Type 0) → P 0 → (s : List ℕ) (b : List A) (r : Result (Answer A)) → Only P r → P (settled scratchWords s b r .number)
@@ -98,6 +100,6 @@ abbrev Other : ℕ → Type 0
 Other n = eqb n 11 ≡ false
 
 -- whatever the input and the scratch, it is not 11
-pub never-eleven : (b : Bytes) (s : List ℕ) → checked (take (tablesEnd b) b) (drop (tablesEnd b) b) s .number ≡ 11 → ⊥
+pub never-eleven : (b : Bytes) (s : List ℕ) → checked (take (tablesEnd b) b) (alone (drop (tablesEnd b) b)) s .number ≡ 11 → ⊥
 unfolding checked
-never-eleven b s = eqb-false _ 11 (number-only Other refl refl s [] _ (only-then Other (examine (take (tablesEnd b) b) (drop (tablesEnd b) b)) _ (split-only Other refl refl refl refl refl (refl, (refl, (refl, (refl, (refl, (refl, (refl, (refl, tt)))))))) b) (λ a. tt)))
+never-eleven b s = eqb-false _ 11 (number-only Other refl refl s [] _ (only-then Other (examine (take (tablesEnd b) b) (alone (drop (tablesEnd b) b))) _ (split-only Other refl refl refl refl refl (refl, (refl, (refl, (refl, (refl, (refl, (refl, (refl, (refl, tt))))))))) b) (λ a. tt)))

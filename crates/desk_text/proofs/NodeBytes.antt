@@ -12,7 +12,7 @@ abbrev mutual
   termBytes (row g) = 6
   termBytes (cell i g) = 15
   termBytes (rec ts) = 6 + termsBytes ts
-  termBytes (app f ts) = 6 + termsBytes ts
+  termBytes (app f ts) = 12 + termsBytes ts
   termBytes (bin o s t) = 6 + (termBytes s + termBytes t)
   termBytes (negate t) = 6 + termBytes t
   termBytes (comp m q h) = 6

@@ -306,7 +306,7 @@ mutual
   ops-most (row g) f n c S l = omega arith
   ops-most (cell i g) f n c S l = omega arith
   ops-most (rec ts) f n c S l = all-ops-most ts f n c S (omega arith)
-  ops-most (app o ts) f n c S l = all-ops-most ts f n c S (omega arith)
+  ops-most (app o ts) f n c S l = all-ops-most ts (f .1) n c S (omega arith)
   ops-most (bin o s t) f n c S l = omega (
     arith,
     shown-both (ops s n c) (ops t (next s n) c),

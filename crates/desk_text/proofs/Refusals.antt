@@ -1,5 +1,5 @@
 -- "Else it prints "refused" and the number": the numbers that the desk prints there. 11 is none of them, for its data are whole
--- records of kind 20; nor are 31 and 33. Assumes nothing.
+-- records of kind 20; nor are 31 and 33, nor 41, for it lends no calendar. Assumes nothing.
 use mathlib.Core.Path.{_≡_, refl, sym, ap, subst, _∙_}
 use mathlib.Core.Bool.{Bool, true, false, true≢false}
 use mathlib.Core.List.{List, [], _∷_, _++_}
@@ -19,7 +19,7 @@ use Rattle.spec_outcome.specs.WrittenForm.{words}
 use Rattle.spec_outcome.specs.Acceptance.{Accepted, examine}
 use Rattle.spec_outcome.specs.Outcome.{G, looped}
 use Rattle.spec_desk.specs.TablesEnd.{tablesEnd}
-use Rattle.spec_desk.specs.Desk.{answerLine, refusalLine, planAndAnswer, orRefusal, asked, desk}
+use Rattle.spec_desk.specs.Desk.{alone, answerLine, refusalLine, planAndAnswer, orRefusal, asked, desk}
 use Rattle.desk_text.proofs.NeverEleven.{split-only}
 
 -- ---- a line's number
@@ -62,7 +62,7 @@ plan-first (plan os m h c) l = refl
 -- ---- what is printed
 -- the numbers of whoever packs the data but 11, of whoever types the question, and of a G over 4,096
 abbrev pub deskNumbers : List ℕ
-deskNumbers = 12 ∷ 13 ∷ 43 ∷ 50 ∷ 51 ∷ 21 ∷ 22 ∷ 23 ∷ 24 ∷ 25 ∷ 26 ∷ 27 ∷ 28 ∷ 32 ∷ []
+deskNumbers = 12 ∷ 13 ∷ 43 ∷ 50 ∷ 51 ∷ 21 ∷ 22 ∷ 23 ∷ 24 ∷ 25 ∷ 42 ∷ 26 ∷ 27 ∷ 28 ∷ 32 ∷ []
 
 module _ (b : Bytes) (n : ℕ) where
   abbrev Told : ℕ → Type 0
@@ -82,8 +82,8 @@ module _ (b : Bytes) (n : ℕ) where
 
   asked-number : asked (take (tablesEnd b) b) (drop (tablesEnd b) b) ≡ refusalLine n → member n deskNumbers ≡ true
   unfolding asked member
-  asked-number = reply-number (examine (take (tablesEnd b) b) (drop (tablesEnd b) b)) (split-only Told (told 12 refl) (told 13 refl) (told 43 refl) (told 50 refl) (told 51 refl)
-      (told 21 refl, (told 22 refl, (told 23 refl, (told 24 refl, (told 25 refl, (told 26 refl, (told 27 refl, (told 28 refl, tt)))))))) b)
+  asked-number = reply-number (examine (take (tablesEnd b) b) (alone (drop (tablesEnd b) b))) (split-only Told (told 12 refl) (told 13 refl) (told 43 refl) (told 50 refl) (told 51 refl)
+      (told 21 refl, (told 22 refl, (told 23 refl, (told 24 refl, (told 25 refl, (told 42 refl, (told 26 refl, (told 27 refl, (told 28 refl, tt))))))))) b)
 
   -- A refusal that is printed is by one of these numbers.
   pub printed-number : desk b ≡ refusalLine n → member n deskNumbers ≡ true
@@ -94,7 +94,10 @@ module _ (b : Bytes) (n : ℕ) where
       go true = asked-number
       go false = no-refusal (ascii "too long\n") n (λ h. omega (arith, h))
 
--- Whatever is read, "refused 11", "refused 31" and "refused 33" are not what is printed.
-pub never-printed : (b : Bytes) → All (λ n. desk b ≡ refusalLine n → ⊥) (11 ∷ 31 ∷ 33 ∷ [])
+-- Whatever is read, "refused 11", "refused 31", "refused 33" and "refused 41" are not what is printed.
+pub never-printed : (b : Bytes) → All (λ n. desk b ≡ refusalLine n → ⊥) (11 ∷ 31 ∷ 33 ∷ 41 ∷ [])
 unfolding member
-never-printed b = (λ e. true≢false (sym (printed-number b 11 e)), (λ e. true≢false (sym (printed-number b 31 e)), (λ e. true≢false (sym (printed-number b 33 e)), tt)))
+never-printed b = (not-one 11 refl, (not-one 31 refl, (not-one 33 refl, (not-one 41 refl, tt))))
+  where
+    not-one : (n : ℕ) → member n deskNumbers ≡ false → desk b ≡ refusalLine n → ⊥
+    not-one n h e = true≢false (sym (printed-number b n e) ∙ h)

@@ -24,7 +24,7 @@ use Rattle.spec_outcome.specs.Gives.{Gives}
 use Rattle.base_text.specs.LaidText.{textLimit, Lays}
 use Rattle.base_text.proofs.LaidText.{lays-behind, lays-reach}
 use Rattle.base_text.proofs.Decimals.{decimal-most}
-use Rattle.spec_desk.specs.Desk.{answerLine, refusalLine, planAndAnswer, orRefusal, asked, desk, textBytes}
+use Rattle.spec_desk.specs.Desk.{alone, answerLine, refusalLine, planAndAnswer, orRefusal, asked, desk, textBytes}
 use Rattle.spec_desk.specs.TablesEnd.{tablesEnd}
 use Rattle.spec_desk.specs.TextInBuffer.{Prints, FrontLength}
 use Rattle.desk_text.proofs.LinesFit.{plan-room}
@@ -49,11 +49,11 @@ prints-behind x y t {lim} {m} {r} {t′} {t″} p q X e l b = record {
 abbrev Number : ℕ → Type 0
 Number n = (0 < n) × (n < 100)
 
-checks-count : (d l : Bytes) (n : ℕ) → examine d l ≡ refused n → Number n
-checks-count d l n e = subst (Only Number) e (examine-only Number all d l)
+checks-count : (d l : Bytes) (n : ℕ) → examine d (alone l) ≡ refused n → Number n
+checks-count d l n e = subst (Only Number) e (examine-only Number all d (alone l))
   where
     all : All Number numbers
-    all = ((omega arith, omega arith), ((omega arith, omega arith), ((omega arith, omega arith), ((omega arith, omega arith), ((omega arith, omega arith), ((omega arith, omega arith), ((omega arith, omega arith), ((omega arith, omega arith), ((omega arith, omega arith), ((omega arith, omega arith), ((omega arith, omega arith), ((omega arith, omega arith), ((omega arith, omega arith), ((omega arith, omega arith), tt))))))))))))))
+    all = ((omega arith, omega arith), ((omega arith, omega arith), ((omega arith, omega arith), ((omega arith, omega arith), ((omega arith, omega arith), ((omega arith, omega arith), ((omega arith, omega arith), ((omega arith, omega arith), ((omega arith, omega arith), ((omega arith, omega arith), ((omega arith, omega arith), ((omega arith, omega arith), ((omega arith, omega arith), ((omega arith, omega arith), ((omega arith, omega arith), ((omega arith, omega arith), tt))))))))))))))))
 
 -- ---- what the answering call says
 pub record Refuses (d l : Bytes) (k : ℕ) : Type 0 where
@@ -62,7 +62,7 @@ pub record Refuses (d l : Bytes) (k : ℕ) : Type 0 where
 
 pub record Answers (d l : Bytes) (n : ℕ) (b : List ℤ) : Type 0 where
   pub accepted : Accepted
-  pub is : examine d l ≡ got accepted
+  pub is : examine d (alone l) ≡ got accepted
   pub fits : leb (G accepted) 4096 ≡ true
   pub size : n ≡ length (words (looped accepted))
   pub front : take n b ≡ words (looped accepted)
@@ -72,23 +72,23 @@ pub record Answers (d l : Bytes) (n : ℕ) (b : List ℤ) : Type 0 where
 abbrev answerIn : Accepted → Answer ℤ
 answerIn a = record { size = length (words (looped a)); front = words (looped a) ++ replicate (G a - length (words (looped a))) (pos 0) }
 
-module _ (d l : Bytes) (s : List ℕ) (b : List ℤ) {s′ : List ℕ} {b′ : List ℤ} {k n : ℕ} (room : scratchWords ≤ length s) (long : length b ≡ 4096) (X : Gives (byLoops d l s b) k n b′ s′) where
-  outcome : Gives (settled scratchWords s b (andThen (examine d l) (written looped b))) k n b′ s′
+module _ (d l : Bytes) (s : List ℕ) (b : List ℤ) {s′ : List ℕ} {b′ : List ℤ} {k n : ℕ} (room : scratchWords ≤ length s) (long : length b ≡ 4096) (X : Gives (byLoops d (alone l) s b) k n b′ s′) where
+  outcome : Gives (settled scratchWords s b (andThen (examine d (alone l)) (written looped b))) k n b′ s′
   unfolding byLoops answered
-  outcome = subst (λ (o : Outcome ℤ). Gives o k n b′ s′) (scratch-long s b (andThen (examine d l) (written looped b)) room) X
+  outcome = subst (λ (o : Outcome ℤ). Gives o k n b′ s′) (scratch-long s b (andThen (examine d (alone l)) (written looped b)) room) X
 
   -- by what the checks say, and by whether the answer fits
   by-checks : (Q : Type 0) →
       ((m : ℕ) → k ≡ m → Number m → asked d l ≡ refusalLine m → Q) →
-      ((a : Accepted) → examine d l ≡ got a → leb (G a) 4096 ≡ true → Gives (settled scratchWords s b (got (answerIn a))) k n b′ s′ → Q) → Q
+      ((a : Accepted) → examine d (alone l) ≡ got a → leb (G a) 4096 ≡ true → Gives (settled scratchWords s b (got (answerIn a))) k n b′ s′ → Q) → Q
   unfolding asked andThen written require settled orRefusal planAndAnswer
-  by-checks Q refusal answer = go (examine d l) refl outcome
+  by-checks Q refusal answer = go (examine d (alone l)) refl outcome
     where
-      fits : (a : Accepted) → examine d l ≡ got a → (t : Bool) → leb (G a) 4096 ≡ t → Gives (settled scratchWords s b (require 32 t (got (answerIn a)))) k n b′ s′ → Q
+      fits : (a : Accepted) → examine d (alone l) ≡ got a → (t : Bool) → leb (G a) 4096 ≡ t → Gives (settled scratchWords s b (require 32 t (got (answerIn a)))) k n b′ s′ → Q
       fits a e true q Y = answer a e q Y
       fits a e false q Y = refusal 32 (Y .number) (omega arith, omega arith) (ap (λ (x : Result Accepted). orRefusal (andThen x planAndAnswer)) e ∙ ap (λ (t : Bool). orRefusal (require 32 t (got (lines (planOf (a .form)) ++ answerLine (words (looped a)))))) q)
 
-      go : (x : Result Accepted) → examine d l ≡ x → Gives (settled scratchWords s b (andThen x (written looped b))) k n b′ s′ → Q
+      go : (x : Result Accepted) → examine d (alone l) ≡ x → Gives (settled scratchWords s b (andThen x (written looped b))) k n b′ s′ → Q
       go (refused m) e Y = refusal m (Y .number) (checks-count d l m e) (ap (λ (x : Result Accepted). orRefusal (andThen x planAndAnswer)) e)
       go (got a) e Y = fits a e (leb (G a) 4096) refl (subst (λ (w : ℕ). Gives (settled scratchWords s b (require 32 (leb (G a) w) (got (answerIn a)))) k n b′ s′) long Y)
 
@@ -129,18 +129,18 @@ module _ {d l : Bytes} {n : ℕ} {b : List ℤ} (A : Answers d l n b) where
       ∙ ap (λ (t : Bool). orRefusal (require 32 t (got (plan ++ answerLine (words (looped (A .accepted))))))) (A .fits)
       ∙ ap (λ (ws : List ℤ). plan ++ answerLine ws) (sym (A .front))
 
-  module _ (s : List ℕ) (t : Bytes) {s′ : List ℕ} {t′ : Bytes} {k m : ℕ} (room : scratchWords ≤ length s) (h : textBytes ≤ length t) (Y : Gives (planLines d l s t) k m t′ s′) where
+  module _ (s : List ℕ) (t : Bytes) {s′ : List ℕ} {t′ : Bytes} {k m : ℕ} (room : scratchWords ≤ length s) (h : textBytes ≤ length t) (Y : Gives (planLines d (alone l) s t) k m t′ s′) where
     plan-given : Gives (settled scratchWords s t (got (record { size = length plan; front = plan }))) k m t′ s′
     unfolding planLines andThen printed require
     plan-given =
-        subst (λ (x : Bool). Gives (settled scratchWords s t (require 33 x (got (record { size = length plan; front = plan })))) k m t′ s′) (le-leb (length plan) (length t) (omega (arith, plan-room d l (A .accepted) (A .is), h)))
+        subst (λ (x : Bool). Gives (settled scratchWords s t (require 33 x (got (record { size = length plan; front = plan })))) k m t′ s′) (le-leb (length plan) (length t) (omega (arith, plan-room d (alone l) (A .accepted) (A .is), h)))
         (subst (λ (x : Result Accepted). Gives (settled scratchWords s t (andThen x (printed t))) k m t′ s′) (A .is)
-        (subst (λ (o : Outcome ℕ). Gives o k m t′ s′) (scratch-long s t (andThen (examine d l) (printed t)) room) Y))
+        (subst (λ (o : Outcome ℕ). Gives o k m t′ s′) (scratch-long s t (andThen (examine d (alone l)) (printed t)) room) Y))
 
     pub prints-answer : {lim r : ℕ} {t″ : Bytes} → Lays lim (answerLine (take n b)) t′ m t″ r → length (answerLine (take n b)) ≤ 7 + 21 * length (take n b) → length b ≡ 4096 → lim ≡ length t → length t < textLimit → Prints (asked d l) t t″ r
     unfolding settled
     prints-answer {lim} {r} {t″} X most long e g = subst (λ (x : Bytes). Prints x t t″ r) (sym asked-is)
-        (prints-behind plan (answerLine (take n b)) t (plan-given .buffer) (plan-given .size) X e (omega (arith, most, h, plan-room d l (A .accepted) (A .is), ap length (A .front), A .size, A .within, long)) g)
+        (prints-behind plan (answerLine (take n b)) t (plan-given .buffer) (plan-given .size) X e (omega (arith, most, h, plan-room d (alone l) (A .accepted) (A .is), ap length (A .front), A .size, A .within, long)) g)
 
 -- ---- the whole: "over 65,536 bytes it prints "too long""
 pub prints-counts : {x t t′ : Bytes} {r : ℕ} → Prints x t t′ r → FrontLength r t′

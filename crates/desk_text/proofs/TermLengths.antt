@@ -9,9 +9,10 @@ use lib.ListN.{length, length-append}
 use lib.IntN.{ℤ}
 use lib.Signed.{mag}
 use Rattle.spec_calculus.specs.Lists.{upd}
-use Rattle.spec_calculus.specs.Syntax.{Bin, plus, minus, times, equal, less, and, or, Fun, choice}
+use Rattle.spec_calculus.specs.Syntax.{Bin, plus, minus, times, equal, less, and, or, Fun, choice, isOpen}
 use Rattle.spec_normal_form.specs.Form.{Form, Forms, num, truth, row, cell, rec, bin, negate, app, comp, fnil, fcons}
 use Rattle.spec_normal_form.specs.Size.{nodes, nodesF}
+use Rattle.base_syntax.specs.Numbers.{FitsOp}
 use Rattle.form_words.specs.FormWords.{Fits, FitsF}
 use Rattle.spec_plan.specs.Plan.{PTerm, PTerms, pnum, ptruth, place, pfield, prec, pbin, pnegate, papp, pnil, pcons}
 use Rattle.spec_plan.specs.Planner.{Slots, next, nexts, term, terms, Gen, from, fromUnit, slot, slots, after, noSlots}
@@ -115,9 +116,15 @@ rec-shown : (ts : PTerms) → shown (prec ts) ≡ 5 + length (showTerms ts)
 unfolding showTerm ascii
 rec-shown ts = omega (arith, length-append (showTerms ts) (ascii ")"))
 
-app-shown : (f : Fun) (ts : PTerms) → shown (papp f ts) ≡ 4 + length (showTerms ts)
+app-most : (f : Fun) (ts : PTerms) → FitsOp f → shown (papp f ts) ≤ 11 + length (showTerms ts)
 unfolding showTerm funName ascii
-app-shown choice ts = omega (arith, length-append (showTerms ts) (ascii ")"))
+app-most choice ts h = omega (arith, length-append (showTerms ts) (ascii ")"))
+app-most (isOpen n c) ts h = omega (
+  arith,
+  few-digits n (omega (arith, h)),
+  length-append (decimal n) (showTerms ts ++ ascii ")"),
+  length-append (showTerms ts) (ascii ")"),
+)
 
 not-shown : (t : PTerm) → shown (pnegate t) ≡ 6 + shown t
 unfolding showTerm ascii
@@ -142,7 +149,7 @@ module _ (c : Slots) (S : Short c) where
     term-most (row g) f k l = omega (arith, S g)
     term-most (cell i g) f k l = omega (arith, S g, field-most i (c g) (omega (arith, f .0)))
     term-most (rec ts) f k l = omega (arith, rec-shown (terms ts c k), terms-most ts f k (omega arith))
-    term-most (app o ts) f k l = omega (arith, app-shown o (terms ts c k), terms-most ts f k (omega arith))
+    term-most (app o ts) f k l = omega (arith, app-most o (terms ts c k) (f .0), terms-most ts (f .1) k (omega arith))
     term-most (bin o s t) f k l = omega (arith, bin-most o (term s c k) (term t c (next s k)), term-most s (f .0) k (omega arith), term-most t (f .1) (next s k) (omega (arith, next-most s k)))
     term-most (negate t) f k l = omega (arith, not-shown (term t c k), term-most t f k (omega arith))
     term-most (comp m q h) f k l = omega (arith, place-most k (omega arith))

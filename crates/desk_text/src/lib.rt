@@ -8,7 +8,7 @@ ghost use Rattle.base_scratch.specs.Map.{scratchSize};
 ghost use Rattle.base_text.specs.LaidText.{Lays};
 ghost use Rattle.spec_desk.specs.LentBuffers.{wordsLeft, scratchLeft};
 ghost use Rattle.spec_desk.specs.TablesEnd.{tablesEnd};
-ghost use Rattle.spec_desk.specs.Desk.{textBytes, spaced, answerLine, refusalLine, asked, desk};
+ghost use Rattle.spec_desk.specs.Desk.{textBytes, alone, spaced, answerLine, refusalLine, asked, desk};
 ghost use Rattle.spec_desk.specs.TextInBuffer.{Prints, FrontLength};
 use base_tables::TableHeader;
 use base_tables::read_header;
@@ -74,9 +74,9 @@ fn refusal_line(text: &mut [u8], limit: usize, number: u64) -> usize
 
 // The one place that says by which way the desk answers.
 fn answer(tables: &[u8], question: &[u8], scratch: &mut [u64], words: &mut [i64]) -> Reply
-    ensures { λ r. ⌜ Gives (byLoops (now (tables .entry)) (now (question .entry)) (now (scratch .entry)) (now (words .entry))) (r .number) (r .length) (now (words .exit)) (now (scratch .exit)) ⌝ }
+    ensures { λ r. ⌜ Gives (byLoops (now (tables .entry)) (alone (now (question .entry))) (now (scratch .entry)) (now (words .entry))) (r .number) (r .length) (now (words .exit)) (now (scratch .exit)) ⌝ }
 {
-    dislogha_answer_by_loops(tables, question, scratch, words)
+    dislogha_answer_by_loops(tables, b"", question, scratch, words)
 }
 
 // "refused" and the number, or the plan and answer. Answers the text's length. The words are left as by answering, the scratch
@@ -90,7 +90,7 @@ fn reply(
 ) -> usize
     requires { ⌜ (scratchSize ≤ length (now scratch)) × (length (now words) ≡ 4096) × (textBytes ≤ length (now text)) ⌝ }
     ensures { λ r. ⌜ Prints (asked (now (tables .entry)) (now (question .entry))) (now (text .entry)) (now (text .exit)) r ⌝ }
-    ensures { λ _. ⌜ now (words .exit) ≡ byLoops (now (tables .entry)) (now (question .entry)) (now (scratch .entry)) (now (words .entry)) .buffer ⌝ }
+    ensures { λ _. ⌜ now (words .exit) ≡ byLoops (now (tables .entry)) (alone (now (question .entry))) (now (scratch .entry)) (now (words .entry)) .buffer ⌝ }
     ensures { λ _. ⌜ now (scratch .exit) ≡ cleared scratchWords (now (scratch .entry)) ⌝ }
 {
     let limit = text.len();
@@ -98,7 +98,7 @@ fn reply(
     if given.number != 0 {
         return refusal_line(text, limit, given.number);
     }
-    let plan = dislogha_plan_lines(tables, question, scratch, text);
+    let plan = dislogha_plan_lines(tables, b"", question, scratch, text);
     let n = given.length as usize;
     answer_line(text, limit, plan.length as usize, &words[..n])
 }

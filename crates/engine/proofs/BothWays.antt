@@ -19,7 +19,7 @@ use Rattle.spec_plan.specs.Planner.{planOf}
 use Rattle.spec_plan.specs.Operators.{planValue}
 use Rattle.spec_plan.specs.Lines.{lines}
 use Rattle.spec_plan.proofs.NoQuestion.{questions, reading, planTerms, no-question}
-use Rattle.spec_outcome.specs.Acceptance.{Accepted, examine}
+use Rattle.spec_outcome.specs.Acceptance.{Lent, Accepted, examine}
 use Rattle.spec_outcome.specs.Outcome.{Answer, scratchWords, G, written, answered, checked, byLoops, byPlan, printed, planLines}
 use Rattle.spec_outcome.proofs.Checks.{passed, got-is, handed, examined}
 use Rattle.spec_outcome.proofs.Agreement.{same-value, wordsOf, outcomes-agree}
@@ -36,7 +36,7 @@ pub record SameReply (g : ℕ) (r r′ : Reply) (b c b′ c′ : List ℤ) : Typ
   pub answers : r .number ≡ 0 → (take g c ≡ take g c′) × (g ≤ length b)
   pub refusals : (r .number ≡ 0 → ⊥) → (c ≡ b) × (c′ ≡ b′)
 
-module _ (d l : Bytes) (s : List ℕ) (b : List ℤ) where
+module _ (d : Bytes) (l : Lent) (s : List ℕ) (b : List ℤ) where
   plan-refusal : (byPlan d l s b .number ≡ 0 → ⊥) → byPlan d l s b .buffer ≡ b
   unfolding byPlan answered
   plan-refusal h = refusal scratchWords s b _ h
@@ -56,7 +56,7 @@ module _ (d l : Bytes) (s : List ℕ) (b : List ℤ) where
 
 -- Answering by plan and answering by loops give the same number, 0 or a refusal's, the same length and the same answer words: "the
 -- first G of the answer buffer".
-pub both-ways : (d l : Bytes) (s s′ : List ℕ) (b b′ : List ℤ) {r r′ : Reply} {c c′ : List ℤ} {u u′ : List ℕ} → length s ≡ length s′ → length b ≡ length b′
+pub both-ways : (d : Bytes) (l : Lent) (s s′ : List ℕ) (b b′ : List ℤ) {r r′ : Reply} {c c′ : List ℤ} {u u′ : List ℕ} → length s ≡ length s′ → length b ≡ length b′
     → Gives (byPlan d l s b) (r .number) (r .length) c u → Gives (byLoops d l s′ b′) (r′ .number) (r′ .length) c′ u′
     → SameReply (wordsOf (examine d l)) r r′ b c b′ c′
 both-ways d l s s′ b b′ e f P L =
@@ -76,17 +76,17 @@ both-ways d l s s′ b b′ e f P L =
 -- The question's plan: with a constant for each place, no condition or head in it has a comprehension, a name or a table; and its
 -- value under the operators' definitions is the value of the question as typed. Conditions and heads are read as terms of the
 -- calculus for this, and the reading keeps their value (`reading-ok` in `spec_plan/proofs/NoQuestion`).
-pub record Planned (d l : Bytes) : Type 0 where
+pub record Planned (d : Bytes) (l : Lent) : Type 0 where
   pub accepted : Accepted
   pub is : examine d l ≡ got accepted
   pub form : (σ : ℕ → Term) → ((n : ℕ) → questions (σ n) ≡ 0) → All (λ t. questions (reading σ t) ≡ 0) (planTerms (planOf (accepted .form)))
   pub value : planValue canonical (accepted .tables) (planOf (accepted .form)) ≡ meaning canonical (accepted .tables) (accepted .question)
 
-plans : (d l : Bytes) (a : Accepted) → examine d l ≡ got a → Planned d l
+plans : (d : Bytes) (l : Lent) (a : Accepted) → examine d l ≡ got a → Planned d l
 plans d l a e = record { accepted = a; is = e; form = λ σ h. no-question σ h (a .form); value = same-value a (examined d l a e) }
 
 -- "A question is accepted over tables where the checker, with scratch enough, answers 0": it has such a plan.
-pub accepted-planned : (d l : Bytes) (s : List ℕ) (r : Reply) {u : List ℕ} → Gives (checked d l s) (r .number) (r .length) [] u → r .number ≡ 0 → Planned d l
+pub accepted-planned : (d : Bytes) (l : Lent) (s : List ℕ) (r : Reply) {u : List ℕ} → Gives (checked d l s) (r .number) (r .length) [] u → r .number ≡ 0 → Planned d l
 unfolding checked
 accepted-planned d l s r C e =
     let k : Accepted → Result (Answer ℕ) = λ a. got (record { size = 0; front = [] }) in
@@ -103,7 +103,7 @@ printed-front b a y e =
     (ap (λ (z : Answer ℕ). z .size) (sym q), ap (λ (z : Answer ℕ). z .front) (sym q))
 
 -- "This is the question's plan, and the only one the engine makes or prints for it."
-pub printed-planned : (d l : Bytes) (s b : List ℕ) (r : Reply) {c u : List ℕ} (P : Planned d l) → Gives (planLines d l s b) (r .number) (r .length) c u → r .number ≡ 0 → take (r .length) c ≡ lines (planOf (P .accepted .form))
+pub printed-planned : (d : Bytes) (l : Lent) (s b : List ℕ) (r : Reply) {c u : List ℕ} (P : Planned d l) → Gives (planLines d l s b) (r .number) (r .length) c u → r .number ≡ 0 → take (r .length) c ≡ lines (planOf (P .accepted .form))
 unfolding planLines
 printed-planned d l s b r P C e =
     let x : Result (Answer ℕ) = andThen (examine d l) (printed b) in

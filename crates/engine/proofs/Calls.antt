@@ -8,7 +8,7 @@ use lib.Seq.{getD-drop, ext-getD}
 use lib.IntN.{ℤ}
 use Rattle.spec_calculus.specs.Value.{Value}
 use Rattle.spec_encoding.specs.Record.{Bytes, Result, got, andThen}
-use Rattle.spec_outcome.specs.Acceptance.{Accepted, examine}
+use Rattle.spec_outcome.specs.Acceptance.{Lent, Accepted, examine}
 use Rattle.spec_outcome.specs.Outcome.{Outcome, Answer, scratchWords, cleared, withScratch, written, answered, checked, printed, planLines}
 use Rattle.spec_outcome.proofs.Agreement.{scratch-short, scratch-long}
 use Rattle.spec_outcome.specs.Gives.{Gives, Settles, Spares}
@@ -62,7 +62,7 @@ abbrev nothing : Accepted → Result (Answer ℕ)
 nothing a = got (record { size = 0; front = [] })
 
 -- ---- how a call begins
-module _ {d l : Bytes} {s t : List ℕ} {x : Admitted} (B : AdmitPost d l s t x) where
+module _ {d : Bytes} {l : Lent} {s t : List ℕ} {x : Admitted} (B : AdmitPost d l s t x) where
   scant : x ≡ Admitted.Scant → (length s < scratchWords) × (t ≡ s)
   scant e = subst (AdmittedBy d l s t) e (B .is)
 
@@ -80,7 +80,7 @@ module _ {d l : Bytes} {s t : List ℕ} {x : Admitted} (B : AdmitPost d l s t x)
 
   -- the question stands in scratch for the part that answers
   pub asked : x ≡ Admitted.Accepted → Asked d t
-  asked e = let Y : Accepts d l t = accepts e .1 .is in record { question = l; accepted = Y .accepted; read = Y .read; prepared = Y .prepared }
+  asked e = let Y : Accepts d l t = accepts e .1 .is in record { asked = l; accepted = Y .accepted; read = Y .read; prepared = Y .prepared }
 
   -- The checks, then a part over what they hand on.
   module _ {A : Type 0} (part : Accepted → Result (Answer A)) (b : List A) where

@@ -7,6 +7,7 @@ use lib.ListN.{length, take, drop}
 use lib.IntN.{ℤ}
 use Rattle.spec_encoding.specs.Record.{Bytes}
 use Rattle.spec_encoding.specs.Data.{Octets, toColumns, toRows}
+use Rattle.spec_outcome.specs.Acceptance.{Lent}
 use Rattle.spec_outcome.specs.Outcome.{scratchWords, checked, planLines}
 use Rattle.spec_outcome.specs.RowOrder.{Way, by}
 use Rattle.spec_outcome.specs.Gives.{Gives}
@@ -21,7 +22,7 @@ use Rattle.engine.proofs.SameRun.{Twice, atOne, atOther, Begun, SameRun
 use Rattle.engine.proofs.SameTables.{same-answered, same-checked, same-lines, SameWhole, same-begun, same-run, same-portions}
 
 -- ---- data in which tables are turned into the other kind
-module _ {d e : Bytes} (E : Turned d e) (l : Bytes) where
+module _ {d e : Bytes} (E : Turned d e) (l : Lent) where
   -- One call, lent the same but for the kinds of tables: all that it returns and leaves is the same; where the data are refused, too.
   pub turned-same : (w : Way) (s : List ℕ) (b : List ℤ) {r r′ : Reply} {c c′ : List ℤ} {u u′ : List ℕ}
       → Gives (by w d l s b) (r .number) (r .length) c u → Gives (by w e l s b) (r′ .number) (r′ .length) c′ u′ → SameCall r r′ c c′ u u′

@@ -9,7 +9,7 @@ use lib.Dec.{ltb}
 use lib.ListN.{length, drop}
 use Rattle.spec_encoding.specs.Record.{Bytes, Result, refused, got}
 use Rattle.spec_encoding.proofs.Refusals.{Only}
-use Rattle.spec_outcome.specs.Acceptance.{Accepted, examine}
+use Rattle.spec_outcome.specs.Acceptance.{Lent, Accepted, examine}
 use Rattle.spec_outcome.specs.Outcome.{Outcome, Answer, settled, withScratch}
 use Rattle.spec_outcome.proofs.Checks.{examine-only}
 
@@ -53,10 +53,10 @@ module _ {A : Type 0} (least : ℕ) (s : List ℕ) (b : List A) where
       go false e = settled-answer x h e
 
 -- no check refuses by 0
-examine-above : (d l : Bytes) → Only (λ n. ltb 0 n ≡ true) (examine d l)
-examine-above d l = examine-only (λ n. ltb 0 n ≡ true) (refl, (refl, (refl, (refl, (refl, (refl, (refl, (refl, (refl, (refl, (refl, (refl, (refl, (refl, tt)))))))))))))) d l
+examine-above : (d : Bytes) (l : Lent) → Only (λ n. ltb 0 n ≡ true) (examine d l)
+examine-above d l = examine-only (λ n. ltb 0 n ≡ true) (refl, (refl, (refl, (refl, (refl, (refl, (refl, (refl, (refl, (refl, (refl, (refl, (refl, (refl, (refl, (refl, tt)))))))))))))))) d l
 
-pub checks-only : (d l : Bytes) → Only (λ n. n ≡ 0 → ⊥) (examine d l)
+pub checks-only : (d : Bytes) (l : Lent) → Only (λ n. n ≡ 0 → ⊥) (examine d l)
 checks-only d l = go (examine d l) (examine-above d l)
   where
     go : (x : Result Accepted) → Only (λ n. ltb 0 n ≡ true) x → Only (λ n. n ≡ 0 → ⊥) x

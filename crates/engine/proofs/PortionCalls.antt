@@ -11,13 +11,11 @@ use lib.IntN.{ℤ}
 use Rattle.spec_calculus.specs.Lists.{pick}
 use Rattle.base_signed.proofs.SignedWords.{no}
 use Rattle.spec_encoding.specs.Record.{Bytes, Result, refused, got, andThen}
-use Rattle.spec_encoding.specs.Reader.{readQuestion}
 use Rattle.spec_encoding.proofs.Refusals.{Only}
-use Rattle.spec_calculus.specs.Syntax.{Question}
-use Rattle.spec_calculus.specs.Value.{Tables}
-use Rattle.spec_outcome.specs.Acceptance.{Accepted, judge, examine}
+use Rattle.spec_outcome.specs.Acceptance.{Lent, Accepted, examine}
 use Rattle.spec_outcome.specs.Outcome.{scratchWords, cleared, checked, written, answered, planned}
 use Rattle.spec_outcome.proofs.Checks.{got-is}
+use Rattle.spec_outcome.proofs.CheckOrder.{judged-as}
 use Rattle.spec_outcome.specs.Gives.{Gives, Settles}
 use Rattle.front_end.specs.PrepareContract.{Accepts}
 use Rattle.exec_portions.specs.Run.{begun}
@@ -38,7 +36,7 @@ use Rattle.engine.proofs.Calls.{apart-spares, replied, accepts, refuses
 use Rattle.engine.proofs.Outcomes.{checks-only}
 
 -- ---- beginning
-module _ {d l : Bytes} {s t : List ℕ} {x : Admitted} (B : AdmitPost d l s t x) where
+module _ {d : Bytes} {l : Lent} {s t : List ℕ} {x : Admitted} (B : AdmitPost d l s t x) where
   begin-refusal : {u : List ℕ} (r : Reply) → Gives (checked d l s) (r .number) (r .length) [] u → (r .number ≡ 0 → ⊥) → BeginPost scratchWords d l s u r
   unfolding checked
   begin-refusal r C h = record { number = C .number; size = C .size; refused = λ n. C .scratch; begins = λ e. absurd (h e); spares = λ e. absurd (h e) }
@@ -62,8 +60,8 @@ module _ {d l : Bytes} {s t : List ℕ} {x : Admitted} (B : AdmitPost d l s t x)
     size = ez ∙ C .size;
     refused = λ h. absurd (h en);
     begins = λ z a g lent b.
-        subst (λ (a : Accepted). let q : Pending = record { bytes = l; accepted = a; lent = lent } in Unfinished d q u lent (begun (task d q))) (got-is (Y .accepted) a (sym (Y .is) ∙ g))
-        (P .is d (record { bytes = l; accepted = Y .accepted; lent = lent }) (Y .read) (Y .prepared) b);
+        subst (λ (a : Accepted). let q : Pending = record { asked = l; accepted = a; lent = lent } in Unfinished d q u lent (begun (task d q))) (got-is (Y .accepted) a (sym (Y .is) ∙ g))
+        (P .is d (record { asked = l; accepted = Y .accepted; lent = lent }) (Y .read) (Y .prepared) b);
     spares = λ z. spares-then (apart-spares (accepts B e .1 .away)) (P .spares d (Y .accepted) (Y .prepared));
   }
     where
@@ -137,12 +135,8 @@ portion-refused {r = r} e h S = record {
 
 -- ---- a portion
 -- the checks accepted the question
-asks-examined : {d : Bytes} {q : Pending} {first : ℕ} → Asks d q first → examine d (q .bytes) ≡ got (q .accepted)
-unfolding examine andThen
-asks-examined {d} {q} X =
-    ap (λ (x : Result Tables). andThen x (λ (T : Tables). andThen (readQuestion (q .bytes)) (λ (y : Question). judge T y))) (X .ready .tables)
-    ∙ ap (λ (x : Result Question). andThen x (λ (y : Question). judge (q .accepted .tables) y)) (X .read)
-    ∙ X .ready .judged
+asks-examined : {d : Bytes} {q : Pending} {first : ℕ} → Asks d q first → examine d (q .asked) ≡ got (q .accepted)
+asks-examined {d} {q} X = judged-as d (q .asked) (X .ready .tables) (X .read) ∙ X .ready .judged
 
 module _ {d : Bytes} (n : ℕ) (s : List ℕ) {s′ : List ℕ} {o o′ : List ℤ} {x : Progress} (A : AdvancePost d n s o s′ o′ x) (some : n ≡ 0 → ⊥) (few : n ≤ 65535) (room : scratchWords ≤ length s) where
   by : {y : Progress} → x ≡ y → AdvancedBy d n s o s′ o′ y

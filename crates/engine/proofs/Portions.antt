@@ -18,7 +18,7 @@ use Rattle.spec_encoding.specs.Data.{readData}
 use Rattle.spec_plan.specs.Planner.{planOf}
 use Rattle.plan_machine.specs.Machine.{State}
 use Rattle.plan_machine.specs.Offers.{planOffers}
-use Rattle.spec_outcome.specs.Acceptance.{Accepted, examine}
+use Rattle.spec_outcome.specs.Acceptance.{Lent, Accepted, examine}
 use Rattle.spec_outcome.specs.Outcome.{Outcome, Answer, scratchWords, cleared, settled, G, checkedWith, written, answered, planned, byPlan}
 use Rattle.spec_outcome.proofs.Agreement.{scratch-short, scratch-long}
 use Rattle.spec_outcome.proofs.Checks.{handed}
@@ -106,13 +106,13 @@ unfolding settled
 settled-same s t b (refused n) e = ap (λ (u : List ℕ). record { number = n; size = 0; buffer = b; scratch = u }) e
 settled-same s t b (got a) e = ap (λ (u : List ℕ). record { number = 0; size = a .size; buffer = a .front ++ drop (length (a .front)) b; scratch = u }) e
 
-same-outcome : (d l : Bytes) {s t : List ℕ} (b : List ℤ) → scratchWords ≤ length s → Spares scratchWords s t → byPlan d l t b ≡ byPlan d l s b
+same-outcome : (d : Bytes) (l : Lent) {s t : List ℕ} (b : List ℤ) → scratchWords ≤ length s → Spares scratchWords s t → byPlan d l t b ≡ byPlan d l s b
 unfolding byPlan answered
 same-outcome d l {s} {t} b r S =
     let x : Result (Answer ℤ) = andThen (examine d l) (written planned b) in
     scratch-long {least = scratchWords} t b x (omega (arith, r, S .long)) ∙ settled-same s t b x (cleared-same S) ∙ sym (scratch-long s b x r)
 
-pub outcome-scratch : {least : ℕ} (d l : Bytes) (s : List ℕ) (b : List ℤ) → least ≤ length s → answered least planned d l s b .scratch ≡ cleared least s
+pub outcome-scratch : {least : ℕ} (d : Bytes) (l : Lent) (s : List ℕ) (b : List ℤ) → least ≤ length s → answered least planned d l s b .scratch ≡ cleared least s
 unfolding answered settled
 outcome-scratch {least} d l s b r = ap (λ (y : Outcome ℤ). y .scratch) (scratch-long s b (andThen (examine d l) (written planned b)) r) ∙ go (andThen (examine d l) (written planned b))
   where
@@ -181,14 +181,14 @@ module _ (d : Bytes) (q : Pending) where
   Next n R = portion (task d q) n R
 
   abbrev Result′ : List ℕ → Outcome ℤ
-  Result′ s = byPlan d (q .bytes) s (q .lent)
+  Result′ s = byPlan d (q .asked) s (q .lent)
 
   module _ (c : Call) (cs : List Call) {s t s′ : List ℕ} {o p o′ : List ℤ} {R : Run} (U : Unfinished d q s o R) where
     -- the last
     ends-here : outside (c .rows) ≡ false → Due R ≤ c .rows → Ended scratchWords d q R s t p (c .said) → Portions scratchWords d cs t p s′ o′ → Whole (Due R) (c ∷ cs) (Result′ s) s′ o′
     unfolding given byPlan
     ends-here sized h E P =
-        let z : t ≡ cleared scratchWords s = E .gives .scratch ∙ outcome-scratch d (q .bytes) s (q .lent) (long-unfinished U) in
+        let z : t ≡ cleared scratchWords s = E .gives .scratch ∙ outcome-scratch d (q .asked) s (q .lent) (long-unfinished U) in
         let N = none-left scratchWords d cs t p s′ o′ (subst (λ (y : List ℕ). scratchWords ≤ length y) (sym z) (cleared-long scratchWords s)) (ap (λ (y : List ℕ). idle (getD y stageAt 0)) z ∙ cleared-stage scratchWords s (omega arith)) P in
         record {
           before = [];
@@ -209,7 +209,7 @@ module _ (d : Bytes) (q : Pending) where
     ends-later : outside (c .rows) ≡ false → c .rows < Due R → Unended scratchWords d (c .rows) q R s t p (c .said) → Whole (Due R - c .rows) cs (Result′ t) s′ o′ → Whole (Due R) (c ∷ cs) (Result′ s) s′ o′
     unfolding pick
     ends-later sized h Y W =
-        let e : Result′ t ≡ Result′ s = same-outcome d (q .bytes) (q .lent) (long-unfinished U) (Y .spares) in
+        let e : Result′ t ≡ Result′ s = same-outcome d (q .asked) (q .lent) (long-unfinished U) (Y .spares) in
         let g : given (c ∷ W .before) ≡ c .rows + given (W .before) = given-some c (W .before) sized in
         record {
           before = c ∷ W .before;
@@ -279,13 +279,13 @@ module _ (d : Bytes) (q : Pending) where
 
 -- ---- from its beginning on
 -- all rows that it is offered
-all-due : (d l : Bytes) (a : Accepted) (lent : List ℤ) → readData d ≡ got (a .tables) → let q : Pending = record { bytes = l; accepted = a; lent = lent } in rowsDue (task d q) (begun (task d q)) ≡ rowsInAll a lent
+all-due : (d : Bytes) (l : Lent) (a : Accepted) (lent : List ℤ) → readData d ≡ got (a .tables) → let q : Pending = record { asked = l; accepted = a; lent = lent } in rowsDue (task d q) (begun (task d q)) ≡ rowsInAll a lent
 unfolding rowsInAll
 all-due d l a lent e =
     rows-in-all (tablesIn d) (a .form) (leb (G a) (length lent))
     ∙ ap (λ (T : Tables). planOffers raw T (planOf (a .form)) + pick (leb (G a) (length lent)) (planOffers raw T (planOf (a .form))) 0) (tables-in d e)
 
-module _ (least : ℕ) (d l : Bytes) (s : List ℕ) (e : checkedWith least d l s .number ≡ 0) where
+module _ (least : ℕ) (d : Bytes) (l : Lent) (s : List ℕ) (e : checkedWith least d l s .number ≡ 0) where
   -- the checks accept a question that was begun
   pub accepted-begun : (a : Accepted) × (examine d l ≡ got a)
   accepted-begun =
@@ -302,17 +302,17 @@ module _ (least : ℕ) (d l : Bytes) (s : List ℕ) (e : checkedWith least d l s
 
 -- Any portions of a question that was begun, enough for all its rows: "each ends with the words and refusal of a single call", after
 -- exactly the rows of one pass where 32 follows, and of two where it does not.
-pub record InPortions (d l : Bytes) (s₀ : List ℕ) (lent : List ℤ) (cs : List Call) (s′ : List ℕ) (o′ : List ℤ) : Type 0 where
+pub record InPortions (d : Bytes) (l : Lent) (s₀ : List ℕ) (lent : List ℤ) (cs : List Call) (s′ : List ℕ) (o′ : List ℤ) : Type 0 where
   pub accepted : Accepted
   pub is : examine d l ≡ got accepted
   pub whole : rowsInAll accepted lent ≤ given cs → Whole (rowsInAll accepted lent) cs (byPlan d l s₀ lent) s′ o′
 
-pub in-portions : (d l : Bytes) {s₀ s : List ℕ} {b : Reply} → BeginPost scratchWords d l s₀ s b → b .number ≡ 0 → (lent : List ℤ) → length lent < numberLimit → (cs : List Call) → 0 < given cs → {s′ : List ℕ} {o′ : List ℤ} → Portions scratchWords d cs s lent s′ o′
+pub in-portions : (d : Bytes) (l : Lent) {s₀ s : List ℕ} {b : Reply} → BeginPost scratchWords d l s₀ s b → b .number ≡ 0 → (lent : List ℤ) → length lent < numberLimit → (cs : List Call) → 0 < given cs → {s′ : List ℕ} {o′ : List ℤ} → Portions scratchWords d cs s lent s′ o′
     → InPortions d l s₀ lent cs s′ o′
 in-portions d l {s₀} {s} {b} B z lent short cs some {s′} {o′} P =
     let n : checkedWith scratchWords d l s₀ .number ≡ 0 = sym (B .number) ∙ z in
     let A = accepted-begun scratchWords d l s₀ n in
-    let q : Pending = record { bytes = l; accepted = A .0; lent = lent } in
+    let q : Pending = record { asked = l; accepted = A .0; lent = lent } in
     let U : Unfinished d q s lent (begun (task d q)) = B .begins z (A .0) (A .1) lent short in
     let e : rowsDue (task d q) (begun (task d q)) ≡ rowsInAll (A .0) lent = all-due d l (A .0) lent (U .asks .ready .tables) in
     record {
@@ -379,6 +379,6 @@ alone d (another-at j ∷ cs) s o s′ o′ (t, (p, (F, (N, I)))) i (h, u) =
     subst (λ (y : List ℤ). Portions scratchWords d (portionsOf i cs) (s i) y (s′ i) (o′ i)) (n .1) (subst (λ (y : List ℕ). Portions scratchWords d (portionsOf i cs) y (p i) (s′ i) (o′ i)) (n .0) (alone d cs t p s′ o′ I i u))
 
 -- "However their portions interleave, each ends with the words and refusal of a single call alone."
-pub interleaved : (d l : Bytes) (i : ℕ) (cs : List Turn) {s₀ : List ℕ} {b : Reply} (s : ℕ → List ℕ) (o : ℕ → List ℤ) (s′ : ℕ → List ℕ) (o′ : ℕ → List ℤ) → BeginPost scratchWords d l s₀ (s i) b → b .number ≡ 0 → length (o i) < numberLimit
+pub interleaved : (d : Bytes) (l : Lent) (i : ℕ) (cs : List Turn) {s₀ : List ℕ} {b : Reply} (s : ℕ → List ℕ) (o : ℕ → List ℤ) (s′ : ℕ → List ℕ) (o′ : ℕ → List ℤ) → BeginPost scratchWords d l s₀ (s i) b → b .number ≡ 0 → length (o i) < numberLimit
     → Interleaved d cs s o s′ o′ → Undisturbed i cs → 0 < given (portionsOf i cs) → InPortions d l s₀ (o i) (portionsOf i cs) (s′ i) (o′ i)
 interleaved d l i cs s o s′ o′ B z short I u some = in-portions d l B z (o i) short (portionsOf i cs) some (alone d cs s o s′ o′ I i u)

@@ -6,8 +6,9 @@ use lib.ListN.{length}
 use lib.IntN.{ℤ}
 use Rattle.spec_calculus.specs.Value.{Tables}
 use Rattle.spec_calculus.specs.Rearrangement.{Rearranged}
-use Rattle.spec_encoding.specs.Record.{Bytes, got}
+use Rattle.spec_encoding.specs.Record.{got}
 use Rattle.spec_encoding.specs.Data.{readData}
+use Rattle.spec_outcome.specs.Acceptance.{Lent}
 use Rattle.spec_outcome.specs.Outcome.{scratchWords, checked, planLines}
 use Rattle.spec_outcome.specs.RowOrder.{Way, by}
 use Rattle.spec_outcome.specs.RecordOrder.{WholeRecord, dataOf}
@@ -21,7 +22,7 @@ use Rattle.engine.proofs.Portions.{Portions, given}
 use Rattle.engine.proofs.SameRun.{Twice, atOne, atOther, Begun, SameRun}
 use Rattle.engine.proofs.SameTables.{same-answered, same-checked, same-lines, SameWhole, same-begun, same-run, same-portions}
 
-module _ {rs us : List WholeRecord} (P : Rearranged rs us) {T : Tables} (t : readData (dataOf rs) ≡ got T) (l : Bytes) where
+module _ {rs us : List WholeRecord} (P : Rearranged rs us) {T : Tables} (t : readData (dataOf rs) ≡ got T) (l : Lent) where
   same-read : readData (dataOf rs) ≡ readData (dataOf us)
   same-read = t ∙ sym (read-any-order P t)
 

@@ -11,6 +11,7 @@ use lib.IntN.{ℤ}
 use Rattle.spec_calculus.specs.Lists.{pick}
 use Rattle.spec_calculus.proofs.Lists.{All}
 use Rattle.spec_encoding.specs.Record.{Bytes}
+use Rattle.spec_outcome.specs.Acceptance.{Lent}
 use Rattle.spec_outcome.specs.Outcome.{Outcome, scratchWords}
 use Rattle.base_signed.specs.Limit.{numberLimit}
 use Rattle.spec_outcome.specs.Rota.{rotaFits}
@@ -103,7 +104,7 @@ module _ (qs : List ℕ) (i : ℕ) (f : rotaFits qs ≡ true) (l : i < length qs
 
   -- A question that was begun at this seat, and rounds of which there are enough for its rows: it is told unfinished with its quota in
   -- each round before the last, and ends in the last of them as a single call does (`Whole`); `ends-within` has which round that is.
-  pub seat-ends : (d m : Bytes) {s₀ s : List ℕ} {b : Reply} → BeginPost scratchWords d m s₀ s b → b .number ≡ 0 → (lent : List ℤ) → length lent < numberLimit → (rs : List Portioned) → 1 ≤ length rs → (y : Seat)
+  pub seat-ends : (d : Bytes) (m : Lent) {s₀ s : List ℕ} {b : Reply} → BeginPost scratchWords d m s₀ s b → b .number ≡ 0 → (lent : List ℤ) → length lent < numberLimit → (rs : List Portioned) → 1 ≤ length rs → (y : Seat)
       → Visits d qs i rs (record { scratch = s; answer = lent }) y → InPortions d m s₀ lent (calls rs) (y .scratch) (y .answer)
   seat-ends d m {s₀} {s} B z lent short rs h y N =
       in-portions d m B z lent short (calls rs) (subst (λ k. 0 < k) (sym (given-quota (calls rs) (all-quota rs) ∙ ap (λ k. k * quota) (length-calls rs))) (positive (length rs) quota h (quota-within qs i f l .0)))

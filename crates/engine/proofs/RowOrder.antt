@@ -9,7 +9,7 @@ use lib.IntN.{ℤ}
 use Rattle.spec_calculus.specs.Rearrangement.{Alike}
 use Rattle.spec_encoding.specs.Record.{Bytes}
 use Rattle.spec_encoding.specs.Data.{readData}
-use Rattle.spec_outcome.specs.Acceptance.{examine}
+use Rattle.spec_outcome.specs.Acceptance.{Lent, examine}
 use Rattle.spec_outcome.specs.Outcome.{Outcome, checked, byLoops, byPlan, planLines}
 use Rattle.spec_outcome.specs.RowOrder.{Reordered, Rereads, Way, looping, planning, by}
 use Rattle.spec_outcome.proofs.Agreement.{same-outcome, wordsOf}
@@ -19,11 +19,11 @@ use Rattle.engine.specs.declared.Reply.{Reply}
 use Rattle.engine.proofs.BothWays.{SameReply, both-ways}
 
 -- either way of answering has the outcome of both
-as-plan : (w : Way) (d l : Bytes) (s : List ℕ) (b : List ℤ) → by w d l s b ≡ byPlan d l s b
+as-plan : (w : Way) (d : Bytes) (l : Lent) (s : List ℕ) (b : List ℤ) → by w d l s b ≡ byPlan d l s b
 as-plan looping d l s b = sym (same-outcome d l s b)
 as-plan planning d l s b = λ i. byPlan d l s b
 
-as-loops : (w : Way) (d l : Bytes) (s : List ℕ) (b : List ℤ) → by w d l s b ≡ byLoops d l s b
+as-loops : (w : Way) (d : Bytes) (l : Lent) (s : List ℕ) (b : List ℤ) → by w d l s b ≡ byLoops d l s b
 as-loops looping d l s b = λ i. byLoops d l s b
 as-loops planning d l s b = same-outcome d l s b
 
@@ -43,7 +43,7 @@ same-call e P Q = record {
 }
 
 -- Data that are refused alike, or whose bags and sets have their rows in another order.
-module _ (d d′ l : Bytes) (S : Rereads Reordered (readData d) (readData d′)) where
+module _ (d d′ : Bytes) (l : Lent) (S : Rereads Reordered (readData d) (readData d′)) where
   -- Any two of the answering calls, with answer buffers of one length: the same number, 0 or a refusal's, the same length and the same
   -- first G words; a refusal leaves both buffers as they were.
   pub row-order-unseen : (w w′ : Way) (s s′ : List ℕ) (b b′ : List ℤ) {r r′ : Reply} {c c′ : List ℤ} {u u′ : List ℕ} → length s ≡ length s′ → length b ≡ length b′
@@ -71,7 +71,7 @@ pub record SameBefore (r r′ : Reply) (c c′ : List ℤ) : Type 0 where
 
 -- Tables whose sets may also repeat rows, with buffers of any two lengths: where each has room for its own state's G words, number,
 -- length and the words before it are the same. Behind it words may differ: G counts repeats.
-pub row-repeats-unseen : (w : Way) (d d′ l : Bytes) → Rereads Alike (readData d) (readData d′) → (s s′ : List ℕ) (b b′ : List ℤ) {r r′ : Reply} {c c′ : List ℤ} {u u′ : List ℕ} → length s ≡ length s′
+pub row-repeats-unseen : (w : Way) (d d′ : Bytes) (l : Lent) → Rereads Alike (readData d) (readData d′) → (s s′ : List ℕ) (b b′ : List ℤ) {r r′ : Reply} {c c′ : List ℤ} {u u′ : List ℕ} → length s ≡ length s′
     → wordsOf (examine d l) ≤ length b → wordsOf (examine d′ l) ≤ length b′
     → Gives (by w d l s b) (r .number) (r .length) c u → Gives (by w d′ l s′ b′) (r′ .number) (r′ .length) c′ u′ → SameBefore r r′ c c′
 row-repeats-unseen w d d′ l S s s′ b b′ {r} {r′} {c} {c′} e g g′ P Q =

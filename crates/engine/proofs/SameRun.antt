@@ -16,7 +16,7 @@ use Rattle.spec_calculus.specs.Value.{Tables}
 use Rattle.spec_calculus.proofs.Lists.{All}
 use Rattle.spec_encoding.specs.Record.{Bytes, Result, refused, got, andThen}
 use Rattle.spec_encoding.specs.Data.{readData}
-use Rattle.spec_outcome.specs.Acceptance.{Accepted}
+use Rattle.spec_outcome.specs.Acceptance.{Lent, Accepted}
 use Rattle.spec_outcome.specs.Outcome.{G, cleared, withScratch, written, answered, planned, checkedWith}
 use Rattle.spec_outcome.specs.ScratchLimit.{SameReply}
 use Rattle.spec_outcome.proofs.ScratchLimit.{answered-alike}
@@ -154,20 +154,20 @@ module _ (m n : ℕ) (d e : Bytes) where
     unfolding tablesIn
     same-task q = ap (λ (x : Result Tables). record { tables = elim x [ refused k ↦ [] | got T ↦ T ]; program = task d q .program; fits = task d q .fits }) h
 
-    answers-alike : (l : Bytes) (s t : List ℕ) (b : List ℤ) → m ≤ length s → n ≤ length t → SameReply (answered m planned d l s b) (answered n planned e l t b)
+    answers-alike : (l : Lent) (s t : List ℕ) (b : List ℤ) → m ≤ length s → n ≤ length t → SameReply (answered m planned d l s b) (answered n planned e l t b)
     unfolding answered
     answers-alike l s t b f g =
         subst (SameReply (answered m planned d l s b)) (ap (λ (x : Result Accepted). withScratch n t b (andThen x (written planned b))) (examined-same d e l h)) (answered-alike d l s t f g planned b)
 
     -- ---- begin
-    pub begun-alike : (l : Bytes) {s₀ t₀ s t : List ℕ} {r r′ : Reply} → SameReply (checkedWith m d l s₀) (checkedWith n e l t₀) → BeginPost m d l s₀ s r → BeginPost n e l t₀ t r′ → Begun s t r r′
+    pub begun-alike : (l : Lent) {s₀ t₀ s t : List ℕ} {r r′ : Reply} → SameReply (checkedWith m d l s₀) (checkedWith n e l t₀) → BeginPost m d l s₀ s r → BeginPost n e l t₀ t r′ → Begun s t r r′
     begun-alike l {s₀} {t₀} {s} {t} {r} {r′} A B B′ = record {
       numbers = same;
       sizes = B .size ∙ A .sizes ∙ sym (B′ .size);
       served = λ z lent b.
           let z′ = sym same ∙ z in
           let a = accepted-begun m d l s₀ (sym (B .number) ∙ z) in
-          let q : Pending = record { bytes = l; accepted = a .0; lent = lent } in
+          let q : Pending = record { asked = l; accepted = a .0; lent = lent } in
           record {
             one = omega (arith, long-begun m d l s₀ (sym (B .number) ∙ z), B .spares z .long);
             other = omega (arith, long-begun n e l t₀ (sym (B′ .number) ∙ z′), B′ .spares z′ .long);
@@ -192,9 +192,9 @@ module _ (m n : ℕ) (d e : Bytes) where
         -- both end the question
         ended-alike : (q : Pending) (R : Run) → Ended m d q R s s′ o′ r → Ended n e q R t t′ p′ r′ → PortionServed s′ o′ t′ p′ r r′
         ended-alike q R E E′ =
-            let A = answers-alike (q .bytes) s t (q .lent) (W .one) (W .other) in
-            let z : s′ ≡ cleared m s = E .gives .scratch ∙ outcome-scratch d (q .bytes) s (q .lent) (W .one) in
-            let z′ : t′ ≡ cleared n t = E′ .gives .scratch ∙ outcome-scratch e (q .bytes) t (q .lent) (W .other) in
+            let A = answers-alike (q .asked) s t (q .lent) (W .one) (W .other) in
+            let z : s′ ≡ cleared m s = E .gives .scratch ∙ outcome-scratch d (q .asked) s (q .lent) (W .one) in
+            let z′ : t′ ≡ cleared n t = E′ .gives .scratch ∙ outcome-scratch e (q .asked) t (q .lent) (W .other) in
             let f : o′ ≡ p′ = E .gives .buffer ∙ A .buffers ∙ sym (E′ .gives .buffer) in
             let g : idle (getD s′ stageAt 0) ≡ true = ap (λ (y : List ℕ). idle (getD y stageAt 0)) z ∙ cleared-stage m s i in
             record {

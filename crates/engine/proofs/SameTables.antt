@@ -8,7 +8,7 @@ use lib.IntN.{ℤ}
 use Rattle.spec_calculus.proofs.Lists.{All}
 use Rattle.spec_encoding.specs.Record.{Bytes, got}
 use Rattle.spec_encoding.specs.Data.{readData}
-use Rattle.spec_outcome.specs.Acceptance.{Accepted, examine}
+use Rattle.spec_outcome.specs.Acceptance.{Lent, Accepted, examine}
 use Rattle.spec_outcome.specs.Outcome.{Outcome, scratchWords, checked, byPlan, planLines}
 use Rattle.spec_outcome.specs.RowOrder.{Way, planning, by}
 use Rattle.spec_outcome.specs.ScratchLimit.{SameReply}
@@ -32,7 +32,7 @@ given-same [] = refl
 given-same (x ∷ xs) = ap (λ k. counted (x .rows) + k) (given-same xs)
 
 -- portions of a question that was begun over either data: each says the same, and where they are enough, buffer and scratch are the same in the end
-pub record SameWhole (d l : Bytes) (lent : List ℤ) (xs : List Twice) (s′ t′ : List ℕ) (o′ p′ : List ℤ) : Type 0 where
+pub record SameWhole (d : Bytes) (l : Lent) (lent : List ℤ) (xs : List Twice) (s′ t′ : List ℕ) (o′ p′ : List ℤ) : Type 0 where
   pub accepted : Accepted
   pub is : examine d l ≡ got accepted
   pub said : All (λ x. SameSaid (x .one) (x .other)) xs
@@ -42,7 +42,7 @@ pub record SameWhole (d l : Bytes) (lent : List ℤ) (xs : List Twice) (s′ t�
 pub same-run : (d e : Bytes) → readData d ≡ readData e → SameRun scratchWords scratchWords d e
 same-run d e h = run-alike scratchWords scratchWords d e h (omega arith) (omega arith)
 
-module _ (d e l : Bytes) (h : readData d ≡ readData e) where
+module _ (d e : Bytes) (l : Lent) (h : readData d ≡ readData e) where
   -- One call, lent the same but for the data: all that it returns and leaves is the same.
   pub same-answered : (w : Way) (s : List ℕ) (b : List ℤ) {r r′ : Reply} {c c′ : List ℤ} {u u′ : List ℕ}
       → Gives (by w d l s b) (r .number) (r .length) c u → Gives (by w e l s b) (r′ .number) (r′ .length) c′ u′ → SameCall r r′ c c′ u u′

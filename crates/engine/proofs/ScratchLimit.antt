@@ -8,6 +8,7 @@ use Prim.Native.Nat.{ℕ, _≤_}
 use lib.ListN.{length}
 use lib.IntN.{ℤ}
 use Rattle.spec_encoding.specs.Record.{Bytes}
+use Rattle.spec_outcome.specs.Acceptance.{Lent}
 use Rattle.spec_outcome.specs.Outcome.{scratchWords}
 use Rattle.spec_outcome.specs.ScratchLimit.{formerWords}
 use Rattle.spec_outcome.proofs.ScratchLimit.{checked-alike}
@@ -25,7 +26,7 @@ module _ (d : Bytes) where
   alike = run-alike formerWords scratchWords d d refl (omega arith) (omega arith)
 
   -- From its beginning on: the same number and length, and where that is 0 the same question for whatever buffer is lent.
-  pub begun-served : (l : Bytes) {s₀ t₀ s t : List ℕ} {r r′ : Reply} → BeginPost formerWords d l s₀ s r → BeginPost scratchWords d l t₀ t r′
+  pub begun-served : (l : Lent) {s₀ t₀ s t : List ℕ} {r r′ : Reply} → BeginPost formerWords d l s₀ s r → BeginPost scratchWords d l t₀ t r′
       → formerWords ≤ length s₀ → scratchWords ≤ length t₀ → Begun formerWords scratchWords d d s t r r′
   begun-served l {s₀} {t₀} B B′ h h′ = begun-alike formerWords scratchWords d d refl l (checked-alike d l s₀ t₀ h h′) B B′
 

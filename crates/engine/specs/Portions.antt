@@ -12,7 +12,7 @@ use Rattle.spec_calculus.specs.Monoid.{raw}
 use Rattle.spec_encoding.specs.Record.{Bytes, got}
 use Rattle.spec_plan.specs.Planner.{planOf}
 use Rattle.plan_machine.specs.Offers.{planOffers}
-use Rattle.spec_outcome.specs.Acceptance.{Accepted, examine}
+use Rattle.spec_outcome.specs.Acceptance.{Lent, Accepted, examine}
 use Rattle.spec_outcome.specs.Outcome.{G, checkedWith, answered, planned}
 use Rattle.spec_outcome.specs.Gives.{Gives, Spares}
 use Rattle.base_signed.specs.Limit.{numberLimit}
@@ -34,11 +34,11 @@ rowsInAll a lent =
 -- "One call begins, with all refusals to 28": number, length and, after a refusal, scratch are the checker's. After 0 "scratch holds
 -- the unfinished question", whichever answer buffer is lent to its portions; no buffer has 2^62 words. Scratch words
 -- from `least` on stay.
-pub record BeginPost (least : ℕ) (d l : Bytes) (s s′ : List ℕ) (r : Reply) : Type 0 where
+pub record BeginPost (least : ℕ) (d : Bytes) (l : Lent) (s s′ : List ℕ) (r : Reply) : Type 0 where
   pub number : r .number ≡ checkedWith least d l s .number
   pub size : r .length ≡ checkedWith least d l s .size
   pub refused : (r .number ≡ 0 → ⊥) → s′ ≡ checkedWith least d l s .scratch
-  pub begins : r .number ≡ 0 → (a : Accepted) → examine d l ≡ got a → (lent : List ℤ) → length lent < numberLimit → let q : Pending = record { bytes = l; accepted = a; lent = lent } in Unfinished d q s′ lent (begun (task d q))
+  pub begins : r .number ≡ 0 → (a : Accepted) → examine d l ≡ got a → (lent : List ℤ) → length lent < numberLimit → let q : Pending = record { asked = l; accepted = a; lent = lent } in Unfinished d q s′ lent (begun (task d q))
   pub spares : r .number ≡ 0 → Spares least s s′
 
 -- ---- a portion
@@ -70,10 +70,11 @@ pub record Unended (least : ℕ) (d : Bytes) (n : ℕ) (q : Pending) (R : Run) (
 pub record Ended (least : ℕ) (d : Bytes) (q : Pending) (R : Run) (s s′ : List ℕ) (o′ : List ℤ) (r : Portioned) : Type 0 where
   pub end : r .finished ≡ 1
   pub offered : r .offered ≡ rowsDue (task d q) R
-  pub gives : Gives (answered least planned d (q .bytes) s (q .lent)) (r .number) (r .length) o′ s′
+  pub gives : Gives (answered least planned d (q .asked) s (q .lent)) (r .number) (r .length) o′ s′
 
 -- "If anything lent is changed in between, or scratch is neither 0 nor left by an earlier call, only safety and an end are promised."
--- So of other scratch nothing is said but 47, 31 and 48, and what holds of every reply; the call takes any words and ends.
+-- So of other scratch nothing is said but 47, 31 and 48, and what holds of every reply; the call takes any words and ends. The calendars are those of the
+-- question's beginning, which scratch holds: those lent now are not looked at.
 pub record PortionPost (least : ℕ) (d : Bytes) (n : ℕ) (s : List ℕ) (o : List ℤ) (s′ : List ℕ) (o′ : List ℤ) (r : Portioned) : Type 0 where
   pub within : (r .offered ≤ n) × (r .length ≤ length o′)
   pub refused : (refusal least n s ≡ 0 → ⊥) → Says r 0 0 (refusal least n s) 0 × ((s′ ≡ s) × (o′ ≡ o))

@@ -1,13 +1,22 @@
 // The open calls.
+ghost use mathlib.Core.Path.{_≡_};
 ghost use mathlib.Core.List.{[]};
 ghost use Prim.Native.Nat.{_≤_, _<_};
 ghost use lib.ListN.{length};
+ghost use Rattle.spec_calendar.specs.Dates.{on};
+ghost use Rattle.spec_hours.specs.Calls.{firstOpened, dayNumbered, dated};
+ghost use Rattle.base_dates.specs.Contract.{dayIn, dateIn};
+ghost use Rattle.base_hours.specs.Contract.{openIn};
+ghost use Rattle.spec_outcome.specs.Acceptance.{lentAs};
 ghost use Rattle.spec_outcome.specs.Outcome.{byLoops, byPlan, checked, planLines, scratchWords};
 ghost use Rattle.spec_outcome.specs.Gives.{Gives};
 ghost use Rattle.spec_outcome.specs.Directions.{tableToColumns, tableToRows, Fills};
 ghost use Rattle.engine.specs.Replies.{AdmitPost, Replies};
 ghost use Rattle.engine.specs.Portions.{BeginPost, PortionPost, Says, EndedPost};
 ghost use Rattle.engine.specs.Rota.{seatOf, SeatPost, TwoSeatsPost, RoundPost};
+use base_dates::DateTold;
+use base_dates::DayTold;
+use base_hours::OpenTold;
 use base_rota::rota_fits;
 use base_scratch::WORDS;
 use exec_portions::Progress;
@@ -15,7 +24,7 @@ use form_prepared::Answer;
 use front_end::Checked;
 use plan_lines::Printed;
 
-// "47: a portion of 0 rows or above 65,535."
+// "47, a portion of 0 or above 65,535"
 const MOST_ROWS: u64 = 65535;
 
 // "An answer is 0 and its length ..; a refusal its number and length 0."
@@ -32,14 +41,15 @@ pub enum Admitted {
     Accepted,
 }
 
-// "31: scratch under .. words. Scratch stays untouched": under 2,048 by document 02, E13. Then the checks.
-pub fn admit(tables: &[u8], question: &[u8], scratch: &mut [u64]) -> Admitted
-    ensures { λ r. ⌜ AdmitPost (now (tables .entry)) (now (question .entry)) (now (scratch .entry)) (now (scratch .exit)) r ⌝ }
+// "31: scratch under .. words. Scratch stays untouched": under 2,048 by document 02, E13. Then the checks. Scratch keeps the
+// calendars as long as the question stands in it.
+pub fn admit(tables: &[u8], calendars: &[u8], question: &[u8], scratch: &mut [u64]) -> Admitted
+    ensures { λ r. ⌜ AdmitPost (now (tables .entry)) (lentAs (now (calendars .entry)) (now (question .entry))) (now (scratch .entry)) (now (scratch .exit)) r ⌝ }
 {
     if scratch.len() < WORDS {
         return Admitted::Scant;
     }
-    match front_end::prepare(tables, question, scratch) {
+    match front_end::prepare(tables, calendars, question, scratch) {
         Checked::Refused(k) => Admitted::Refused(k),
         Checked::Accepted => Admitted::Accepted,
     }
@@ -59,10 +69,15 @@ pub fn finish(s: &mut [u64], k: u64, n: u64) -> Reply
 
 // "The checker takes no answer buffer and ends after 28."
 #[no_mangle]
-pub extern "C" fn dislogha_check(tables: &[u8], question: &[u8], scratch: &mut [u64]) -> Reply
-    ensures { λ r. ⌜ Gives (checked (now (tables .entry)) (now (question .entry)) (now (scratch .entry))) (r .number) (r .length) [] (now (scratch .exit)) ⌝ }
+pub extern "C" fn dislogha_check(
+    tables: &[u8],
+    calendars: &[u8],
+    question: &[u8],
+    scratch: &mut [u64],
+) -> Reply
+    ensures { λ r. ⌜ Gives (checked (now (tables .entry)) (lentAs (now (calendars .entry)) (now (question .entry))) (now (scratch .entry))) (r .number) (r .length) [] (now (scratch .exit)) ⌝ }
 {
-    match admit(tables, question, scratch) {
+    match admit(tables, calendars, question, scratch) {
         Admitted::Scant => Reply {
             number: base_refusals::SCRATCH_TOO_SHORT,
             length: 0,
@@ -76,13 +91,14 @@ pub extern "C" fn dislogha_check(tables: &[u8], question: &[u8], scratch: &mut [
 #[no_mangle]
 pub extern "C" fn dislogha_answer_by_loops(
     tables: &[u8],
+    calendars: &[u8],
     question: &[u8],
     scratch: &mut [u64],
     answer: &mut [i64],
 ) -> Reply
-    ensures { λ r. ⌜ Gives (byLoops (now (tables .entry)) (now (question .entry)) (now (scratch .entry)) (now (answer .entry))) (r .number) (r .length) (now (answer .exit)) (now (scratch .exit)) ⌝ }
+    ensures { λ r. ⌜ Gives (byLoops (now (tables .entry)) (lentAs (now (calendars .entry)) (now (question .entry))) (now (scratch .entry)) (now (answer .entry))) (r .number) (r .length) (now (answer .exit)) (now (scratch .exit)) ⌝ }
 {
-    match admit(tables, question, scratch) {
+    match admit(tables, calendars, question, scratch) {
         Admitted::Scant => Reply {
             number: base_refusals::SCRATCH_TOO_SHORT,
             length: 0,
@@ -99,13 +115,14 @@ pub extern "C" fn dislogha_answer_by_loops(
 #[no_mangle]
 pub extern "C" fn dislogha_answer_by_plan(
     tables: &[u8],
+    calendars: &[u8],
     question: &[u8],
     scratch: &mut [u64],
     answer: &mut [i64],
 ) -> Reply
-    ensures { λ r. ⌜ Gives (byPlan (now (tables .entry)) (now (question .entry)) (now (scratch .entry)) (now (answer .entry))) (r .number) (r .length) (now (answer .exit)) (now (scratch .exit)) ⌝ }
+    ensures { λ r. ⌜ Gives (byPlan (now (tables .entry)) (lentAs (now (calendars .entry)) (now (question .entry))) (now (scratch .entry)) (now (answer .entry))) (r .number) (r .length) (now (answer .exit)) (now (scratch .exit)) ⌝ }
 {
-    match admit(tables, question, scratch) {
+    match admit(tables, calendars, question, scratch) {
         Admitted::Scant => Reply {
             number: base_refusals::SCRATCH_TOO_SHORT,
             length: 0,
@@ -122,13 +139,14 @@ pub extern "C" fn dislogha_answer_by_plan(
 #[no_mangle]
 pub extern "C" fn dislogha_plan_lines(
     tables: &[u8],
+    calendars: &[u8],
     question: &[u8],
     scratch: &mut [u64],
     text: &mut [u8],
 ) -> Reply
-    ensures { λ r. ⌜ Gives (planLines (now (tables .entry)) (now (question .entry)) (now (scratch .entry)) (now (text .entry))) (r .number) (r .length) (now (text .exit)) (now (scratch .exit)) ⌝ }
+    ensures { λ r. ⌜ Gives (planLines (now (tables .entry)) (lentAs (now (calendars .entry)) (now (question .entry))) (now (scratch .entry)) (now (text .entry))) (r .number) (r .length) (now (text .exit)) (now (scratch .exit)) ⌝ }
 {
-    match admit(tables, question, scratch) {
+    match admit(tables, calendars, question, scratch) {
         Admitted::Scant => Reply {
             number: base_refusals::SCRATCH_TOO_SHORT,
             length: 0,
@@ -153,10 +171,15 @@ pub struct Portioned {
 
 // "One call begins, with all refusals to 28." Then scratch holds the unfinished question.
 #[no_mangle]
-pub extern "C" fn dislogha_begin(tables: &[u8], question: &[u8], scratch: &mut [u64]) -> Reply
-    ensures { λ r. ⌜ BeginPost scratchWords (now (tables .entry)) (now (question .entry)) (now (scratch .entry)) (now (scratch .exit)) r ⌝ }
+pub extern "C" fn dislogha_begin(
+    tables: &[u8],
+    calendars: &[u8],
+    question: &[u8],
+    scratch: &mut [u64],
+) -> Reply
+    ensures { λ r. ⌜ BeginPost scratchWords (now (tables .entry)) (lentAs (now (calendars .entry)) (now (question .entry))) (now (scratch .entry)) (now (scratch .exit)) r ⌝ }
 {
-    match admit(tables, question, scratch) {
+    match admit(tables, calendars, question, scratch) {
         Admitted::Scant => Reply {
             number: base_refusals::SCRATCH_TOO_SHORT,
             length: 0,
@@ -199,10 +222,11 @@ fn ended(s: &mut [u64], rows: u64, k: u64, n: u64) -> Portioned
 }
 
 // "Each later one offers exactly a given number of rows .. and says unfinished, or all that remain, if no more, and says finished
-// and how many."
+// and how many." Scratch has the calendars since the question was begun; they are lent to every call that runs one.
 #[no_mangle]
 pub extern "C" fn dislogha_portion(
     tables: &[u8],
+    calendars: &[u8],
     scratch: &mut [u64],
     answer: &mut [i64],
     rows: u64,
@@ -232,14 +256,21 @@ pub extern "C" fn dislogha_portion(
 }
 
 // A round at seat i: a portion of its quota, if the rota has that seat.
-fn seat(tables: &[u8], quotas: &[u64], i: usize, s: &mut [u64], o: &mut [i64]) -> Portioned
+fn seat(
+    tables: &[u8],
+    calendars: &[u8],
+    quotas: &[u64],
+    i: usize,
+    s: &mut [u64],
+    o: &mut [i64],
+) -> Portioned
     ensures { λ r. ⌜ SeatPost scratchWords (now (tables .entry)) (now (quotas .entry)) i (seatOf (now (s .entry)) (now (o .entry))) (seatOf (now (s .exit)) (now (o .exit))) r ⌝ }
 {
     if quotas.len() <= i {
         return declined(0);
     }
     let q = quotas[i];
-    dislogha_portion(tables, s, o, q)
+    dislogha_portion(tables, calendars, s, o, q)
 }
 
 // What is told of two seats.
@@ -251,6 +282,7 @@ pub struct TwoSeats {
 // A round at seat i and at the next.
 fn two_seats(
     tables: &[u8],
+    calendars: &[u8],
     quotas: &[u64],
     i: usize,
     s0: &mut [u64],
@@ -261,8 +293,8 @@ fn two_seats(
     requires { ⌜ i < 4 ⌝ }
     ensures { λ r. ⌜ TwoSeatsPost scratchWords (now (tables .entry)) (now (quotas .entry)) i (seatOf (now (s0 .entry)) (now (o0 .entry))) (seatOf (now (s1 .entry)) (now (o1 .entry))) (seatOf (now (s0 .exit)) (now (o0 .exit))) (seatOf (now (s1 .exit)) (now (o1 .exit))) r ⌝ }
 {
-    let first = seat(tables, quotas, i, s0, o0);
-    let second = seat(tables, quotas, i + 1, s1, o1);
+    let first = seat(tables, calendars, quotas, i, s0, o0);
+    let second = seat(tables, calendars, quotas, i + 1, s1, o1);
     TwoSeats { first, second }
 }
 
@@ -280,6 +312,7 @@ pub struct Round {
 #[no_mangle]
 pub extern "C" fn dislogha_round(
     tables: &[u8],
+    calendars: &[u8],
     quotas: &[u64],
     scratch1: &mut [u64],
     answer1: &mut [i64],
@@ -303,8 +336,26 @@ pub extern "C" fn dislogha_round(
             fourth: idle,
         };
     }
-    let a = two_seats(tables, quotas, 0, scratch1, answer1, scratch2, answer2);
-    let b = two_seats(tables, quotas, 2, scratch3, answer3, scratch4, answer4);
+    let a = two_seats(
+        tables,
+        calendars,
+        quotas,
+        0,
+        scratch1,
+        answer1,
+        scratch2,
+        answer2,
+    );
+    let b = two_seats(
+        tables,
+        calendars,
+        quotas,
+        2,
+        scratch3,
+        answer3,
+        scratch4,
+        answer4,
+    );
     let first = a.first;
     let second = a.second;
     let third = b.first;
@@ -340,4 +391,28 @@ pub extern "C" fn dislogha_table_to_rows(source: &[u8], target: &mut [u8]) -> Re
         number: t.number,
         length: t.length as u64,
     }
+}
+
+// "a call giving the first open minute at or after a given signed one, or none exactly if no such minute exists"
+#[no_mangle]
+pub extern "C" fn dislogha_first_open(calendars: &[u8], calendar: u64, minute: i64) -> OpenTold
+    ensures { λ r. ⌜ openIn r ≡ firstOpened (now (calendars .entry)) calendar minute ⌝ }
+{
+    base_hours::first_open(calendars, calendar, minute)
+}
+
+// "from year, month, day to day number"
+#[no_mangle]
+pub extern "C" fn dislogha_day_number(year: u64, month: u64, day: u64) -> DayTold
+    ensures { λ r. ⌜ dayIn r ≡ dayNumbered (on year month day) ⌝ }
+{
+    base_dates::day_number(year, month, day)
+}
+
+// "and back"
+#[no_mangle]
+pub extern "C" fn dislogha_date(day: u64) -> DateTold
+    ensures { λ r. ⌜ dateIn r ≡ dated day ⌝ }
+{
+    base_dates::date_of(day)
 }

@@ -6,6 +6,7 @@ use native.Mathlib.Omega.{arith}
 use lib.ListN.{length}
 use lib.IntN.{ℤ}
 use Rattle.spec_encoding.specs.Record.{Bytes}
+use Rattle.spec_outcome.specs.Acceptance.{Lent}
 use Rattle.spec_outcome.specs.Outcome.{scratchWords}
 use Rattle.spec_outcome.specs.Gives.{Gives}
 use Rattle.engine.specs.Replies.{AdmitPost, Replies}
@@ -17,7 +18,7 @@ use Rattle.test_comparisons.specs.declared.Tally.{Tally}
 use Rattle.test_comparisons.specs.ComparedAnswer.{counted, compared}
 use Rattle.test_comparisons.specs.Contract.{CountPost}
 
-module _ {d l : Bytes} {s t : List ℕ} {x : Admitted} (B : AdmitPost d l s t x) {b : List ℤ} where
+module _ {d : Bytes} {l : Lent} {s t : List ℕ} {x : Admitted} (B : AdmitPost d l s t x) {b : List ℤ} where
   pub compared-scant : x ≡ Admitted.Scant → Gives (compared d l s b) 31 0 b t
   unfolding compared
   compared-scant e = scant-by B (counted b) b e

@@ -10,11 +10,10 @@ use lib.IntN.{ℤ, pos}
 use Rattle.spec_calculus.specs.Value.{Value, Tables}
 use Rattle.spec_calculus.specs.Monoid.{raw}
 use Rattle.spec_encoding.specs.Record.{Bytes, refused, got, require}
-use Rattle.spec_encoding.specs.Reader.{readQuestion}
 use Rattle.spec_checks.specs.Types.{Ty}
 use Rattle.spec_normal_form.specs.Form.{asForm, normalValue}
 use Rattle.spec_outcome.specs.WrittenForm.{words}
-use Rattle.spec_outcome.specs.Acceptance.{Accepted}
+use Rattle.spec_outcome.specs.Acceptance.{Lent, readLent, Accepted, posedOf}
 use Rattle.spec_outcome.specs.Outcome.{Answer, settled, G, written, looped}
 use Rattle.spec_outcome.specs.Gives.{Settles}
 use Rattle.form_words.specs.FormTree.{left}
@@ -54,7 +53,7 @@ module _ {d : Bytes} {a : Accepted} {s t : List ℕ} (P : Prepared d a s) (S : S
   all-rooted : Rooted (columns t) (a .tables) (λ g. false) (asForm (a .form))
   all-rooted = subst (λ (T : Tables). Rooted (columns t) T (λ g. false) (asForm (a .form))) (tables-are P) (rooted (S .held) (asForm (a .form)) (λ g. false) 0 (form-in-scope P) (S .named) (even P (columns t)))
 
-  count-is : {o₁ : List ℤ} {c : ℕ} → FinishCount t 0 o₁ c → (o : List ℤ) → o₁ ≡ words (normalValue raw (a .tables) (a .form)) ++ drop (G a) o → (q : Bytes) → readQuestion q ≡ got (a .question) → c ≡ comparisonsOf a
+  count-is : {o₁ : List ℤ} {c : ℕ} → FinishCount t 0 o₁ c → (o : List ℤ) → o₁ ≡ words (normalValue raw (a .tables) (a .form)) ++ drop (G a) o → (q : Lent) → readLent q ≡ got (posedOf a) → c ≡ comparisonsOf a
   count-is K o e q r =
       let v : Value = normalValue raw (a .tables) (a .form) in
       let f = suc (left 0) in

@@ -15,7 +15,7 @@ use Rattle.spec_checks.specs.Types.{Ty, Tys, number, record′, ynil, ycons}
 use Rattle.spec_checks.specs.Types as Ty
 use Rattle.spec_checks.proofs.Refold.{arrangeAs}
 use Rattle.spec_normal_form.specs.Form.{asForm, normalValue}
-use Rattle.spec_outcome.specs.Acceptance.{Accepted, examine}
+use Rattle.spec_outcome.specs.Acceptance.{Lent, Accepted, examine}
 use Rattle.spec_outcome.specs.Outcome.{Answer, scratchWords, written, looped}
 use Rattle.spec_outcome.specs.Gives.{Gives}
 use Rattle.spec_outcome.proofs.Checks.{got-is, handed}
@@ -76,12 +76,12 @@ retold-size k (refused n) y e = let o : _≡_ {A = ℕ} 0 1 = cc in absurd (omeg
 retold-size k (got x) y e = sym (ap (λ (z : Answer ℤ). z .size) (got-is (record { size = k; front = x .front }) y e))
 
 -- the count of an answer: no more than that of the question that was accepted
-pub record Few (d l : Bytes) (k : ℕ) : Type 0 where
+pub record Few (d : Bytes) (l : Lent) (k : ℕ) : Type 0 where
   pub accepted : Accepted
   pub is : examine d l ≡ got accepted
   pub few : k ≤ mostOf accepted
 
-pub comparisons-most : (d l : Bytes) (s : List ℕ) (b : List ℤ) {r : Reply} {c : List ℤ} {u : List ℕ}
+pub comparisons-most : (d : Bytes) (l : Lent) (s : List ℕ) (b : List ℤ) {r : Reply} {c : List ℤ} {u : List ℕ}
     → Gives (compared d l s b) (r .number) (r .length) c u → r .number ≡ 0 → Few d l (r .length)
 unfolding compared retold written
 comparisons-most d l s b {r} C z =

@@ -1,5 +1,6 @@
 // A call for the tests, beside the open ones and in an archive of its own: how many comparisons of two elements an answer takes.
 ghost use Rattle.form_prepared.specs.AnswerContract.{Asked};
+ghost use Rattle.spec_outcome.specs.Acceptance.{lentAs};
 ghost use Rattle.spec_outcome.specs.Gives.{Gives};
 ghost use Rattle.test_comparisons.specs.ComparedAnswer.{compared};
 ghost use Rattle.test_comparisons.specs.Contract.{CountPost};
@@ -38,13 +39,14 @@ fn count(s: &mut [u64], data: &[u8], out: &mut [i64]) -> Tally
 #[no_mangle]
 pub extern "C" fn dislogha_comparisons(
     tables: &[u8],
+    calendars: &[u8],
     question: &[u8],
     scratch: &mut [u64],
     answer: &mut [i64],
 ) -> Reply
-    ensures { λ r. ⌜ Gives (compared (now (tables .entry)) (now (question .entry)) (now (scratch .entry)) (now (answer .entry))) (r .number) (r .length) (now (answer .exit)) (now (scratch .exit)) ⌝ }
+    ensures { λ r. ⌜ Gives (compared (now (tables .entry)) (lentAs (now (calendars .entry)) (now (question .entry))) (now (scratch .entry)) (now (answer .entry))) (r .number) (r .length) (now (answer .exit)) (now (scratch .exit)) ⌝ }
 {
-    match admit(tables, question, scratch) {
+    match admit(tables, calendars, question, scratch) {
         Admitted::Scant => Reply {
             number: base_refusals::SCRATCH_TOO_SHORT,
             length: 0,

@@ -5,7 +5,7 @@ use mathlib.Core.List.{List, []}
 use Prim.Native.Nat.{ℕ, _≤_}
 use lib.ListN.{length}
 use Rattle.spec_encoding.specs.Record.{Bytes}
-use Rattle.spec_outcome.specs.Acceptance.{Accepted}
+use Rattle.spec_outcome.specs.Acceptance.{Lent, Accepted}
 use Rattle.spec_outcome.specs.Outcome.{scratchWords, settled}
 use Rattle.spec_outcome.specs.Gives.{Gives, Settles}
 use Rattle.engine.specs.Replies.{AdmitPost, Replies}
@@ -20,7 +20,7 @@ settles-counted : (a : Accepted) {n : ℕ} → n ≡ offeredRows a → Settles (
 unfolding settled
 settles-counted a e = record { gives = λ s. record { number = refl; size = e; buffer = refl; scratch = refl } }
 
-module _ {d l : Bytes} {s t : List ℕ} {x : Admitted} (B : AdmitPost d l s t x) where
+module _ {d : Bytes} {l : Lent} {s t : List ℕ} {x : Admitted} (B : AdmitPost d l s t x) where
   pub offered-scant : x ≡ Admitted.Scant → Gives (offered d l s) 31 0 [] t
   unfolding offered
   offered-scant e = scant-by B counted [] e

@@ -2,6 +2,7 @@
 ghost use mathlib.Core.List.{[]};
 ghost use Rattle.exec_step.specs.Contract.{Waiting};
 ghost use Rattle.form_prepared.specs.AnswerContract.{Asked};
+ghost use Rattle.spec_outcome.specs.Acceptance.{lentAs};
 ghost use Rattle.spec_outcome.specs.Gives.{Gives};
 ghost use Rattle.test_offers.specs.OfferedRows.{offered};
 ghost use Rattle.test_offers.specs.Contract.{CountPost, RowsOfPost};
@@ -49,12 +50,13 @@ fn rows_of(s: &mut [u64], data: &[u8]) -> u64
 #[no_mangle]
 pub extern "C" fn dislogha_offered_rows(
     tables: &[u8],
+    calendars: &[u8],
     question: &[u8],
     scratch: &mut [u64],
 ) -> Reply
-    ensures { λ r. ⌜ Gives (offered (now (tables .entry)) (now (question .entry)) (now (scratch .entry))) (r .number) (r .length) [] (now (scratch .exit)) ⌝ }
+    ensures { λ r. ⌜ Gives (offered (now (tables .entry)) (lentAs (now (calendars .entry)) (now (question .entry))) (now (scratch .entry))) (r .number) (r .length) [] (now (scratch .exit)) ⌝ }
 {
-    match admit(tables, question, scratch) {
+    match admit(tables, calendars, question, scratch) {
         Admitted::Scant => Reply {
             number: base_refusals::SCRATCH_TOO_SHORT,
             length: 0,

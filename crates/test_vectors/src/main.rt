@@ -2,7 +2,7 @@
 // says, and where the answer is known the number, the length and the words, first by loops, then by
 // plan; then the lines of its plan.
 // A case is one byte that says whether its answer is known (1) or too long for any engine (0), two
-// bytes of data's length, two of the question's, little-endian, then both.
+// bytes of data's length, two of the calendars', two of the question's, little-endian, then all three.
 ghost use Prim.Native.Nat.{_+_, _*_, _<_, _≤_};
 ghost use mathlib.Core.Path.{_≡_};
 ghost use lib.ListN.{length, getD, replicate};
@@ -52,19 +52,26 @@ fn print_reply(number: u64, length: u64, words: &[i64]) {
 }
 
 // In a buffer of its own, in which nothing of the loops' answer stands.
-fn answer_by_plan(tables: &[u8], question: &[u8], scratch: &mut [u64]) {
+fn answer_by_plan(tables: &[u8], calendars: &[u8], question: &[u8], scratch: &mut [u64]) {
     let mut words = [0i64; 4096];
-    let reply = engine::dislogha_answer_by_plan(tables, question, scratch, &mut words);
+    let reply = engine::dislogha_answer_by_plan(tables, calendars, question, scratch, &mut words);
     print_reply(reply.number, reply.length, &words);
 }
 
-fn answer(known: bool, tables: &[u8], question: &[u8], scratch: &mut [u64], words: &mut [i64]) {
+fn answer(
+    known: bool,
+    tables: &[u8],
+    calendars: &[u8],
+    question: &[u8],
+    scratch: &mut [u64],
+    words: &mut [i64],
+) {
     if !known {
         return;
     }
-    let reply = engine::dislogha_answer_by_loops(tables, question, scratch, words);
+    let reply = engine::dislogha_answer_by_loops(tables, calendars, question, scratch, words);
     print_reply(reply.number, reply.length, words);
-    answer_by_plan(tables, question, scratch);
+    answer_by_plan(tables, calendars, question, scratch);
 }
 
 // The first bytes.
@@ -75,9 +82,9 @@ fn print_front(text: &[u8], count: usize)
 }
 
 // The plan's lines, which 32,768 bytes hold whatever the question; none where it is refused.
-fn plan(tables: &[u8], question: &[u8], scratch: &mut [u64]) {
+fn plan(tables: &[u8], calendars: &[u8], question: &[u8], scratch: &mut [u64]) {
     let mut text = [0u8; 32768];
-    let reply = engine::dislogha_plan_lines(tables, question, scratch, &mut text);
+    let reply = engine::dislogha_plan_lines(tables, calendars, question, scratch, &mut text);
     let count = reply.length as usize;
     if 32768 < count {
         return;
@@ -85,26 +92,41 @@ fn plan(tables: &[u8], question: &[u8], scratch: &mut [u64]) {
     print_front(&text, count);
 }
 
-fn ask(known: bool, tables: &[u8], question: &[u8], scratch: &mut [u64], words: &mut [i64]) {
-    let reply = engine::dislogha_check(tables, question, scratch);
+fn ask(
+    known: bool,
+    tables: &[u8],
+    calendars: &[u8],
+    question: &[u8],
+    scratch: &mut [u64],
+    words: &mut [i64],
+) {
+    let reply = engine::dislogha_check(tables, calendars, question, scratch);
     print_next(reply.number);
-    answer(known, tables, question, scratch, words);
+    answer(known, tables, calendars, question, scratch, words);
     io::write_all(1, b"\n");
-    plan(tables, question, scratch);
+    plan(tables, calendars, question, scratch);
 }
 
 fn ask_all(s: &[u8], scratch: &mut [u64], words: &mut [i64]) {
     let mut place: usize = 0;
     let mut at = 0;
-    while s.len() - at >= 5 {
-        let start = at + 5;
+    while s.len() - at >= 7 {
+        let start = at + 7;
         let split = start + length_at(s, at + 1);
-        let end = split + length_at(s, at + 3);
+        let second = split + length_at(s, at + 3);
+        let end = second + length_at(s, at + 5);
         if s.len() < end {
             return;
         }
         io::print_decimal(1, place as u64);
-        ask(s[at] == 1, &s[start..split], &s[split..end], scratch, words);
+        ask(
+            s[at] == 1,
+            &s[start..split],
+            &s[split..second],
+            &s[second..end],
+            scratch,
+            words,
+        );
         place += 1;
         at = end;
     }

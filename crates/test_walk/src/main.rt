@@ -290,10 +290,10 @@ fn by_plan(data: &[u8], s: &mut [u64]) {
 
 fn written(data: &[u8], question: &[u8], s: &mut [u64]) {
     let mut out = [0i64; 16];
-    let a = engine::dislogha_answer_by_loops(data, question, s, &mut out);
+    let a = engine::dislogha_answer_by_loops(data, b"", question, s, &mut out);
     say(b"by loops (engine::dislogha_answer_by_loops)\n");
     show_answer(&out, a.length as usize);
-    let b = engine::dislogha_answer_by_plan(data, question, s, &mut out);
+    let b = engine::dislogha_answer_by_plan(data, b"", question, s, &mut out);
     say(b"by plan (engine::dislogha_answer_by_plan)\n");
     show_answer(&out, b.length as usize);
 }
@@ -301,11 +301,11 @@ fn written(data: &[u8], question: &[u8], s: &mut [u64]) {
 fn walk(data: &[u8], question: &[u8], s: &mut [u64])
     requires { ⌜ scratchSize ≤ length (now s) ⌝ }
 {
-    match front_end::front_end(data, question, s) {
+    match front_end::front_end(data, b"", question, s) {
         FrontResult::Refused(_) => {}
         FrontResult::Nodes(n) => show_question(s, n),
     }
-    front_end::prepare(data, question, s);
+    front_end::prepare(data, b"", question, s);
     say(b"normal form (front_emit::write_form)\n");
     show(s, ENVIRONMENT, FORM, Format::Row);
     show(s, FORM, FORM + FORM_WORDS, Format::Form);
