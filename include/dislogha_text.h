@@ -7,7 +7,7 @@
 //     DISLOGHA_QUESTION(pull, "berths(berth, depth) bollards(berth, pull)",
 //                       "bag{ (b.berth, sum{ l.pull | l <- bollards, l.berth = b.berth })"
 //                       "   | b <- berths }");
-//     dislogha::answer_by_plan(data, pull, scratch, answer);
+//     dislogha::answer_by_plan(data, {}, pull, scratch, answer);
 //
 // `typed` reads a text at run time and tells the place of every record, `printed` writes the text of
 // bytes. Both look at names, columns and brackets alone. Whether a question is accepted only the
@@ -132,6 +132,7 @@ constexpr bool gives_truth(std::int32_t monoid) noexcept { return monoid == 6 ||
 constexpr std::int32_t most_byte = 255;
 constexpr std::size_t most_columns = 8;
 constexpr std::size_t most_tables = 8;
+constexpr std::size_t most_calendars = 4;
 
 // How large a question may be that is read here. These are the engine's sizes, so 21 and 23 are
 // said by the compiler; a desk takes larger ones, and lets the engine say them.
@@ -154,6 +155,7 @@ enum class Wrong : std::uint8_t {
     then_expected,
     else_expected,
     comma_expected,
+    calendar_expected,
     bracket_expected,
     brace_expected,
     qualifier_expected,
@@ -164,6 +166,7 @@ enum class Wrong : std::uint8_t {
     behind_question,
     not_a_question,
     no_such_name,
+    no_such_calendar,
     no_such_column,
     column_twice,
     too_many_names,
@@ -186,6 +189,7 @@ constexpr const char *sentence(Wrong wrong) noexcept {
     case Wrong::then_expected: return "'then' is expected here";
     case Wrong::else_expected: return "'else' is expected here";
     case Wrong::comma_expected: return "',' is expected here";
+    case Wrong::calendar_expected: return "a calendar's name or number is expected here";
     case Wrong::bracket_expected: return "',' or ')' is expected here";
     case Wrong::brace_expected: return "'|' or '}' is expected here";
     case Wrong::qualifier_expected: return "',' or '}' is expected here";
@@ -196,13 +200,15 @@ constexpr const char *sentence(Wrong wrong) noexcept {
     case Wrong::behind_question: return "this stands behind the question";
     case Wrong::not_a_question: return "a question is a comprehension, as bag{ x | x <- table }";
     case Wrong::no_such_name: return "no name and no table is called so here";
+    case Wrong::no_such_calendar: return "no calendar is called so";
     case Wrong::no_such_column: return "no column is called so";
     case Wrong::column_twice: return "two columns are called so; write its number, or give labels";
     case Wrong::too_many_names: return "a question has at most 256 names";
     case Wrong::too_many_records: return "the question has too many records";
     case Wrong::too_deep: return "this stands too deep inside the question";
     case Wrong::too_long: return "this is too long";
-    case Wrong::tables_not_understood: return "tables are written name(column, column) ..";
+    case Wrong::tables_not_understood:
+        return "tables are written name(column, column) .., calendars open{name, name}";
     case Wrong::broken_record: return "this record breaks the byte rules";
     }
     return "";
@@ -399,7 +405,7 @@ constexpr std::int64_t value_of(Chars digits, std::int64_t limit) noexcept {
     return value <= limit ? value : limit + 1;
 }
 
-// ------------------------------------------------------------------------------------------ tables
+// ---------------------------------------------------------------------------- tables and calendars
 
 struct TableNames {
     Chars name{};
@@ -408,10 +414,13 @@ struct TableNames {
     std::size_t count = 0;
 };
 
-// The names by which a question may call tables and their columns.
+// The names by which a question may call tables, their columns, and calendars.
 struct Schema {
     TableNames tables[most_tables] = {};
     std::size_t count = 0;
+    // A calendar's number is its place.
+    Chars calendars[most_calendars] = {};
+    std::size_t calendars_count = 0;
     Fault fault{};
 
     constexpr const TableNames *called(Chars name) const noexcept {
@@ -430,15 +439,28 @@ struct Schema {
         }
         return nullptr;
     }
+    // -1 where no calendar is called so.
+    constexpr std::int32_t calendar_called(Chars name) const noexcept {
+        for (std::size_t i = 0; i < calendars_count; i++) {
+            if (calendars[i] == name) {
+                return static_cast<std::int32_t>(i);
+            }
+        }
+        return -1;
+    }
 };
 
-// Reads `berths(berth, depth) @5 bollards(berth, pull)`: a table's number is the one behind `@`, else
-// its place from 0.
+// Reads `berths(berth, depth) @5 bollards(berth, pull) open{lock, quay}`: a table's number is the one
+// behind `@`, else its place from 0; calendars are numbered from 0.
 class SchemaReading {
   public:
     constexpr explicit SchemaReading(Chars text) noexcept : tokens_(text) {
         while (schema_.fault.none() && !tokens_.is(Token::end)) {
-            table();
+            if (!tokens_.is(Token::at) && braced()) {
+                calendars();
+            } else {
+                table();
+            }
         }
     }
     constexpr const Schema &schema() const noexcept { return schema_; }
@@ -446,6 +468,32 @@ class SchemaReading {
   private:
     constexpr void fail() noexcept {
         schema_.fault.set(Wrong::tables_not_understood, tokens_.at());
+    }
+    // Whether a brace follows this word: then it is no table's name.
+    constexpr bool braced() const noexcept {
+        Tokens behind = tokens_;
+        behind.step();
+        return behind.is(Token::left_brace);
+    }
+    constexpr void calendars() noexcept {
+        if (!(tokens_.word() == Chars("open"))) {
+            fail();
+        }
+        tokens_.step();
+        do {
+            tokens_.step();
+            const Chars called = name();
+            if (schema_.calendars_count == most_calendars || schema_.calendar_called(called) >= 0) {
+                fail();
+            }
+            if (schema_.fault.none()) {
+                schema_.calendars[schema_.calendars_count++] = called;
+            }
+        } while (schema_.fault.none() && tokens_.is(Token::comma));
+        if (!tokens_.is(Token::right_brace)) {
+            fail();
+        }
+        tokens_.step();
     }
     constexpr void table() noexcept {
         TableNames table;
@@ -516,7 +564,7 @@ struct Node {
     // Number, truth, name, table, index of a field, monoid, calendar. -1: not known yet.
     std::int32_t value = 0;
     Place at{};
-    // Where it is called by a word: a name, a binder's name, a table, a column.
+    // Where it is called by a word: a name, a binder's name, a table, a column, a calendar.
     Place word{};
     Place label{};
     std::uint16_t first = none;
@@ -809,13 +857,21 @@ template <class Limits> class Reading {
     }
     constexpr std::uint16_t open(std::size_t from) noexcept {
         tokens_.step();
-        const std::int32_t calendar = index();
+        const bool by_number = tokens_.is(Token::number);
+        if (!by_number && !tokens_.is(Token::word)) {
+            return fail(Wrong::calendar_expected);
+        }
+        const std::int32_t calendar = by_number ? index() : -1;
+        const Place word = tokens_.at();
         tokens_.step();
         take(Token::comma, Wrong::comma_expected);
         const std::uint16_t part = good() ? term(loosest) : none;
         take(Token::right_bracket, Wrong::bracket_expected);
         const std::uint16_t made = make(Kind::open, calendar, from);
-        tree_.add(made, part);
+        if (good()) {
+            tree_.nodes[made].word = word;
+            tree_.add(made, part);
+        }
         return made;
     }
     // A record, or a term in brackets.
@@ -1040,7 +1096,7 @@ template <class Limits> class Decoding {
 
 // ------------------------------------------------------------------------------ names and columns
 
-// Gives each name its number and each column its index. A binder that is called by a word gets the
+// Gives each name and each calendar its number and each column its index. A binder that is called by a word gets the
 // next number that is not written out, so that a word may be used again in another place. Types are
 // followed as far as columns are to be found, and judged by nobody.
 template <class Limits> class Naming {
@@ -1115,8 +1171,18 @@ template <class Limits> class Naming {
         case Kind::minus:
         case Kind::times: return parts(node, number_);
         case Kind::choice: return choice(node);
+        case Kind::open: return open(node);
         default: return parts(node, truth_);
         }
+    }
+    constexpr std::uint16_t open(Node &node) noexcept {
+        if (node.value < 0) {
+            node.value = schema_.calendar_called(tree_.word_of(node));
+        }
+        if (node.value < 0) {
+            tree_.fault.set(Wrong::no_such_calendar, node.word);
+        }
+        return parts(node, truth_);
     }
     constexpr std::uint16_t parts(const Node &node, std::uint16_t type) noexcept {
         for (std::uint16_t part = node.first; part != none; part = tree_.nodes[part].next) {
@@ -1266,7 +1332,8 @@ template <class Limits = Accepted> struct Typed {
     std::size_t size = 0;
     std::size_t records = 0;
     Place places[Limits::records] = {};
-    // The word by which it is called: a name, a binder's name, a table, a column or its number.
+    // The word by which it is called: a name, a binder's name, a table; a column or a calendar, or its
+    // number.
     Place words[Limits::records] = {};
     // Its label, where it is a field that has one.
     Place labels[Limits::records] = {};
@@ -1456,13 +1523,7 @@ template <class Limits> class Printing {
             term(part(node, 0), negation_level);
             break;
         case Kind::choice: choice(node); break;
-        case Kind::open:
-            put("open(");
-            put(node.value);
-            put(", ");
-            whole(part(node, 0));
-            put(")");
-            break;
+        case Kind::open: open(node); break;
         case Kind::comprehension: comprehension(node); break;
         default: qualifier(node); break;
         }
@@ -1486,6 +1547,18 @@ template <class Limits> class Printing {
             put("@");
             put(node.value);
         }
+    }
+    constexpr void open(const Node &node) noexcept {
+        const std::size_t calendar = static_cast<std::size_t>(node.value);
+        put("open(");
+        if (calendar < schema_.calendars_count) {
+            put(schema_.calendars[calendar]);
+        } else {
+            put(node.value);
+        }
+        put(", ");
+        whole(part(node, 0));
+        put(")");
     }
     constexpr void field(const Node &node) noexcept {
         term(part(node, 0), path_level);
@@ -1538,8 +1611,8 @@ template <class Limits> class Printing {
     Printed printed_{};
 };
 
-// Writes the text of a question's bytes: names by their numbers, tables and columns by their names
-// where the schema has them. What it writes `read` gives the same bytes for.
+// Writes the text of a question's bytes: names by their numbers, tables, columns and calendars by their
+// names where the schema has them. What it writes `read` gives the same bytes for.
 template <class Limits>
 constexpr Printed print(const std::uint8_t *bytes, std::size_t size, const Schema &schema,
                         Tree<Limits> &tree, char *text, std::size_t most) noexcept {
@@ -1583,8 +1656,8 @@ template <Wrong wrong, std::uint32_t from, std::uint32_t to> struct Understood {
 } // namespace text
 } // namespace dislogha
 
-// Makes NAME an array of the bytes of a question, at namespace scope. TABLES has the tables' names and
-// columns, as berths(berth, depth) @5 bollards(berth, pull).
+// Makes NAME an array of the bytes of a question, at namespace scope. TABLES has the names of tables and
+// their columns, and those of calendars, as berths(berth, depth) @5 bollards(berth, pull) open{lock}.
 #define DISLOGHA_QUESTION(NAME, TABLES, TEXT)                                                        \
     constexpr ::dislogha::text::Typed<> NAME##_typed = ::dislogha::text::typed(TEXT, TABLES);        \
     static_assert(::dislogha::text::Understood<NAME##_typed.fault.wrong, NAME##_typed.fault.at.from, \

@@ -15,7 +15,8 @@ namespace shore {
 
 struct Reply {
     std::unique_ptr<Question> question;
-    Bytes data;
+    // What it is asked over.
+    Packed over;
     // The first number that one of the calls gave, 0 where the question is accepted and answered.
     std::uint64_t number = 0;
     // Where the text is not understood or the question is refused: the place and what is wrong there.
@@ -35,10 +36,10 @@ struct Reply {
 };
 
 // Reads and checks a question, and makes its plan; nothing is answered yet.
-inline Reply prepared(Engine &engine, const Tables &tables, const std::string &typed) {
+inline Reply prepared(Engine &engine, const Stored &stored, const std::string &typed) {
     Reply reply;
-    reply.question = std::make_unique<Question>(typed, tables);
-    reply.data = packed(tables);
+    reply.question = std::make_unique<Question>(typed, stored);
+    reply.over = packed(stored);
     const Question &question = *reply.question;
     if (!question.understood()) {
         reply.located.at = question.fault.at;
@@ -46,15 +47,15 @@ inline Reply prepared(Engine &engine, const Tables &tables, const std::string &t
         return reply;
     }
     reply.type = Typing(question).of(question.tree.root);
-    reply.number = engine.check(reply.data, question.bytes);
+    reply.number = engine.check(reply.over, question.bytes);
     if (reply.number != 0) {
-        reply.located = Locating(engine, reply.data, question, reply.number).located();
+        reply.located = Locating(engine, reply.over, question, reply.number).located();
         return reply;
     }
-    const Lines lines = engine.lines(reply.data, question.bytes);
+    const Lines lines = engine.lines(reply.over, question.bytes);
     reply.number = lines.number;
     reply.lines = lines.text;
-    reply.steps = plan_of(lines.text, question.tables);
+    reply.steps = plan_of(lines.text, question.stored.tables);
     reply.located.at = question.tree.nodes[question.tree.root].at;
     return reply;
 }
@@ -69,13 +70,13 @@ inline void settle(Reply &reply) {
 
 // Answers an accepted question both ways, each by one call.
 inline void answer(Engine &engine, Reply &reply) {
-    reply.loops = engine.by_loops(reply.data, reply.question->bytes);
-    reply.plan = engine.by_plan(reply.data, reply.question->bytes);
+    reply.loops = engine.by_loops(reply.over, reply.question->bytes);
+    reply.plan = engine.by_plan(reply.over, reply.question->bytes);
     settle(reply);
 }
 
-inline Reply ask(Engine &engine, const Tables &tables, const std::string &typed) {
-    Reply reply = prepared(engine, tables, typed);
+inline Reply ask(Engine &engine, const Stored &stored, const std::string &typed) {
+    Reply reply = prepared(engine, stored, typed);
     if (reply.accepted()) {
         answer(engine, reply);
     }

@@ -27,12 +27,12 @@ struct Stage {
 
 class Between {
   public:
-    Between(Engine &engine, const std::vector<Step> &steps, const Tables &tables)
-        : engine_(engine), lists_(tables) {
-        for (Table &table : lists_) {
+    Between(Engine &engine, const std::vector<Step> &steps, const Stored &stored)
+        : engine_(engine), lists_(stored) {
+        for (Table &table : lists_.tables) {
             table.collection = 1;
         }
-        data_ = packed(lists_);
+        over_ = packed(lists_);
         for (const Step &step : steps) {
             if (step.name == "one" || step.name == "reduce") {
                 continue;
@@ -129,7 +129,7 @@ class Between {
         stages_.push_back(stage);
     }
     void answered(const Question &question, Stage &stage) {
-        const Words words = engine_.by_loops(data_, question.bytes);
+        const Words words = engine_.by_loops(over_, question.bytes);
         const TypeOf type = Typing(question).of(question.tree.root);
         Value value;
         std::size_t at = 0;
@@ -164,8 +164,8 @@ class Between {
     }
 
     Engine &engine_;
-    Tables lists_;
-    Bytes data_;
+    Stored lists_;
+    Packed over_;
     std::vector<Held> held_;
     std::vector<Stage> stages_;
 };

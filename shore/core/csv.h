@@ -1,11 +1,12 @@
-// Tables from CSV: the first line has the columns' names, every other one a row of whole numbers.
+// Tables from CSV: the first line has the columns' names, every other one a row of whole numbers. A calendar is read as a table of
+// weekdays, first and end minutes, which may be written as Mon and 08:00.
 #ifndef SHORE_CSV_H
 #define SHORE_CSV_H
 
 #include <string>
 #include <vector>
 
-#include "tables.h"
+#include "calendars.h"
 
 namespace shore {
 
@@ -26,7 +27,7 @@ struct Csv {
 
 class CsvReading {
   public:
-    explicit CsvReading(const std::string &text) {
+    CsvReading(const std::string &text, bool hours) : hours_(hours) {
         std::size_t at = text.compare(0, 3, "\xef\xbb\xbf") == 0 ? 3 : 0;
         while (at < text.size() && csv_.good()) {
             std::size_t end = text.find('\n', at);
@@ -70,6 +71,10 @@ class CsvReading {
             }
         }
         const auto names = cells(line);
+        if (hours_ && names.size() != 3) {
+            fail(0, "a calendar has three columns: weekday, first, end");
+            return;
+        }
         if (names.size() > most_columns) {
             fail(most_columns + 1, std::to_string(names.size()) + " columns; a table has at most 8");
             return;
@@ -140,25 +145,44 @@ class CsvReading {
         csv_.table.rows.push_back(row);
     }
     std::int32_t cell(const std::string &text, std::size_t at) {
+        const std::int64_t hour = !hours_ ? -1 : at == 0 ? weekday_called(text) : time_of(text);
+        const std::int32_t value = hour >= 0 ? static_cast<std::int32_t>(hour) : number(text, at);
+        if (hours_ && csv_.good() && (value < 0 || value > (at == 0 ? dislogha::text::most_byte : most_minute))) {
+            fail(at + 1, text + " does not fit into a window");
+        }
+        return value;
+    }
+    std::int32_t number(const std::string &text, std::size_t at) {
         const bool minus = !text.empty() && text[0] == '-';
         const std::string digits = text.substr(minus ? 1 : 0);
         const std::int64_t limit = INT64_C(2147483647) + (minus ? 1 : 0);
-        const bool number = !digits.empty() && digits.find_first_not_of("0123456789") == std::string::npos;
-        const std::int64_t value = number ? dislogha::text::value_of(chars_of(digits), limit) : 0;
-        if (!number) {
-            fail(at + 1, "'" + text + "' is no whole number");
+        const bool whole = !digits.empty() && digits.find_first_not_of("0123456789") == std::string::npos;
+        const std::int64_t value = whole ? dislogha::text::value_of(chars_of(digits), limit) : 0;
+        if (!whole) {
+            fail(at + 1, "'" + text + "' is no " + (!hours_ ? "whole number" : at == 0 ? "weekday" : "time"));
         } else if (value > limit) {
             fail(at + 1, text + " does not fit; a cell is from -2147483648 to 2147483647");
         }
         return static_cast<std::int32_t>(minus ? -value : value);
     }
 
+    const bool hours_;
     Csv csv_;
     std::size_t line_ = 0;
     char separator_ = ',';
 };
 
-inline Csv read_csv(const std::string &text) { return CsvReading(text).result(); }
+inline Csv read_csv(const std::string &text) { return CsvReading(text, false).result(); }
+
+inline Csv read_hours(const std::string &text) { return CsvReading(text, true).result(); }
+
+inline std::vector<Window> windows_of(const Table &table) {
+    std::vector<Window> windows;
+    for (const auto &row : table.rows) {
+        windows.push_back({static_cast<std::uint8_t>(row[0]), static_cast<std::uint16_t>(row[1]), static_cast<std::uint16_t>(row[2])});
+    }
+    return windows;
+}
 
 } // namespace shore
 

@@ -6,7 +6,7 @@
 #include <vector>
 
 #include "dislogha.h"
-#include "tables.h"
+#include "stored.h"
 
 namespace shore {
 
@@ -33,23 +33,27 @@ class Engine {
   public:
     Lent lent;
 
-    std::uint64_t check(const Bytes &data, const Bytes &question) {
-        const auto result = dislogha::check(span_of(data), span_of(question), scratch());
+    std::uint64_t check(const Packed &over, const Bytes &question) {
+        const auto result =
+            dislogha::check(span_of(over.data), span_of(over.calendars), span_of(question), scratch());
         return static_cast<std::uint64_t>(result.refusal);
     }
-    Words by_loops(const Bytes &data, const Bytes &question) {
+    Words by_loops(const Packed &over, const Bytes &question) {
         return grown([&](dislogha::Answer answer) {
-            return dislogha::answer_by_loops(span_of(data), span_of(question), scratch(), answer);
+            return dislogha::answer_by_loops(span_of(over.data), span_of(over.calendars), span_of(question),
+                                             scratch(), answer);
         });
     }
-    Words by_plan(const Bytes &data, const Bytes &question) {
+    Words by_plan(const Packed &over, const Bytes &question) {
         return grown([&](dislogha::Answer answer) {
-            return dislogha::answer_by_plan(span_of(data), span_of(question), scratch(), answer);
+            return dislogha::answer_by_plan(span_of(over.data), span_of(over.calendars), span_of(question),
+                                            scratch(), answer);
         });
     }
-    Lines lines(const Bytes &data, const Bytes &question) {
+    Lines lines(const Packed &over, const Bytes &question) {
         Bytes buffer(lent.lines);
-        const auto result = dislogha::plan_lines(span_of(data), span_of(question), scratch(),
+        const auto result = dislogha::plan_lines(span_of(over.data), span_of(over.calendars),
+                                                 span_of(question), scratch(),
                                                  {buffer.data(), buffer.size()});
         return {static_cast<std::uint64_t>(result.refusal),
                 std::string(buffer.begin(), buffer.begin() + static_cast<std::ptrdiff_t>(result.length))};

@@ -59,6 +59,14 @@ inline std::string wrong_column(const text::Fault &fault, const std::string &wor
     return "no column is called '" + word + "'" + (near.empty() ? "; there are " + listed : near);
 }
 
+inline std::string no_calendar(const Calendars &calendars, const std::string &word) {
+    std::vector<std::string> known;
+    for (const Calendar &calendar : calendars) {
+        known.push_back(calendar.name);
+    }
+    return "no calendar is called '" + word + "'" + nearest(word, known);
+}
+
 // A sentence for people.
 inline std::string said(const Question &question) {
     const text::Fault &fault = question.fault;
@@ -67,11 +75,12 @@ inline std::string said(const Question &question) {
     case text::Wrong::no_such_column: return wrong_column(fault, word);
     case text::Wrong::no_such_name: {
         std::vector<std::string> known;
-        for (const Table &table : question.tables) {
+        for (const Table &table : question.stored.tables) {
             known.push_back(table.name);
         }
         return "no name and no table is called '" + word + "' here" + nearest(word, known);
     }
+    case text::Wrong::no_such_calendar: return no_calendar(question.stored.calendars, word);
     case text::Wrong::unknown_character: return "'" + word + "' begins nothing that can stand here";
     default: return text::sentence(fault.wrong);
     }

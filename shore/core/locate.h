@@ -22,13 +22,12 @@ constexpr std::uint64_t does_not_fit = 25;
 constexpr std::uint64_t not_allowed = 26;
 constexpr std::uint64_t last_of_question = 28;
 constexpr std::uint64_t bound_passed = 28;
-constexpr std::uint64_t no_calendar = 42;
+constexpr std::uint64_t not_lent = 42;
 
 // Whether a number is about a part of the question, and not about its size. What was typed keeps the byte
-// rules, save for a kind that the engine does not know.
+// rules.
 inline bool has_a_place(std::uint64_t number) {
-    return (number >= out_of_scope && number <= last_of_question) || number == no_calendar ||
-           number == breaks_bytes;
+    return (number >= out_of_scope && number <= last_of_question) || number == not_lent;
 }
 
 struct Located {
@@ -43,8 +42,8 @@ struct Located {
 
 class Locating {
   public:
-    Locating(Engine &engine, const Bytes &data, const Question &question, std::uint64_t number)
-        : engine_(engine), data_(data), tree_(question.tree), tables_(question.tables),
+    Locating(Engine &engine, const Packed &over, const Question &question, std::uint64_t number)
+        : engine_(engine), over_(over), tree_(question.tree), tables_(question.stored.tables),
           types_(question), number_(number) {
         if (has_a_place(number)) {
             part(tree_.root);
@@ -71,7 +70,7 @@ class Locating {
     }
     bool refused(const Bytes &question) {
         located_.asked++;
-        const bool same = engine_.check(data_, question) == number_;
+        const bool same = engine_.check(over_, question) == number_;
         if (same) {
             located_.alone = question;
         }
@@ -152,8 +151,7 @@ class Locating {
             blame(at, number_ == out_of_scope   ? "the name #" + std::to_string(node.value) + " is not bound here"
                       : number_ == does_not_fit ? misfit(node)
                       : number_ == bound_passed ? bound(at)
-                      : number_ == no_calendar  ? "there is no calendar " + std::to_string(node.value)
-                      : number_ == breaks_bytes ? "this engine does not know such a term"
+                      : number_ == not_lent     ? "there is no calendar " + std::to_string(node.value)
                                                 : "");
         }
     }
@@ -271,7 +269,7 @@ class Locating {
     }
 
     Engine &engine_;
-    const Bytes &data_;
+    const Packed &over_;
     const Tree &tree_;
     const Tables &tables_;
     const Typing types_;

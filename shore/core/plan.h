@@ -8,7 +8,7 @@
 #include <string>
 #include <vector>
 
-#include "tables.h"
+#include "stored.h"
 
 namespace shore {
 
@@ -117,8 +117,8 @@ inline std::vector<Step> plan_of(const std::string &lines, const Tables &tables)
 // A term in the notation, places being called by their labels.
 class PlanWords {
   public:
-    PlanWords(const Tables &tables, const std::vector<std::string> &labels, const std::vector<int> &held)
-        : tables_(tables), labels_(labels), held_(held) {}
+    PlanWords(const Stored &stored, const std::vector<std::string> &labels, const std::vector<int> &held)
+        : stored_(stored), labels_(labels), held_(held) {}
 
     std::string term(const PlanTerm &term, int level = -1) const {
         if (term.parts.empty()) {
@@ -153,7 +153,7 @@ class PlanWords {
             return "(" + listed(of, 1) + (of.parts.size() == 2 ? ",)" : ")");
         }
         if (name == "open") {
-            return "open(" + listed(of, 1) + ")";
+            return "open(" + calendar(of.parts[1].atom) + ", " + term(of.parts[2]) + ")";
         }
         if (name == "not") {
             return "not " + term(of.parts[1], own);
@@ -171,14 +171,18 @@ class PlanWords {
         }
         return written;
     }
+    std::string calendar(const std::string &number) const {
+        const auto at = static_cast<std::size_t>(std::atoi(number.c_str()));
+        return at < stored_.calendars.size() ? stored_.calendars[at].name : number;
+    }
     std::string column(const PlanTerm &of, const std::string &index) const {
         const std::size_t at = of.parts.empty() ? place(of.atom) : labels_.size();
-        const Table *table = at < held_.size() ? table_numbered(tables_, held_[at]) : nullptr;
+        const Table *table = at < held_.size() ? table_numbered(stored_.tables, held_[at]) : nullptr;
         const auto number = static_cast<std::size_t>(std::atoi(index.c_str()));
         return table != nullptr && number < table->columns.size() ? table->columns[number] : index;
     }
 
-    const Tables &tables_;
+    const Stored &stored_;
     const std::vector<std::string> &labels_;
     const std::vector<int> &held_;
 };
@@ -201,9 +205,9 @@ inline std::string made_of(const std::string &monoid, const std::string &head) {
 }
 
 // One operator in words. `before` has the places that its head and condition speak of.
-inline std::string in_words(const Step &step, const Step &before, const Tables &tables) {
+inline std::string in_words(const Step &step, const Step &before, const Stored &stored) {
     const bool grows = step.name == "join" || step.name == "outer";
-    const PlanWords words(tables, grows ? step.labels : before.labels, grows ? step.tables : before.tables);
+    const PlanWords words(stored, grows ? step.labels : before.labels, grows ? step.tables : before.tables);
     const std::string where =
         step.name == "one" || step.condition.atom == "true" ? "" : " where " + words.term(step.condition);
     if (step.name == "one") {
@@ -224,10 +228,10 @@ inline std::string in_words(const Step &step, const Step &before, const Tables &
     return "reduce  " + made_of(step.monoid, words.term(step.head)) + where;
 }
 
-inline std::string in_words(const std::vector<Step> &steps, const Tables &tables) {
+inline std::string in_words(const std::vector<Step> &steps, const Stored &stored) {
     std::string written;
     for (std::size_t i = 0; i < steps.size(); i++) {
-        written += in_words(steps[i], steps[i == 0 ? 0 : i - 1], tables) + "\n";
+        written += in_words(steps[i], steps[i == 0 ? 0 : i - 1], stored) + "\n";
     }
     return written;
 }

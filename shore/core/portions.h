@@ -9,20 +9,22 @@
 
 namespace shore {
 
-// What a question has of its own while it is unfinished: its scratch, its answer, and what has been said of it. The data must stay as it is.
+// What a question has of its own while it is unfinished: its scratch, its answer, and what has been said of it. What it is asked over must stay as it is.
 class Seat {
   public:
     // The number of the call that begins; 0, and the question is unfinished.
-    std::uint64_t begin(const Bytes &data, const Bytes &question, std::size_t answer_words) {
+    std::uint64_t begin(const Packed &over, const Bytes &question, std::size_t answer_words) {
         scratch_.resize(dislogha::scratch_words);
         answer_.assign(answer_words, 0);
         offered_ = 0;
-        const auto result = dislogha::begin(span_of(data), span_of(question), scratch());
+        const auto result = dislogha::begin(span_of(over.data), span_of(over.calendars), span_of(question), scratch());
         number_ = static_cast<std::uint64_t>(result.refusal);
         unfinished_ = number_ == 0;
         return number_;
     }
-    void portion(const Bytes &data, std::uint64_t rows) { hear(dislogha::portion(span_of(data), scratch(), answer(), rows)); }
+    void portion(const Packed &over, std::uint64_t rows) {
+        hear(dislogha::portion(span_of(over.data), span_of(over.calendars), scratch(), answer(), rows));
+    }
     void hear(const dislogha::Portion &said) {
         offered_ += said.offered;
         number_ = static_cast<std::uint64_t>(said.refusal);
@@ -66,9 +68,9 @@ class Rota {
     }
     Seat &seat(std::size_t at) { return seats_[at]; }
     // One round with a quota for each seat of the rota; gives 0 or 49. Seats that were visited have heard what their portion said.
-    dislogha::Round round(const Bytes &data, const std::vector<std::uint64_t> &quotas) {
+    dislogha::Round round(const Packed &over, const std::vector<std::uint64_t> &quotas) {
         const dislogha::Seat lent[] = {seats_[0].lent(), seats_[1].lent(), seats_[2].lent(), seats_[3].lent()};
-        const auto round = dislogha::round(span_of(data), {quotas.data(), quotas.size()}, lent);
+        const auto round = dislogha::round(span_of(over.data), span_of(over.calendars), {quotas.data(), quotas.size()}, lent);
         for (std::size_t i = 0; i < round.visited; i++) {
             if (round.seats[i].refusal != dislogha::Refusal::nothing_unfinished) {
                 seats_[i].hear(round.seats[i]);

@@ -5,7 +5,7 @@
 #include <memory>
 #include <string>
 
-#include "tables.h"
+#include "stored.h"
 
 namespace shore {
 
@@ -22,17 +22,17 @@ using text::Sort;
 using Tree = text::Tree<Sizes>;
 using Typed = text::Typed<Sizes>;
 
-// Its tree looks into its text and its tables, so it stays where it is made.
+// Its tree looks into its text and the names that are stored, so it stays where it is made.
 struct Question {
     const std::string typed;
-    const Tables tables;
+    const Stored stored;
     Tree tree;
     Bytes bytes;
     text::Fault fault;
 
-    Question(const std::string &typed_text, const Tables &over) : typed(typed_text), tables(over) {
+    Question(const std::string &typed_text, const Stored &over) : typed(typed_text), stored(over) {
         auto read = std::make_unique<Typed>();
-        text::read(chars_of(typed), schema_of(tables), tree, *read);
+        text::read(chars_of(typed), schema_of(stored), tree, *read);
         fault = read->fault;
         if (fault.none()) {
             bytes.assign(read->bytes, read->bytes + read->size);
@@ -45,10 +45,10 @@ struct Question {
 };
 
 // The text of a question's bytes; empty, and the fault, where they break the byte rules.
-inline std::string text_of(const Bytes &bytes, const Tables &tables, text::Fault &fault) {
+inline std::string text_of(const Bytes &bytes, const Stored &stored, text::Fault &fault) {
     auto tree = std::make_unique<Tree>();
     std::string written(bytes.size() * 4 + 64, ' ');
-    const auto printed = text::print(bytes.data(), bytes.size(), schema_of(tables), *tree, &written[0],
+    const auto printed = text::print(bytes.data(), bytes.size(), schema_of(stored), *tree, &written[0],
                                      written.size());
     fault = printed.fault;
     written.resize(printed.size);

@@ -1,18 +1,18 @@
-// Tables from their records, of both kinds. The engine judges them; their names are not in the bytes.
+// Tables and calendars from their records. The engine judges them; their names are not in the bytes.
 #ifndef SHORE_RECORDS_H
 #define SHORE_RECORDS_H
 
 #include <string>
 
-#include "engine.h"
+#include "hours.h"
 #include "question.h"
 #include "sentences.h"
 
 namespace shore {
 
 struct Unpacked {
-    Tables tables;
-    // A number of the data, and the bytes of the record that has it.
+    Stored stored;
+    // A refusal's number, and the bytes of the record that has it.
     std::uint64_t number = 0;
     std::size_t from = 0;
     std::size_t to = 0;
@@ -72,23 +72,54 @@ inline Unpacked unpacked(Engine &engine, const Bytes &bytes) {
         read.from = at;
         read.to = record_end(bytes, at);
         const Bytes so_far(bytes.begin(), bytes.begin() + static_cast<std::ptrdiff_t>(read.to));
-        read.number = engine.check(so_far, question);
+        read.number = engine.check({so_far, {}}, question);
         if (read.number != 0) {
-            read.tables.clear();
             return read;
         }
         const Bytes record(so_far.begin() + static_cast<std::ptrdiff_t>(at), so_far.end());
-        read.tables.push_back(table_of(by_rows(record), 0));
+        read.stored.tables.push_back(table_of(by_rows(record), 0));
     }
     return read;
 }
 
-// Calls tables as a schema's text does; those that it does not have keep their names. False where the
-// text is not understood or has other columns.
-inline bool name(Tables &tables, const std::string &names) {
+// A record of kind 24 that the engine takes.
+inline Calendar calendar_of(const Bytes &bytes, std::size_t at) {
+    Calendar calendar;
+    for (std::size_t i = 0; i < bytes[at + 4]; i++) {
+        const std::size_t window = at + 5 + 5 * i;
+        calendar.windows.push_back({bytes[window], static_cast<std::uint16_t>(two_bytes(bytes, window + 1)),
+                                    static_cast<std::uint16_t>(two_bytes(bytes, window + 3))});
+    }
+    return calendar;
+}
+
+inline Unpacked unpacked_calendars(const Bytes &bytes) {
+    Unpacked read;
+    for (std::size_t at = 0; at < bytes.size(); at = read.to) {
+        read.from = at;
+        read.to = record_end(bytes, at);
+        read.number = layout_number(Bytes(bytes.begin(), bytes.begin() + static_cast<std::ptrdiff_t>(read.to)));
+        if (read.number != 0) {
+            return read;
+        }
+        read.stored.calendars.push_back(calendar_of(bytes, at));
+        read.stored.calendars.back().name = "calendar" + std::to_string(read.stored.calendars.size() - 1);
+    }
+    return read;
+}
+
+// Calls tables and calendars as a schema's text does; those that it does not have keep their names. False
+// where the text is not understood or has other columns, or other calendars.
+inline bool name(Stored &stored, const std::string &names) {
     const text::Schema schema = text::schema(chars_of(names));
+    if (schema.calendars_count != 0 && schema.calendars_count != stored.calendars.size()) {
+        return false;
+    }
+    for (std::size_t i = 0; i < schema.calendars_count; i++) {
+        stored.calendars[i].name = string_of(schema.calendars[i]);
+    }
     for (std::size_t i = 0; i < schema.count; i++) {
-        for (Table &table : tables) {
+        for (Table &table : stored.tables) {
             if (table.number != schema.tables[i].number) {
                 continue;
             }

@@ -6,6 +6,9 @@
 
 namespace shore {
 
+// 41 where the calls about days give it.
+constexpr const char *no_such_day = "a date or day number that does not exist in the years 2000 to 2399";
+
 inline const char *sentence(std::uint64_t number) {
     switch (number) {
     case 11: return "a record of the data cut short or not a table";
@@ -22,8 +25,8 @@ inline const char *sentence(std::uint64_t number) {
     case 31: return "scratch under 2,048 words";
     case 32: return "the answer has more words than the buffer";
     case 33: return "the plan's lines are longer than the buffer";
-    case 41: return "a calendar that breaks its layout, or a date that does not exist";
-    case 42: return "a calendar that is not there";
+    case 41: return "a calendar that breaks its layout, or a fifth one";
+    case 42: return "a calendar that is not lent";
     case 43: return "a bound over 2^31, or a cell beyond its column's";
     case 47: return "a portion of 0 rows or above 65,535";
     case 48: return "a portion where no question is unfinished";

@@ -37,6 +37,12 @@ inline std::string string_of(dislogha::text::Chars chars) {
 
 inline dislogha::text::Chars chars_of(const std::string &text) { return {text.data(), text.size()}; }
 
+// A number without sign; `most` + 1 where it is larger, -1 where it is none.
+inline std::int64_t unsigned_of(const std::string &digits, std::int64_t most) {
+    const bool number = !digits.empty() && digits.find_first_not_of("0123456789") == std::string::npos;
+    return number ? dislogha::text::value_of(chars_of(digits), most) : -1;
+}
+
 inline std::string collection_name(int collection) {
     return string_of(dislogha::text::monoid_name(collection));
 }
@@ -79,33 +85,6 @@ inline std::uint8_t free_number(const Tables &tables) {
         number++;
     }
     return number;
-}
-
-// The names stay those of `tables`, which must live as long.
-inline dislogha::text::Schema schema_of(const Tables &tables) {
-    dislogha::text::Schema schema;
-    for (const Table &table : tables) {
-        auto &names = schema.tables[schema.count++];
-        names.name = chars_of(table.name);
-        names.number = table.number;
-        for (const std::string &column : table.columns) {
-            names.columns[names.count++] = chars_of(column);
-        }
-    }
-    return schema;
-}
-
-// The same as a text: `@0 berths(berth, depth) @1 bollards(berth, pull)`.
-inline std::string schema_text(const Tables &tables) {
-    std::string text;
-    for (const Table &table : tables) {
-        text += (text.empty() ? "@" : " @") + std::to_string(table.number) + " " + table.name + "(";
-        for (std::size_t i = 0; i < table.columns.size(); i++) {
-            text += (i == 0 ? "" : ", ") + table.columns[i];
-        }
-        text += ")";
-    }
-    return text;
 }
 
 inline void put(Bytes &bytes, std::uint32_t value, std::size_t count) {

@@ -63,7 +63,7 @@ inline std::string said(const TypeOf &type) {
 
 class Typing {
   public:
-    explicit Typing(const Question &question) : tree_(question.tree), tables_(question.tables) {
+    explicit Typing(const Question &question) : tree_(question.tree), tables_(question.stored.tables) {
         of_.assign(tree_.count, plain(Sort::unknown));
         term(tree_.root);
     }

@@ -5,8 +5,9 @@ import sys
 from pathlib import Path
 
 HERE = Path(__file__).resolve().parent
-SCRIPTS = ['engine.js', 'values.js', 'tables.js', 'plan.js', 'question.js', 'seats.js', 'page.js']
+SCRIPTS = ['engine.js', 'values.js', 'tables.js', 'calendars.js', 'plan.js', 'question.js', 'seats.js', 'page.js']
 EXAMPLES = HERE.parent / 'examples'
+HOURS = 'Mon-Fri 06:00-14:00, Sat 08:00-12:00'
 
 
 def script(value):
@@ -15,14 +16,14 @@ def script(value):
 
 
 def examples():
-    """The tables and questions that the page begins with."""
+    """The tables, calendars and questions that the page begins with."""
     tables = []
     for name, collection in (('berths', 'bag'), ('bollards', 'bag'), ('locks', 'set')):
         lines = (EXAMPLES / (name + '.csv')).read_text().split()
         tables.append({'name': name, 'collection': collection, 'columns': lines[0].split(','),
                        'rows': [line.split(',') for line in lines[1:]]})
     questions = [line.split(': ', 1) for line in (HERE / 'questions').read_text().splitlines() if line]
-    return {'tables': tables, 'questions': questions}
+    return {'tables': tables, 'calendars': [{'name': 'lock', 'hours': HOURS}], 'questions': questions}
 
 
 def main(module, page):

@@ -31,9 +31,9 @@ Words answered;
 Seat alone;
 double offered_before = 0;
 
-// The rota's tables, and the type of each seat's answer.
+// What the rota's questions are asked over, and the type of each seat's answer.
 Rota rota;
-Bytes rota_data;
+Packed rota_over;
 TypeOf seat_types[dislogha::most_seats];
 
 void reply_with(const Json &json) { told = json.text(); }
@@ -117,6 +117,11 @@ void tell_fault(Json &json, const TableFault &fault) {
     json.key("column").number(fault.column).key("why").string(fault.what).close('}');
 }
 
+void tell_fault(Json &json, const HoursFault &fault) {
+    json.key("fault").open('{').key("calendar").number(static_cast<double>(fault.calendar));
+    json.key("name").truth(fault.name).key("why").string(fault.what).close('}');
+}
+
 // A text is unfinished where it ends too soon, or in a bracket.
 bool unfinished(const std::string &typed, const text::Place &at) {
     int brackets = 0;
@@ -133,30 +138,35 @@ void tell_fault(Json &json, const Reply &reply) {
     json.key("unfinished").truth(!reply.understood() && unfinished(reply.question->typed, at)).close('}');
 }
 
-// What is wrong with the tables, if anything is: as they are typed, or by the engine's word.
-bool tables_wrong(Json &json, const TypedPage &typed) {
-    if (!typed.fault.none()) {
+// What is wrong with tables or calendars, if anything is: as they are typed, or by the engine's word.
+bool stored_wrong(Json &json, const TypedPage &typed) {
+    if (!typed.fault.none() || !typed.hours_fault.none()) {
         json.key("number").nothing();
-        tell_fault(json, typed.fault);
+        typed.fault.none() ? tell_fault(json, typed.hours_fault) : tell_fault(json, typed.fault);
         return true;
     }
-    const DataLocating located(engine, typed.tables);
+    const DataLocating located(engine, typed.stored.tables);
     if (located.number() != 0) {
         tell_number(json, located.number());
         tell_fault(json, located.fault());
         return true;
     }
-    return false;
+    const CalendarFault hours = fault_of(typed.stored.calendars);
+    if (hours.number != 0) {
+        tell_number(json, hours.number);
+        tell_fault(json, HoursFault{hours.calendar, false, hours.what});
+    }
+    return hours.number != 0;
 }
 
 // Reads tables and question, and says whether they are accepted.
 bool accepted(Json &json, std::uint32_t bytes) {
     page = PageReading(given.substr(0, bytes)).page();
     asked = Reply();
-    if (tables_wrong(json, page)) {
+    if (stored_wrong(json, page)) {
         return false;
     }
-    asked = prepared(engine, page.tables, page.question);
+    asked = prepared(engine, page.stored, page.question);
     if (!asked.understood()) {
         json.key("number").nothing();
     } else {
@@ -187,7 +197,7 @@ std::string title(const Step &step) {
 
 void tell_operator(Json &json, const Step &step, const Step &before) {
     const bool grows = step.name == "join" || step.name == "outer";
-    const PlanWords words(page.tables, grows ? step.labels : before.labels, grows ? step.tables : before.tables);
+    const PlanWords words(page.stored, grows ? step.labels : before.labels, grows ? step.tables : before.tables);
     json.key("op").string(step.name).key("title").string(title(step));
     if (step.name == "nest" || step.name == "reduce") {
         json.key("head").string(words.term(step.head));
@@ -214,8 +224,8 @@ void tell_rows(Json &json, const Stage &stage) {
 
 // Of a nest also the operator whose place it takes: its rows begin there.
 void tell_plan(Json &json) {
-    const bool rows = most_offered(asked.steps, page.tables) <= most_for_rows;
-    const std::vector<Stage> stages = rows ? Between(engine, asked.steps, page.tables).stages() : std::vector<Stage>();
+    const bool rows = most_offered(asked.steps, page.stored.tables) <= most_for_rows;
+    const std::vector<Stage> stages = rows ? Between(engine, asked.steps, page.stored).stages() : std::vector<Stage>();
     std::vector<std::size_t> begun;
     std::size_t stage = 0;
     json.key("steps").open('[');
@@ -247,7 +257,7 @@ void tell_question(Json &json) {
     }
     text::Fault fault;
     json.key("bytes").string(hexadecimal);
-    json.key("readBack").string(text_of(asked.question->bytes, page.tables, fault));
+    json.key("readBack").string(text_of(asked.question->bytes, page.stored, fault));
 }
 
 } // namespace
@@ -289,6 +299,26 @@ EXPORT(csv) void csv(std::uint32_t bytes) {
     reply_with(json.close('}'));
 }
 
+// What calendars are at a minute, which stands where a question does: of each whether it is open, and when it opens. Nothing is said of calendars that are
+// wrong: `look` has said it.
+EXPORT(hours) void hours(std::uint32_t bytes) {
+    const TypedPage typed = PageReading(given.substr(0, bytes)).page();
+    const MomentReading read(typed.question, 1);
+    const bool wrong = read.wrong() || read.number() != 0;
+    Json json;
+    json.open('{').key("wrong").truth(wrong).key("moment");
+    json.string(read.wrong()          ? "A minute is written as 2026-11-17 09:30, or by its number."
+                : read.number() != 0 ? "Refused " + std::to_string(read.number()) + " (" + no_such_day + ")."
+                                      : shown(read.moment()));
+    json.key("calendars").open('[');
+    const Calendars &calendars = typed.stored.calendars;
+    const bool good = !wrong && typed.hours_fault.none() && fault_of(calendars).number == 0;
+    for (std::size_t i = 0; good && i < calendars.size(); i++) {
+        json.string(shown(hours_at(packed(calendars), i, read.moment()), ""));
+    }
+    reply_with(json.close(']').close('}'));
+}
+
 // All that can be said of tables and question without an answer.
 EXPORT(look) void look(std::uint32_t bytes) {
     Json json;
@@ -299,7 +329,7 @@ EXPORT(look) void look(std::uint32_t bytes) {
     }
     if (good) {
         json.key("lines").string(asked.lines);
-        json.key("rows").number(2 * most_offered(asked.steps, page.tables));
+        json.key("rows").number(2 * most_offered(asked.steps, page.stored.tables));
         tell_plan(json);
     }
     reply_with(json.close('}'));
@@ -313,11 +343,11 @@ EXPORT(load) void load(std::uint32_t bytes) {
     reply_with(json.close('}'));
 }
 
-EXPORT(loops) void loops() { answered = engine.by_loops(asked.data, asked.question->bytes); }
+EXPORT(loops) void loops() { answered = engine.by_loops(asked.over, asked.question->bytes); }
 
 EXPORT(begin) void begin() {
     offered_before = 0;
-    alone.begin(asked.data, asked.question->bytes, Engine::first_answer);
+    alone.begin(asked.over, asked.question->bytes, Engine::first_answer);
 }
 
 // Offers rows to the question, unless it is finished; gives whether it is unfinished. An answer that needs a longer buffer is begun anew with one.
@@ -325,7 +355,7 @@ EXPORT(portion) std::uint32_t portion(std::uint32_t rows) {
     if (!alone.unfinished()) {
         return 0;
     }
-    alone.portion(asked.data, rows);
+    alone.portion(asked.over, rows);
     if (alone.unfinished()) {
         return 1;
     }
@@ -333,7 +363,7 @@ EXPORT(portion) std::uint32_t portion(std::uint32_t rows) {
     const bool longer = answered.number == static_cast<std::uint64_t>(dislogha::Refusal::answer_too_short) && alone.room() < engine.lent.answer;
     if (longer) {
         offered_before += static_cast<double>(alone.offered());
-        alone.begin(asked.data, asked.question->bytes, Engine::larger(alone.room()));
+        alone.begin(asked.over, asked.question->bytes, Engine::larger(alone.room()));
     }
     return longer ? 1 : 0;
 }
@@ -350,17 +380,17 @@ EXPORT(answer) void answer_told() {
     reply_with(json.close('}'));
 }
 
-// Begins a question at a seat. The tables are those of the questions that are unfinished at the others.
+// Begins a question at a seat. Tables and calendars are those of the questions that are unfinished at the others.
 EXPORT(seat) void seat(std::uint32_t bytes, std::uint32_t at) {
     Json json;
     json.open('{');
     rota.seat(at).leave();
     if (accepted(json, bytes)) {
-        if (rota_data != asked.data) {
+        if (rota_over != asked.over) {
             rota.leave();
-            rota_data = asked.data;
+            rota_over = asked.over;
         }
-        rota.seat(at).begin(rota_data, asked.question->bytes, Engine::first_answer);
+        rota.seat(at).begin(rota_over, asked.question->bytes, Engine::first_answer);
         seat_types[at] = asked.type;
     }
     reply_with(json.close('}'));
@@ -370,7 +400,7 @@ EXPORT(seat) void seat(std::uint32_t bytes, std::uint32_t at) {
 EXPORT(round) void round_made(std::uint32_t, std::uint32_t count, std::uint32_t first, std::uint32_t second, std::uint32_t third, std::uint32_t fourth) {
     std::vector<std::uint64_t> quotas{first, second, third, fourth};
     quotas.resize(count < 8 ? count : 8, 1);
-    const auto said = rota.round(rota_data, quotas);
+    const auto said = rota.round(rota_over, quotas);
     Json json;
     json.open('{');
     tell_number(json, static_cast<std::uint64_t>(said.refusal));

@@ -1,5 +1,5 @@
-// The page's start: tabs, and who is told when the tables change. A new step of the desk is a tab and a panel in page.html, a file like seats.js, and a
-// line here.
+// The page's start: tabs, and who is told when tables or calendars change. A new step of the desk is a tab and a panel in page.html, a file like seats.js,
+// and a line here.
 
 function byId(id) { return document.getElementById(id); }
 
@@ -26,13 +26,17 @@ function startTabs() {
 function start() {
   startTabs();
   startTables(looking);
+  startCalendars();
   startQuestion();
   startSeats();
-  tablesChanged = () => {
+  storedChanged = () => {
     byId('shuffled').hidden = true;
-    tablesChangedAtSeats();
+    tellHours();
+    storedChangedAtSeats();
     ask();
   };
+  calendars = EXAMPLES.calendars;
+  showCalendars();
   setTables(EXAMPLES.tables.map((table, place) => newTable(table.name, table.collection, table.columns, table.rows, { number: String(place) })));
   byId('question').focus();
 }

@@ -15,7 +15,7 @@ let unshuffled = null;
 
 // Asks what is typed. While the module looks at one text only the latest of later ones waits.
 function ask() {
-  asked = { serial: asked.serial + 1, text: tablesText() + byId('question').value, since: performance.now() };
+  asked = { serial: asked.serial + 1, text: storedText() + byId('question').value, since: performance.now() };
   document.body.dataset.state = 'asking';
   byId('progress').hidden = byId('stop').hidden = byId('go-on').hidden = true;
   fitHeight(byId('question'));
@@ -38,6 +38,7 @@ function showLook(reply) {
   byId('bytes').textContent = (reply.bytes || '').replace(/../g, '$& ');
   byId('read-back').textContent = reply.readBack || '';
   markTable(reply.fault);
+  markCalendar(reply.fault);
   showFault(byId('said'), byId('question-under'), byId('question').value, reply);
   if (reply.number !== 0) return;
   byId('lines').textContent = reply.lines;
@@ -59,6 +60,7 @@ function showFault(said, under, text, reply) {
   if (dim) said.append('Unfinished: ');
   const parts = [];
   if (fault.table !== undefined) parts.push(placeInTables(fault));
+  else if (fault.calendar !== undefined) parts.push(`Calendar ${calendars[fault.calendar].name}`);
   else underline(under, text, fault, dim);
   if (fault.why) parts.push(fault.why);
   if (refusal) said.append(element('b', { textContent: `Refused ${refusal}` }), ` (${reply.sentence})`, parts.length ? ': ' : '');

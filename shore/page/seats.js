@@ -1,4 +1,4 @@
-// Four seats that share one engine by rounds (document 02, E8). Each has a question, a scratch and an answer buffer in the module; the tables are
+// Four seats that share one engine by rounds (document 02, E8). Each has a question, a scratch and an answer buffer in the module; tables and calendars are
 // those of the first question that was begun, and a change of them gives all questions up.
 
 const SEATS = 4, ROUNDS_SHOWN = 40, SLOW_ROUNDS = 20, SLOW = 90;
@@ -34,7 +34,7 @@ function seatElement(place) {
 }
 
 async function beginAt(seat) {
-  const reply = await rota.ask('seat', tablesText() + seat.question.value, [seat.place]);
+  const reply = await rota.ask('seat', storedText() + seat.question.value, [seat.place]);
   seat.answer.replaceChildren();
   seat.unfinished = reply.number === 0;
   Object.assign(seat, { rows: 0, since: rounds, type: reply.type });
@@ -101,15 +101,15 @@ async function runRounds() {
   byId('halt').hidden = true;
 }
 
-// Unfinished questions stand over the tables as they were.
-function tablesChangedAtSeats() {
+// Unfinished questions stand over tables and calendars as they were.
+function storedChangedAtSeats() {
   const given = seats.filter(seat => seat.unfinished);
   if (given.length === 0) return;
   running = false;
   rota.ask('leave', '');
   for (const seat of given) {
     seat.unfinished = false;
-    sayAt(seat, 'The tables were changed, and the question is given up.');
+    sayAt(seat, 'Tables or calendars were changed, and the question is given up.');
   }
 }
 

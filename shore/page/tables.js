@@ -3,17 +3,18 @@
 const COLLECTIONS = ['list', 'bag', 'set'];
 const WIDEST = '2147483648';
 
-// Document 01's limits, by which buttons end; what is beyond them is refused by the engine.
-const MOST = { tables: 8, columns: 8, rows: 1024 };
+// The papers' limits, by which buttons end; what is beyond them is refused by the engine.
+const MOST = { tables: 8, columns: 8, rows: 1024, calendars: 4 };
 
 // Rows of a table that are shown until all are asked for.
 const ROWS_SHOWN = 12;
 
-// Between tables, and between the cells of a row: no typed text has them.
-const TABLE_END = '\x1e', CELL_END = '\x1f';
+// Behind each calendar and each table, and between the cells of a row: no typed text has them.
+const CALENDAR_END = '\x1d', TABLE_END = '\x1e', CELL_END = '\x1f';
 
 let tables = [];
-let tablesChanged = () => {};
+// Told when tables or calendars have changed.
+let storedChanged = () => {};
 
 function newTable(name, collection, columns, rows, changes = {}) {
   return { name, collection, columns, rows, number: String(freeNumber()), bounds: columns.map(() => WIDEST), all: false, ...changes };
@@ -35,7 +36,7 @@ function tablesText() { return tables.map(tableText).join(''); }
 function setTables(given) {
   tables = given;
   showTables();
-  tablesChanged();
+  storedChanged();
 }
 
 function showTables() {
@@ -43,13 +44,13 @@ function showTables() {
   byId('add-table').disabled = tables.length >= MOST.tables;
 }
 
-// An input that writes into one of the table's lists or properties.
-function field(holder, key, label, className = '') {
-  const made = element('input', { value: holder[key], className, spellcheck: false, autocomplete: 'off' });
+// An input that writes into one of the table's lists or properties, or into a calendar's.
+function field(holder, key, label, className = '', kind = 'input') {
+  const made = element(kind, { value: holder[key], className, spellcheck: false, autocomplete: 'off' });
   made.setAttribute('aria-label', label);
   made.oninput = () => {
     holder[key] = made.value.trim();
-    tablesChanged();
+    storedChanged();
   };
   return made;
 }
@@ -65,11 +66,11 @@ function changed(table, change) {
   change();
   const place = tables.indexOf(table);
   byId('tables').children[place].replaceWith(tableElement(table));
-  tablesChanged();
+  storedChanged();
 }
 
 function tableElement(table) {
-  const collection = element('select', { onchange: () => { table.collection = collection.value; tablesChanged(); } },
+  const collection = element('select', { onchange: () => { table.collection = collection.value; storedChanged(); } },
     ...COLLECTIONS.map(each => element('option', { textContent: each, selected: each === table.collection })));
   collection.setAttribute('aria-label', `Collection of ${table.name}`);
   const top = element('div', { className: 'top' }, field(table, 'name', 'Name of the table', 'name'), collection,
@@ -219,7 +220,7 @@ async function openFiles(engine, files) {
   byId('csv-said').textContent = said.join('. ');
   byId('csv-said').hidden = said.length === 0;
   showTables();
-  tablesChanged();
+  storedChanged();
 }
 
 // A file's name without its ending, as a name that can be typed in a question.

@@ -1,4 +1,5 @@
-// Tables as the page has them, every cell as it was typed. What is no number is told with its place; whether a table is one for the engine the engine says.
+// Tables and calendars as the page has them, every cell as it was typed. What is no number is told with its place; whether a table or a calendar is one for
+// the engine the engine says.
 #ifndef SHORE_PAGE_TYPED_H
 #define SHORE_PAGE_TYPED_H
 
@@ -6,11 +7,12 @@
 #include <vector>
 
 #include "csv.h"
-#include "engine.h"
+#include "hours.h"
 
 namespace shore {
 
-// Between tables, and between the cells of a row.
+// Behind each calendar and each table, and between the cells of a row.
+constexpr char calendar_end = '\x1d';
 constexpr char table_end = '\x1e';
 constexpr char cell_end = '\x1f';
 
@@ -31,9 +33,18 @@ struct TableFault {
     bool none() const { return what.empty(); }
 };
 
+// What is wrong with a calendar: its name, or its hours.
+struct HoursFault {
+    std::size_t calendar = 0;
+    bool name = false;
+    std::string what;
+    bool none() const { return what.empty(); }
+};
+
 struct TypedPage {
-    Tables tables;
+    Stored stored;
     TableFault fault;
+    HoursFault hours_fault;
     std::string question;
 };
 
@@ -48,20 +59,19 @@ inline std::vector<std::string> split(const std::string &text, char end) {
     return parts;
 }
 
-// A number without sign; `most` + 1 where it is larger, -1 where it is none.
-inline std::int64_t unsigned_of(const std::string &digits, std::int64_t most) {
-    const bool number = !digits.empty() && digits.find_first_not_of("0123456789") == std::string::npos;
-    return number ? dislogha::text::value_of(chars_of(digits), most) : -1;
-}
-
 class PageReading {
   public:
     explicit PageReading(const std::string &text) {
-        auto parts = split(text, table_end);
+        auto calendars = split(text, calendar_end);
+        auto parts = split(calendars.back(), table_end);
+        calendars.pop_back();
         page_.question = parts.back();
         parts.pop_back();
         for (const std::string &part : parts) {
             table(split(part, '\n'));
+        }
+        for (const std::string &each : calendars) {
+            calendar(each.substr(0, each.find(cell_end)), each.substr(each.find(cell_end) + 1));
         }
     }
     const TypedPage &page() const { return page_; }
@@ -69,8 +79,25 @@ class PageReading {
   private:
     void fail(int row, int column, const std::string &what) {
         if (page_.fault.none()) {
-            page_.fault = {static_cast<int>(page_.tables.size()), row, column, what};
+            page_.fault = {static_cast<int>(page_.stored.tables.size()), row, column, what};
         }
+    }
+    void fail(bool name, const std::string &what) {
+        if (page_.hours_fault.none()) {
+            page_.hours_fault = {page_.stored.calendars.size(), name, what};
+        }
+    }
+    void calendar(const std::string &name, const std::string &hours) {
+        Calendars &calendars = page_.stored.calendars;
+        const WindowsReading read(hours);
+        if (!dislogha::text::is_name(chars_of(name))) {
+            fail(true, "a calendar is called by a word");
+        } else if (calendar_called(calendars, name) < calendars.size()) {
+            fail(true, "another calendar is called '" + name + "', too");
+        } else if (!read.fault().empty()) {
+            fail(false, read.fault());
+        }
+        calendars.push_back({name, read.windows()});
     }
     void table(const std::vector<std::string> &lines) {
         Table table = stored(lines);
@@ -84,12 +111,12 @@ class PageReading {
         table.name = head[2];
         if (!dislogha::text::is_name(chars_of(table.name))) {
             fail(head_row, name_field, "a table is called by a word");
-        } else if (table_called(page_.tables, table.name) != nullptr) {
+        } else if (table_called(page_.stored.tables, table.name) != nullptr) {
             fail(head_row, name_field, "another table is called '" + table.name + "', too");
         }
         table.columns = split(lines[1], cell_end);
         bounds(split(lines[2], cell_end), table);
-        page_.tables.push_back(table);
+        page_.stored.tables.push_back(table);
     }
     // The rows, which are read as those of a file are: its heading is line 1 there.
     Table stored(const std::vector<std::string> &lines) {
@@ -146,7 +173,7 @@ class DataLocating {
   private:
     // No question at all is 22, and that comes behind whatever is refused of the data.
     std::uint64_t asked(const Tables &tables) {
-        const std::uint64_t number = engine_.check(packed(tables), {});
+        const std::uint64_t number = engine_.check({packed(tables), {}}, {});
         return number == static_cast<std::uint64_t>(dislogha::Refusal::broken_record) ? 0 : number;
     }
     void place(const Table &table) {

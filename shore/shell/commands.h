@@ -95,7 +95,9 @@ class Commands {
         for (std::size_t i = 1; i < arguments.size(); i += 2) {
             const std::string &what = arguments[i];
             const std::string value = i + 1 < arguments.size() ? arguments[i + 1] : "";
-            if (what == "as" && text::monoid_called(chars_of(value)) >= 1 &&
+            if (what == "as" && value == "calendar") {
+                given.calendar = true;
+            } else if (what == "as" && text::monoid_called(chars_of(value)) >= 1 &&
                 text::monoid_called(chars_of(value)) <= text::last_collection) {
                 given.collection = text::monoid_called(chars_of(value));
             } else if (what == "named" && !value.empty()) {
@@ -107,9 +109,13 @@ class Commands {
                 i++;
             } else {
                 desk_.fail("'" + what + (value.empty() ? "" : " " + value) +
-                           "' is none of: as list|bag|set, named NAME, numbered 0..7, bound COLUMN 0..2147483648");
+                           "' is none of: as list|bag|set|calendar, named NAME, numbered 0..7, bound COLUMN 0..2147483648");
                 return;
             }
+        }
+        if (given.calendar && (given.number >= 0 || !given.bounds.empty())) {
+            desk_.fail("a calendar takes a name alone; its number is its place");
+            return;
         }
         shore::load(desk_, arguments[0], given);
     }
@@ -125,7 +131,7 @@ class Commands {
     void read(const Arguments &arguments) { scripts.push_back(arguments[0]); }
     void tables(const Arguments &) {
         Grid grid({"number", "table", "collection", "rows", "columns, with their bounds"});
-        for (const Table &table : desk_.tables) {
+        for (const Table &table : desk_.stored.tables) {
             std::string columns;
             for (std::size_t i = 0; i < table.columns.size(); i++) {
                 columns += (i == 0 ? "" : ", ") + table.columns[i] + " " + std::to_string(table.bounds[i]);
@@ -133,13 +139,13 @@ class Commands {
             grid.add({std::to_string(table.number), table.name, collection_name(table.collection),
                       std::to_string(table.rows.size()), columns});
         }
-        say(desk_.tables.empty() ? Block{"no tables; .load FILE.csv loads one"} : grid.drawn());
+        say(desk_.stored.tables.empty() ? Block{"no tables; .load FILE.csv loads one"} : grid.drawn());
     }
     Table *called(const std::string &name) {
-        Table *table = table_called(desk_.tables, name);
+        Table *table = table_called(desk_.stored.tables, name);
         if (table == nullptr) {
             std::vector<std::string> names;
-            for (const Table &each : desk_.tables) {
+            for (const Table &each : desk_.stored.tables) {
                 names.push_back(each.name);
             }
             desk_.fail("no table is called '" + name + "'" + nearest(name, names));
@@ -162,9 +168,91 @@ class Commands {
         say(grid.drawn());
     }
     void drop(const Arguments &arguments) {
+        if (arguments.size() == 2) {
+            drop_calendar(arguments);
+            return;
+        }
         const Table *table = called(arguments[0]);
         if (table != nullptr) {
-            desk_.tables.erase(desk_.tables.begin() + (table - desk_.tables.data()));
+            desk_.stored.tables.erase(desk_.stored.tables.begin() + (table - desk_.stored.tables.data()));
+        }
+    }
+    // Those behind it are numbered anew, which is told.
+    void drop_calendar(const Arguments &arguments) {
+        Calendars &calendars = desk_.stored.calendars;
+        const std::size_t at = calendar_called(calendars, arguments[1]);
+        if (arguments[0] != "calendar" || at == calendars.size()) {
+            desk_.fail(arguments[0] != "calendar" ? "drop TABLE, or calendar NAME" : no_calendar(calendars, arguments[1]));
+            return;
+        }
+        calendars.erase(calendars.begin() + static_cast<std::ptrdiff_t>(at));
+        for (std::size_t i = at; i < calendars.size(); i++) {
+            tell(calendars, i);
+        }
+    }
+    static std::string joined(const Arguments &arguments, std::size_t from) {
+        std::string line;
+        for (std::size_t i = from; i < arguments.size(); i++) {
+            line += (i == from ? "" : " ") + arguments[i];
+        }
+        return line;
+    }
+    void calendar(const Arguments &arguments) {
+        const WindowsReading read(joined(arguments, 1));
+        if (read.fault().empty()) {
+            put_in(desk_, Calendar{arguments[0], read.windows()});
+        } else {
+            desk_.fail(read.fault());
+        }
+    }
+    void calendars(const Arguments &) {
+        Grid grid({"number", "calendar", "open"});
+        for (std::size_t i = 0; i < desk_.stored.calendars.size(); i++) {
+            const Calendar &each = desk_.stored.calendars[i];
+            grid.add({{{std::to_string(i)}}, {{each.name}}, {wrapped(windows_text(each.windows))}});
+        }
+        say(desk_.stored.calendars.empty() ? Block{"no calendars; .calendar lock Mon-Fri 08:00-16:00 makes one"} : grid.drawn());
+    }
+    // Reads a moment; false, and told, where it is none, or no day of the years.
+    bool moment(const std::string &typed, std::int64_t unit, bool of_the_years, Moment &moment) {
+        const MomentReading read(typed, unit);
+        moment = read.moment();
+        const std::uint64_t number = read.number() != 0 || !of_the_years ? read.number() : moment.number();
+        if (read.wrong()) {
+            desk_.fail("a day is written as 2026-11-17, a minute as 2026-11-17 09:30, or by a number of at most 12 digits");
+        } else if (number != 0) {
+            desk_.fail("refused " + std::to_string(number) + ", " + no_such_day + ": " + typed);
+        }
+        return !read.wrong() && number == 0;
+    }
+    void open(const Arguments &arguments) {
+        const Calendars &calendars = desk_.stored.calendars;
+        const std::int64_t numbered = number_of(arguments[0], text::most_byte);
+        const std::size_t at = numbered <= text::most_byte ? static_cast<std::size_t>(numbered) : calendar_called(calendars, arguments[0]);
+        Moment asked;
+        if (numbered > text::most_byte && at == calendars.size()) {
+            desk_.fail(no_calendar(calendars, arguments[0]));
+        } else if (moment(joined(arguments, 1), 1, false, asked)) {
+            const Hours hours = hours_at(packed(calendars), at, asked);
+            if (hours.number != 0) {
+                desk_.refused(hours.number, "there is no calendar " + std::to_string(at));
+            } else {
+                say(calendars[at].name + " is " + shown(hours, " at " + shown(asked)));
+            }
+        }
+    }
+    void day(const Arguments &arguments) {
+        Moment asked;
+        if (moment(arguments[0], minutes_of_day, true, asked)) {
+            const std::int64_t first = asked.day * minutes_of_day;
+            say(date_shown(asked.day) + " is day " + std::to_string(asked.day) + ", minutes " + std::to_string(first) + " to " +
+                std::to_string(first + minutes_of_day - 1));
+        }
+    }
+    void minute(const Arguments &arguments) {
+        Moment asked;
+        if (moment(joined(arguments, 0), 1, true, asked)) {
+            say(date_shown(asked.day) + " " + time_shown(asked.minute) + " is minute " + std::to_string(asked.minute_number()));
         }
     }
     void bound(const Arguments &arguments) {
@@ -218,7 +306,7 @@ class Commands {
     }
     void plan(const Arguments &) {
         if (there(true)) {
-            const std::string words = in_words(desk_.last.steps, desk_.last.question->tables);
+            const std::string words = in_words(desk_.last.steps, desk_.last.question->stored);
             std::fputs(words.c_str(), stdout);
         }
     }
@@ -233,11 +321,11 @@ class Commands {
             return;
         }
         const Question &question = *desk_.last.question;
-        if (most_offered(desk_.last.steps, question.tables) > most) {
+        if (most_offered(desk_.last.steps, question.stored.tables) > most) {
             desk_.fail("the rows between operators are shown up to 20,000 rows");
             return;
         }
-        const Between between(desk_.engine, desk_.last.steps, question.tables);
+        const Between between(desk_.engine, desk_.last.steps, question.stored);
         for (const Stage &stage : between.stages()) {
             say(stage.line);
             if (!stage.shown()) {
@@ -284,20 +372,19 @@ class Commands {
             bytes.push_back(static_cast<std::uint8_t>(std::strtol(digits.substr(i, 2).c_str(), nullptr, 16)));
         }
         text::Fault fault;
-        const std::string written = text_of(bytes, desk_.tables, fault);
+        const std::string written = text_of(bytes, desk_.stored, fault);
         if (fault.none()) {
             say(written);
             desk_.question(written);
             return;
         }
-        const std::uint64_t number = desk_.engine.check(packed(desk_.tables), bytes);
-        desk_.fail("bytes " + std::to_string(fault.at.from) + " to " + std::to_string(fault.at.to) + ": refused " +
-                   std::to_string(number) + ", " + sentence(number));
+        const std::uint64_t number = desk_.engine.check(packed(desk_.stored), bytes);
+        desk_.refused(number, "", "bytes " + std::to_string(fault.at.from) + " to " + std::to_string(fault.at.to) + ": ");
     }
     void text(const Arguments &) {
         if (there(false)) {
             text::Fault fault;
-            say(text_of(desk_.last.question->bytes, desk_.last.question->tables, fault));
+            say(text_of(desk_.last.question->bytes, desk_.last.question->stored, fault));
         }
     }
     void cpp(const Arguments &arguments) {
@@ -320,20 +407,29 @@ class Commands {
             at = end + 1;
         }
     }
-    // The tables that a question names.
-    static Tables named(const Question &question) {
-        Tables tables;
-        for (const Table &table : question.tables) {
-            bool found = false;
-            for (std::size_t i = 0; i < question.tree.count; i++) {
-                const text::Node &node = question.tree.nodes[i];
-                found = found || (node.kind == text::Kind::table && node.value == table.number);
-            }
-            if (found) {
-                tables.push_back(table);
+    static bool has(const Question &question, text::Kind kind, std::size_t value) {
+        bool found = false;
+        for (std::size_t i = 0; i < question.tree.count; i++) {
+            const text::Node &node = question.tree.nodes[i];
+            found = found || (node.kind == kind && static_cast<std::size_t>(node.value) == value);
+        }
+        return found;
+    }
+    // The tables that a question names, and the calendars up to the last that it names.
+    static Stored named(const Question &question) {
+        Stored stored;
+        for (const Table &table : question.stored.tables) {
+            if (has(question, text::Kind::table, table.number)) {
+                stored.tables.push_back(table);
             }
         }
-        return tables;
+        const Calendars &calendars = question.stored.calendars;
+        for (std::size_t i = calendars.size(); i > 0 && stored.calendars.empty(); i--) {
+            if (has(question, text::Kind::open, i - 1)) {
+                stored.calendars.assign(calendars.begin(), calendars.begin() + static_cast<std::ptrdiff_t>(i));
+            }
+        }
+        return stored;
     }
     // In a C++ literal; only comments have such characters.
     static std::string escaped(const std::string &line) {
@@ -391,11 +487,10 @@ class Commands {
         }
         // A portion of no question: the engine says whether it takes so many rows.
         std::vector<std::uint64_t> scratch(dislogha::scratch_words);
-        const auto said = dislogha::portion({}, {scratch.data(), scratch.size()}, {},
+        const auto said = dislogha::portion({}, {}, {scratch.data(), scratch.size()}, {},
                                             static_cast<std::uint64_t>(rows));
         if (said.refusal == dislogha::Refusal::rows_out_of_range) {
-            const auto number = static_cast<std::uint64_t>(said.refusal);
-            desk_.fail("refused " + std::to_string(number) + ", " + sentence(number));
+            desk_.refused(static_cast<std::uint64_t>(said.refusal), "");
             return;
         }
         desk_.portion = rows;
@@ -439,7 +534,7 @@ class Commands {
     void reset(const Arguments &) {
         const bool echo = desk_.echo;
         desk_.jobs.clear();
-        desk_.tables.clear();
+        desk_.stored = Stored();
         desk_.engine.lent = Lent();
         desk_.mode = Mode::box;
         desk_.timer = false;
@@ -460,12 +555,22 @@ inline const std::vector<Commands::Command> &Commands::all() {
         {".help", "[COMMAND]", "the commands, or one of them", &Commands::help, 0, 1},
         {".load", "FILE.csv [as list|bag|set] [named NAME] [numbered N] [bound COLUMN N]..",
          "a table; its first line has the columns' names, and bounds are those of the data", &Commands::load, 1, any},
-        {".load", "FILE", "tables as .save wrote them, in place of all", &Commands::load, 1, any},
-        {".save", "FILE [by rows|columns]", "all tables as records, their names in FILE.names", &Commands::save, 1, 3},
+        {".load", "FILE.csv as calendar [named NAME]", "a calendar; its columns are weekday, first, end: Mon,08:00,16:00",
+         &Commands::load, 1, any},
+        {".load", "FILE", "tables and calendars as .save wrote them, in place of all", &Commands::load, 1, any},
+        {".save", "FILE [by rows|columns]", "all tables as records; names in FILE.names, calendars in FILE.calendars",
+         &Commands::save, 1, 3},
         {".tables", "", "the tables, their columns and bounds", &Commands::tables, 0, 0},
         {".show", "TABLE", "a table's rows", &Commands::show, 1, 1},
-        {".drop", "TABLE", "forget a table", &Commands::drop, 1, 1},
+        {".drop", "TABLE", "forget a table", &Commands::drop, 1, 2},
+        {".drop", "calendar NAME", "forget a calendar; those behind it get other numbers", &Commands::drop, 1, 2},
         {".bound", "TABLE[.COLUMN] N|data|widest", "what a column declares: 28 looks at it", &Commands::bound, 2, 2},
+        {".calendar", "NAME HOURS..|never", "a calendar for open(NAME, t); hours as Mon-Fri 08:00-12:00 13:00-16:00 Sat 06:00-24:00",
+         &Commands::calendar, 2, any},
+        {".calendars", "", "the calendars and their hours", &Commands::calendars, 0, 0},
+        {".open", "CALENDAR MINUTE|DATE [TIME]", "whether it is open then, or when it opens", &Commands::open, 2, 3},
+        {".minute", "MINUTE|DATE [TIME]", "the number of a minute, as 2026-11-17 09:30, or its date", &Commands::minute, 1, 2},
+        {".day", "DAY|DATE", "the number of a day, as 2026-11-17, or its date", &Commands::day, 1, 1},
         {".plan", "", "the last question's plan in words", &Commands::plan, 0, 0},
         {".lines", "", "the plan as the engine prints it", &Commands::lines, 0, 0},
         {".rows", "", "the rows between the plan's operators", &Commands::rows, 0, 0},
@@ -483,7 +588,7 @@ inline const std::vector<Commands::Command> &Commands::all() {
          &Commands::lend, 1, 2},
         {".read", "FILE", "take questions and commands from a file", &Commands::read, 1, 1},
         {".echo", "on|off", "show each line before what it gives", &Commands::echo, 1, 1},
-        {".reset", "", "forget tables, questions and settings", &Commands::reset, 0, 0},
+        {".reset", "", "forget tables, calendars, questions and settings", &Commands::reset, 0, 0},
         {".quit", "", "leave", &Commands::leave, 0, 0},
     };
     return commands;

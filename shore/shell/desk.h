@@ -44,7 +44,7 @@ enum class Mode { box, csv, words };
 
 class Desk {
   public:
-    Tables tables;
+    Stored stored;
     Engine engine;
     Mode mode = Mode::box;
     bool timer = false;
@@ -67,13 +67,13 @@ class Desk {
     void question(const std::string &typed) {
         std::string asked = typed;
         const bool background = in_the_background(asked);
-        Reply reply = prepared(engine, tables, asked);
+        Reply reply = prepared(engine, stored, asked);
         if (!reply.accepted()) {
             refused(reply);
             keep(std::move(reply));
         } else if (background) {
             start(std::move(reply));
-        } else if (portion >= 0 || 2 * most_offered(reply.steps, tables) > long_rows) {
+        } else if (portion >= 0 || 2 * most_offered(reply.steps, stored.tables) > long_rows) {
             Job job(std::move(reply), engine.lent, rows());
             wait(job);
         } else {
@@ -82,7 +82,7 @@ class Desk {
     }
     // The checker alone.
     void check(const std::string &typed) {
-        Reply reply = prepared(engine, tables, typed);
+        Reply reply = prepared(engine, stored, typed);
         if (reply.accepted()) {
             say("accepted: " + counted(reply.question->bytes.size(), "byte", "bytes"));
         } else {
@@ -166,8 +166,11 @@ class Desk {
         if (reply.located.alone.size() + reply.located.what.size() > 0) {
             say(caret(reply.question->typed, reply.located.at));
         }
-        fail("refused " + std::to_string(reply.number) + ", " + sentence(reply.number) +
-             (reply.located.what.empty() ? "" : ": " + reply.located.what));
+        refused(reply.number, reply.located.what);
+    }
+    // A number with its sentence, and what it is about.
+    void refused(std::uint64_t number, const std::string &what, const std::string &where = "") {
+        fail(where + "refused " + std::to_string(number) + ", " + sentence(number) + (what.empty() ? "" : ": " + what));
     }
 
   private:
@@ -188,9 +191,9 @@ class Desk {
     }
     void at_once(Reply reply) {
         const auto begun = std::chrono::steady_clock::now();
-        reply.loops = engine.by_loops(reply.data, reply.question->bytes);
+        reply.loops = engine.by_loops(reply.over, reply.question->bytes);
         const auto between = std::chrono::steady_clock::now();
-        reply.plan = engine.by_plan(reply.data, reply.question->bytes);
+        reply.plan = engine.by_plan(reply.over, reply.question->bytes);
         const auto ended = std::chrono::steady_clock::now();
         settle(reply);
         show(std::move(reply));
@@ -203,7 +206,7 @@ class Desk {
         while (jobs.count(number) != 0) {
             number++;
         }
-        const double most = 2 * most_offered(reply.steps, tables);
+        const double most = 2 * most_offered(reply.steps, stored.tables);
         jobs[number] = std::make_unique<Job>(std::move(reply), engine.lent, rows());
         say("question " + std::to_string(number) + " goes on, at most " + grouped(most) + " rows; .wait waits for it");
     }

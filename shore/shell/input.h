@@ -52,7 +52,7 @@ inline std::vector<std::string> completions(const Desk &desk, const std::string 
             known.push_back(command.name);
         }
     } else if (point != std::string::npos) {
-        for (const Table &table : desk.tables) {
+        for (const Table &table : desk.stored.tables) {
             for (const std::string &column : table.columns) {
                 known.push_back(left + column);
             }
@@ -61,8 +61,11 @@ inline std::vector<std::string> completions(const Desk &desk, const std::string 
         for (std::int32_t monoid = 1; monoid <= text::last_monoid; monoid++) {
             known.push_back(string_of(text::monoid_name(monoid)) + "{");
         }
-        for (const Table &table : desk.tables) {
+        for (const Table &table : desk.stored.tables) {
             known.push_back(table.name);
+        }
+        for (const Calendar &calendar : desk.stored.calendars) {
+            known.push_back(calendar.name);
         }
         for (const char *word : {"let", "if", "then", "else", "and", "or", "not", "true", "false", "open("}) {
             known.push_back(word);

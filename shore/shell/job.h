@@ -47,7 +47,7 @@ class Mapped {
 // Answering by loops in a child. Its number and length stand ahead of the words.
 class Child {
   public:
-    Child(const Bytes &data, const Bytes &question, const Lent &lent) : shared_(lent.answer + ahead) {
+    Child(const Packed &over, const Bytes &question, const Lent &lent) : shared_(lent.answer + ahead) {
         std::vector<std::uint64_t> scratch(lent.scratch);
         // What waits to be written is written once.
         std::fflush(stdout);
@@ -56,7 +56,7 @@ class Child {
             // Nothing but the call: another thread may have held a lock when this one was made.
             std::int64_t *words = shared_.first();
             const auto result = dislogha::answer_by_loops(
-                span_of(data), span_of(question), {scratch.data(), scratch.size()},
+                span_of(over.data), span_of(over.calendars), span_of(question), {scratch.data(), scratch.size()},
                 {words + ahead, shared_.count() - ahead});
             words[0] = static_cast<std::int64_t>(result.refusal);
             words[1] = static_cast<std::int64_t>(result.length);
@@ -106,8 +106,8 @@ class Job {
   public:
     Job(Reply reply, const Lent &lent, std::uint64_t rows)
         : reply_(std::move(reply)), lent_(lent), rows_(rows),
-          most_(2 * most_offered(reply_.steps, reply_.question->tables)), answer_(lent.answer),
-          loops_(reply_.data, reply_.question->bytes, lent), plan_([this] { portions(); }) {}
+          most_(2 * most_offered(reply_.steps, reply_.question->stored.tables)), answer_(lent.answer),
+          loops_(reply_.over, reply_.question->bytes, lent), plan_([this] { portions(); }) {}
     ~Job() { stop(); }
     Job(const Job &) = delete;
     Job &operator=(const Job &) = delete;
@@ -145,11 +145,13 @@ class Job {
         std::vector<std::uint64_t> scratch(lent_.scratch);
         const dislogha::Words words{scratch.data(), scratch.size()};
         const dislogha::Answer answer{answer_.first(), answer_.count()};
+        const auto data = span_of(reply_.over.data);
+        const auto calendars = span_of(reply_.over.calendars);
         number_ = static_cast<std::uint64_t>(
-            dislogha::begin(span_of(reply_.data), span_of(reply_.question->bytes), words).refusal);
+            dislogha::begin(data, calendars, span_of(reply_.question->bytes), words).refusal);
         bool due = number_ == 0;
         while (due && !stopped_) {
-            const auto portion = dislogha::portion(span_of(reply_.data), words, answer, rows_);
+            const auto portion = dislogha::portion(data, calendars, words, answer, rows_);
             offered_ += portion.offered;
             number_ = static_cast<std::uint64_t>(portion.refusal);
             length_ = portion.length;

@@ -17,12 +17,13 @@ GOLDEN = HERE / 'golden'
 sys.path.insert(0, str(ROOT / 'tests' / 'examples'))
 sys.dont_write_bytecode = True
 
-from notation import Table, packed, question  # noqa: E402
+from notation import Calendar, Table, packed, question  # noqa: E402
 
 BERTHS = Table('berths', 'bag', 'berth depth', (1, 90), (2, 70), bounds=[2, 90])
 BOLLARDS = Table('bollards', 'bag', 'berth pull', (1, 50), (1, 60), bounds=[1, 60])
 EMPTY = Table('empty', 'bag', 'n')
 COLLECTION = packed([BERTHS])[:5] + b'\4' + packed([BERTHS])[6:]
+LOCK = Calendar('lock', (5, 480, 720)).packed()
 
 # Files that transcripts load: name and content.
 FILES = {
@@ -43,7 +44,7 @@ FILES = {
     'wrong.tables': packed([BERTHS]),
     'wrong.tables.names': '@0 berths(berth)\n',
     'cut.tables': packed([BERTHS, BOLLARDS])[:-1],
-    'question.tables': packed([BERTHS]) + question('sum{ 7 }', []),
+    'question.tables': packed([BERTHS]) + question('sum{ 7 }', [], []),
     'collection.tables': packed([BOLLARDS.numbered(3)]) + COLLECTION,
     'long.tables': packed([Table('over', 'bag', 'n', *[(row,) for row in range(1025)])]),
     'ninth.tables': packed([EMPTY] * 9),
@@ -51,6 +52,22 @@ FILES = {
     'wide.tables': packed([Table('b', 'bag', 'n', bounds=[2 ** 31 + 1])]),
     'above.tables': packed([BERTHS.numbered(8)]),
     'used.tables': packed([BERTHS.numbered(4), BOLLARDS.numbered(4)]),
+    'hours.csv': 'weekday,first,end\nMon,08:00,16:00\ntuesday,8:00,16:00\n5,360,1440\n',
+    'two-columns.csv': 'weekday,first\nMon,08:00\n',
+    'no-weekday.csv': 'weekday;first;end\nMon;08:00;16:00\nMo;08:00;16:00\n',
+    'no-time.csv': 'weekday,first,end\nMon,08:00,4pm\n',
+    'no-window.csv': 'weekday,first,end\n\nMon,08:00,65536\n',
+    'backwards.csv': 'weekday,first,end\nMon,16:00,08:00\n',
+    'eighth-day.csv': 'weekday,first,end\nSun,08:00,16:00\n7,08:00,16:00\n',
+    'many-windows.csv': 'weekday,first,end\n' + ''.join('Mon,%d,%d\n' % (minute, minute + 1) for minute in range(33)),
+    'alone.calendars': LOCK * 2,
+    'cut.calendars': (LOCK * 2)[:-1],
+    'window.calendars': LOCK + Calendar('lock', (5, 0, 1), (5, 720, 480)).packed(),
+    'fifth.calendars': LOCK * 5,
+    'named.calendars': LOCK * 2,
+    'named.names': 'open{lock}\n',
+    'two.tables': packed([BERTHS]),
+    'two.tables.calendars': b'\0',
 }
 
 # What is not the same each time.

@@ -1,4 +1,4 @@
-// Lines of made inputs: data and question in hexadecimal.
+// Lines of made inputs: data, calendars and question in hexadecimal.
 #ifndef TESTS_HEXADECIMAL_H
 #define TESTS_HEXADECIMAL_H
 
@@ -8,7 +8,7 @@
 #include <string>
 #include <vector>
 
-#include "tables.h"
+#include "stored.h"
 
 inline shore::Bytes bytes_of(const std::string &digits) {
     shore::Bytes bytes;
@@ -19,7 +19,7 @@ inline shore::Bytes bytes_of(const std::string &digits) {
 }
 
 struct Made {
-    shore::Bytes data;
+    shore::Packed over;
     shore::Bytes question;
 };
 
@@ -29,7 +29,9 @@ inline std::vector<Made> made_of(const char *path) {
     std::string line;
     while (std::getline(file, line)) {
         const std::size_t tab = line.find('\t');
-        all.push_back({bytes_of(line.substr(0, tab)), bytes_of(line.substr(tab + 1))});
+        const std::size_t second = line.find('\t', tab + 1);
+        all.push_back({{bytes_of(line.substr(0, tab)), bytes_of(line.substr(tab + 1, second - tab - 1))},
+                       bytes_of(line.substr(second + 1))});
     }
     return all;
 }

@@ -1,5 +1,5 @@
-//! Made inputs in a file, for programs that are not written in Rust: of each its data and its
-//! question, each with four bytes of length before it. Arguments: the file, seed, count of inputs.
+//! Made inputs in a file, for programs that are not written in Rust: of each its data, its calendars and
+//! its question, each with four bytes of length before it. Arguments: the file, seed, count of inputs.
 //! Inputs that may be offered too many rows are left out; more than one in a hundred is a failure.
 
 use std::error::Error;
@@ -22,7 +22,7 @@ fn main() -> Result<(), Box<dyn Error>> {
             left_out += 1;
             continue;
         }
-        for bytes in [&input.data, &input.question] {
+        for bytes in [&input.data, &input.calendars, &input.question] {
             file.write_all(&u32::try_from(bytes.len())?.to_le_bytes())?;
             file.write_all(bytes)?;
         }

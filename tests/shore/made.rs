@@ -1,4 +1,4 @@
-//! Prints made inputs, one in a line: data and question in hexadecimal, separated by a tab; `-` for no byte.
+//! Prints made inputs, one in a line: data, calendars and question in hexadecimal, separated by tabs; `-` for no byte.
 //!
 //! Arguments: seed (default 1), count of inputs (default 20,000).
 
@@ -12,7 +12,9 @@ fn main() -> io::Result<()> {
     let mut out = BufWriter::new(io::stdout().lock());
     for index in 0..count {
         let input = generate(seed, index);
-        writeln!(out, "{}\t{}", hexadecimal(&input.data), hexadecimal(&input.question))?;
+        let parts =
+            [&input.data, &input.calendars, &input.question].map(|bytes| hexadecimal(bytes));
+        writeln!(out, "{}", parts.join("\t"))?;
     }
     out.flush()
 }

@@ -19,8 +19,8 @@ PAGE = ROOT / 'target' / 'shore' / 'desk.html'
 PICTURES = ROOT / 'target' / 'shore' / 'pictures'
 
 # Fewer cases, or fewer things seen beside them, have shown nothing.
-LEAST_CASES = 270
-LEAST_SEEN = 30
+LEAST_CASES = 320
+LEAST_SEEN = 50
 
 MOST_ROWS = 1024
 ENTER, DOWN, RIGHT = ('Enter', 13), ('ArrowDown', 40), ('ArrowRight', 39)
@@ -71,7 +71,11 @@ def typeable(case):
     """Whether a case can be typed: no bytes that are broken on purpose, no table that none can be, no scratch of its own."""
     def whole(table):
         return table.kind in (20, 23) and table.number != NO_NUMBER and len(table.rows) <= MOST_ROWS and len(table.bounds) == len(table.columns)
-    return not (case.cut or case.behind or case.scratch != 2048) and all(map(whole, case.tables))
+
+    def kept(calendar):
+        return calendar.kind == 24 and calendar.count == len(calendar.windows) and not (calendar.short or calendar.cut)
+    broken = case.cut or case.behind or case.tail or case.scratch != 2048
+    return not broken and all(map(whole, case.tables)) and all(map(kept, case.calendars))
 
 
 def number_of(table, place):
@@ -92,20 +96,37 @@ def tables_of(case):
     return made
 
 
+def clock(minute):
+    return '%02d:%02d' % divmod(minute, 60)
+
+
+def calendars_of(case):
+    """The calendars for the page, by numbers of weekdays, which may be none."""
+    names, made = set(), []
+    for calendar in case.calendars:
+        name = calendar.name
+        while name in names:
+            name += '_'
+        names.add(name)
+        hours = ' '.join('%d %s-%s' % (weekday, clock(first), clock(end)) for weekday, first, end in calendar.windows)
+        made.append({'name': name, 'hours': hours or 'never'})
+    return made
+
+
 def text_of(case):
     """The question's text: a table that is not there is named by its number, and so is its column; a name that is not bound is number 255."""
     text = case.ask
     for place, table in enumerate(case.absent):
         text = re.sub(r'\b%s\b' % table.name, '@%d' % number_of(table, len(case.tables) + place), text)
         text = re.sub(r'\bm\.n\b', 'm.0', text)
-    if worked.UNBOUND in question(case.ask, case.tables + case.absent):
+    if worked.UNBOUND in question(case.ask, case.tables + case.absent, case.calendars):
         text = re.sub(r'\bx\b', '#255', text)
     return text
 
 
 def hold(page, seen, case):
     """One worked case, typed in."""
-    page.value('tables = %s; showTables()' % json.dumps(tables_of(case)))
+    page.value('tables = %s; showTables(); calendars = %s; showCalendars()' % (json.dumps(tables_of(case)), json.dumps(calendars_of(case))))
     page.type('#question', text_of(case))
     read = page.wait(SHOWN, READ)
     if case.number != 0:
@@ -117,7 +138,7 @@ def hold(page, seen, case):
     seen.same('%s by loops' % case.name, read['loops'], words)
     seen.same('%s by plan' % case.name, read['plan'], words)
     seen.same('%s lines' % case.name, read['lines'], case.plan)
-    seen.same('%s bytes' % case.name, read['bytes'], question(case.ask, case.tables).hex())
+    seen.same('%s bytes' % case.name, read['bytes'], question(case.ask, case.tables, case.calendars).hex())
     seen.same('%s operators' % case.name, read['operators'], case.plan.count('\n'))
     seen.so('%s said' % case.name, read['same'] == 'Both answers are the same, word for word.', read['same'])
     if len(case.gives) <= 300:
@@ -219,6 +240,51 @@ def editing(page, seen):
     page.type(table + ' input.number', '3')
     page.wait(SHOWN)
     seen.same('and all is well again', page.value(READ)['loops'], '3 7 1 8 1 8 2')
+
+
+def calendars(page, seen):
+    """Calendars typed, asked in a question, and what they are at a minute."""
+    fresh(page)
+    said = '#calendars .calendar:nth-child(%d) p'
+    page.wait("document.querySelector('%s').textContent !== ''" % (said % 1))
+    seen.same('open now', [page.text('#moment-said'), page.text(said % 1)], ['Tue 2026-11-17 09:30 (minute 14137050)', 'open'])
+    asked = 'set{ (k.hour, open(lock, 14136480 + 60 * k.hour)) | k <- locks }'
+    seen.same('hours of a day', ask(page, asked)['loops'], '3 6 1 7 1 18 0')
+    page.click('#add-calendar')
+    second = '#calendars .calendar:nth-child(2) '
+    page.type(second + 'input.name', 'quay')
+    page.type(second + 'textarea', 'Tue 07:00-07:01 Thu 18:00-24:00')
+    page.type('#moment', '14137050')
+    page.wait("document.querySelector('%s').textContent.startsWith('closed')" % (said % 2))
+    seen.same('a minute by its number', page.text('#moment-said'), 'Tue 2026-11-17 09:30 (minute 14137050)')
+    seen.same('it opens', page.text(said % 2), 'closed; it opens Thu 2026-11-19 18:00 (minute 14140440)')
+    read = ask(page, 'set{ k.hour | k <- locks, open(quay, 14136480 + 60 * k.hour) or open(1, 14139360 + 60 * k.hour) }')
+    seen.same('typed hours', read['loops'], '2 7 18')
+    seen.so('named in the plan', 'open(quay, 14136480 + 60 * locks.hour)' in page.text('#plan'), page.text('#plan'))
+    page.picture(PICTURES / 'calendars.png')
+    read = ask(page, 'set{ k.hour | k <- locks, open(quay, 0) or open(2, k.hour) }')
+    seen.same('not lent is marked', [read['said'], read['mark']], ['Refused 42 (a calendar that is not lent): there is no calendar 2.', 'open(2, k.hour)'])
+    seen.so('meant calendar', "is 'quay' meant" in ask(page, 'some{ open(kuay, 0) }')['said'], page.text('#said'))
+    for moment, shown in (('2026-02-29', 'Refused 41 ('), ('soon', 'A minute is written'), ('-5', 'minute -5'), ('2399-12-31 23:59', 'Fri 2399-12-31 23:59 (')):
+        page.type('#moment', moment)
+        page.wait("document.getElementById('moment-said').textContent.startsWith(%s)" % json.dumps(shown))
+    seen.same('no more', page.text(said % 2), 'closed; it opens no more')
+    page.type(second + 'textarea', 'Tue 07:00-07:01 Thu 18:00-06:00')
+    page.wait(SHOWN)
+    seen.same('a window that ends before it begins', page.text('#said'),
+              'Refused 41 (a calendar that breaks its layout, or a fifth one): Calendar quay: Thu 18:00-06:00.')
+    seen.same('it is marked', page.value("[...document.querySelectorAll('.wrong')].map(each => each.value)"), ['Tue 07:00-07:01 Thu 18:00-06:00'])
+    page.wait("!document.querySelector('.typing')")
+    page.picture(PICTURES / 'hours.png')
+    page.type(second + 'textarea', 'Tue 7 to 8')
+    page.wait(SHOWN)
+    seen.so('no hours', page.text('#said').startswith("Calendar quay: 'to' is neither weekdays"), page.text('#said'))
+    page.type(second + 'textarea', 'never')
+    page.type(second + 'input.name', 'lock')
+    page.wait(SHOWN)
+    seen.same('a name twice', page.text('#said'), "Calendar lock: another calendar is called 'lock', too.")
+    page.click(second + 'button')
+    seen.same('hours again', ask(page, asked)['loops'], '3 6 1 7 1 18 0')
 
 
 def opened(page, seen, folder):
@@ -328,6 +394,22 @@ def at_seats(page, seen):
     page.type('#tables .table:nth-child(1) td input', '5')
     page.wait('!seats[0].unfinished')
     seen.so('tables changed', 'given up' in page.value('seats[0].said.textContent'))
+    page.type('.seat:nth-child(1) textarea', 'set{ (k.berth, k.hour) | k <- locks, open(lock, 14136480 + 60 * k.hour) }')
+    page.click('.seat:nth-child(1) button')
+    page.wait('seats[0].unfinished')
+    page.click('#run')
+    page.wait('!running && !seats[0].unfinished')
+    seen.same('hours at a seat', page.value("[...seats[0].answer.querySelectorAll('td')].map(cell => cell.textContent).join(' ')"), '1 6 2 7')
+    page.click('.seat:nth-child(1) button')
+    page.wait('seats[0].unfinished')
+    page.type('#calendars textarea', 'Tue 18:00-19:00')
+    page.wait('!seats[0].unfinished')
+    seen.so('calendars changed', 'given up' in page.value('seats[0].said.textContent'))
+    page.click('.seat:nth-child(1) button')
+    page.wait('seats[0].unfinished')
+    page.click('#run')
+    page.wait('!running && !seats[0].unfinished')
+    seen.same('other hours at a seat', page.value("[...seats[0].answer.querySelectorAll('td')].map(cell => cell.textContent).join(' ')"), '1 18')
 
 
 def other_panels(page, seen):
@@ -361,6 +443,7 @@ def main():
         faults(page, beside)
         between(page, beside)
         editing(page, beside)
+        calendars(page, beside)
         opened(page, beside, folder)
         shuffled(page, beside)
         long_question(page, beside, folder)

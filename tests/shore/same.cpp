@@ -4,6 +4,7 @@
 
 #include <cstddef>
 #include <cstdint>
+#include <initializer_list>
 
 #include "dislogha.h"
 
@@ -67,6 +68,7 @@ struct Said {
 
 struct Input {
     Bytes data;
+    Bytes calendars;
     Bytes question;
 };
 
@@ -86,7 +88,7 @@ template <class Buffer> Said left(Result result, const Buffer &buffer) noexcept 
 Said check(const Input &input, std::size_t words) noexcept {
     const auto lent = scratch[0].lend(words);
     Sum sum;
-    const Result result = dislogha::check(input.data, input.question, lent);
+    const Result result = dislogha::check(input.data, input.calendars, input.question, lent);
     scratch[0].add_to(sum);
     return said(result, sum);
 }
@@ -94,13 +96,13 @@ Said check(const Input &input, std::size_t words) noexcept {
 template <class Call> Said answered(Call call, const Input &input, std::size_t words) noexcept {
     const auto lent = scratch[0].lend(dislogha::scratch_words);
     const auto buffer = answer[0].lend(words);
-    return left(call(input.data, input.question, lent, buffer), answer[0]);
+    return left(call(input.data, input.calendars, input.question, lent, buffer), answer[0]);
 }
 
 Said printed(const Input &input, std::size_t bytes) noexcept {
     const auto lent = scratch[0].lend(dislogha::scratch_words);
     const auto buffer = lines.lend(bytes);
-    return left(dislogha::plan_lines(input.data, input.question, lent, buffer), lines);
+    return left(dislogha::plan_lines(input.data, input.calendars, input.question, lent, buffer), lines);
 }
 
 void add(Sum &sum, const dislogha::Portion &portion) noexcept {
@@ -115,11 +117,11 @@ Said in_portions(const Input &input) noexcept {
     const auto lent = scratch[0].lend(dislogha::scratch_words);
     const auto buffer = answer[0].lend(most_words);
     Sum sum;
-    Result result = dislogha::begin(input.data, input.question, lent);
+    Result result = dislogha::begin(input.data, input.calendars, input.question, lent);
     scratch[0].add_to(sum);
     std::uint64_t rows = 1;
     while (result.outcome == dislogha::Outcome::answered) {
-        const auto portion = dislogha::portion(input.data, scratch[0].again(), buffer, rows);
+        const auto portion = dislogha::portion(input.data, input.calendars, scratch[0].again(), buffer, rows);
         add(sum, portion);
         if (!portion.unfinished()) {
             result = {portion.outcome, portion.refusal, portion.length};
@@ -144,10 +146,10 @@ Said in_rounds(const Input &input) noexcept {
     Result result{};
     for (std::size_t i = 0; i < seats; i++) {
         lent[i] = {scratch[i].lend(dislogha::scratch_words), answer[i].lend(64)};
-        result = dislogha::begin(input.data, input.question, lent[i].scratch);
+        result = dislogha::begin(input.data, input.calendars, input.question, lent[i].scratch);
     }
     for (std::size_t i = 0; i < rounds && result.outcome == dislogha::Outcome::answered; i++) {
-        const auto round = dislogha::round(input.data, quotas, lent);
+        const auto round = dislogha::round(input.data, input.calendars, quotas, lent);
         sum.add(static_cast<std::uint64_t>(round.refusal));
         for (const auto &seat : round.seats) {
             add(sum, seat);
@@ -164,7 +166,65 @@ Said in_rounds(const Input &input) noexcept {
     return said(result, sum);
 }
 
-constexpr std::uint32_t made = 12;
+// Numbers made of an input's bytes, so that each has its own.
+class Numbers {
+  public:
+    explicit Numbers(const Input &input) noexcept {
+        for (const Bytes &bytes : {input.data, input.calendars, input.question}) {
+            for (std::size_t i = 0; i < bytes.count(); i++) {
+                sum_.add(bytes.first()[i]);
+            }
+        }
+    }
+    std::uint64_t next() noexcept {
+        sum_.add(1);
+        return sum_.sum();
+    }
+
+  private:
+    Sum sum_;
+};
+
+// The first open minutes of each calendar, and of one that is not lent: about the years, and anywhere in 64 bits. How many were found is the length; their
+// refusals are in the sum, and so are those of dates.
+Said first_open(const Input &input) noexcept {
+    Numbers numbers(input);
+    Sum sum;
+    Result result{};
+    for (std::uint64_t i = 0; i < 20; i++) {
+        const std::uint64_t any = numbers.next();
+        const auto minute = static_cast<std::int64_t>(i % 4 == 0 ? any : any % 240000000) - (i % 4 == 0 ? 0 : 10000000);
+        const auto told = dislogha::first_open(input.calendars, i % 5, minute);
+        sum.add(static_cast<std::uint64_t>(told.refusal));
+        sum.add(told.found ? 1 : 0);
+        sum.add(told.minute);
+        result.length += told.found ? 1 : 0;
+    }
+    return said(result, sum);
+}
+
+// Days as dates and back, some of them outside the years, and dates that may not exist.
+Said dates(const Input &input) noexcept {
+    Numbers numbers(input);
+    Sum sum;
+    Result result{};
+    for (std::size_t i = 0; i < 20; i++) {
+        const auto date = dislogha::date(i == 0 ? numbers.next() : numbers.next() % 150000);
+        const auto again = dislogha::day_number(date.year, date.month, date.day);
+        const std::uint64_t year = 1990 + numbers.next() % 420;
+        const std::uint64_t month = numbers.next() % 14;
+        const auto day = dislogha::day_number(year, month, numbers.next() % 33);
+        for (const std::uint64_t word : {static_cast<std::uint64_t>(date.refusal), date.year, date.month, date.day,
+                                         static_cast<std::uint64_t>(again.refusal), again.day,
+                                         static_cast<std::uint64_t>(day.refusal), day.day}) {
+            sum.add(word);
+        }
+        result.length += day.outcome == dislogha::Outcome::answered ? 1 : 0;
+    }
+    return said(result, sum);
+}
+
+constexpr std::uint32_t made = 14;
 
 // The calls with what is enough and what is not.
 void make(const Input &input, Said *out) noexcept {
@@ -180,6 +240,8 @@ void make(const Input &input, Said *out) noexcept {
     *out++ = printed(input, shown.length - (shown.length > 0));
     *out++ = in_portions(input);
     *out++ = in_rounds(input);
+    *out++ = first_open(input);
+    *out++ = dates(input);
 }
 
 // A slice behind four bytes of its length.
@@ -199,7 +261,7 @@ extern "C" std::uint32_t words_for(const std::uint8_t *inputs, std::uint32_t byt
     std::uint32_t words = 0;
     Bytes passed;
     for (const std::uint8_t *at = inputs; at != inputs + bytes; words += made * 3) {
-        at = slice(slice(at, passed), passed);
+        at = slice(slice(slice(at, passed), passed), passed);
     }
     return words;
 }
@@ -209,7 +271,7 @@ extern "C" std::uint32_t run(const std::uint8_t *inputs, std::uint32_t bytes, st
     const std::uint8_t *at = inputs;
     for (std::uint32_t i = 0; i < most && at != inputs + bytes; i++) {
         Input input;
-        at = slice(slice(at, input.data), input.question);
+        at = slice(slice(slice(at, input.data), input.calendars), input.question);
         Said all[made];
         make(input, all);
         for (const Said &each : all) {

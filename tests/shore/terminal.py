@@ -81,6 +81,12 @@ def edited(at):
     at.wait(PROMPT)
     at.type('.runn\t\n')
     at.wait('no question goes on')
+    at.wait(PROMPT)
+    at.type('.calendar lock Sat 00:00-00:01\n')
+    at.wait('lock: 1 window, calendar 0')
+    at.wait(PROMPT)
+    at.type('some{ open(lo\t, 10080) }\n')
+    at.wait(r'\ntrue\r')
 
 
 def stopped(at):

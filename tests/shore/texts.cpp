@@ -10,6 +10,7 @@
 
 #include "ask.h"
 #include "hexadecimal.h"
+#include "hours.h"
 #include "records.h"
 
 using namespace shore;
@@ -26,9 +27,10 @@ Table table(const char *name, int number, std::vector<std::string> columns) {
     return made;
 }
 
-const Tables &harbour() {
-    static const Tables tables = {table("berths", 0, {"berth", "depth"}), table("bollards", 5, {"berth", "pull"})};
-    return tables;
+const Stored &harbour() {
+    static const Stored stored = {{table("berths", 0, {"berth", "depth"}), table("bollards", 5, {"berth", "pull"})},
+                                  {{"quay", {}}, {"lock", {{5, 480, 720}}}}};
+    return stored;
 }
 
 [[noreturn]] void wrong(const char *what, const std::string &text) {
@@ -53,7 +55,7 @@ template <class Limits> bool placed(const text::Typed<Limits> &typed, const std:
 void hold_engine_sized(const Question &question) {
     static text::Tree<text::Accepted> tree;
     static text::Typed<> typed;
-    text::read(chars_of(question.typed), schema_of(question.tables), tree, typed);
+    text::read(chars_of(question.typed), schema_of(question.stored), tree, typed);
     if (!inside(typed.fault.at, question.typed) || !placed(typed, question.typed)) {
         wrong("a place outside the text", question.typed);
     }
@@ -66,6 +68,19 @@ void hold_engine_sized(const Question &question) {
     }
 }
 
+// A text may also be that of hours, which then give themselves again, and of a day or minute.
+void hold_hours(const std::string &text) {
+    const WindowsReading hours(text);
+    const WindowsReading again(windows_text(hours.windows()));
+    if (hours.fault().empty() && packed(Calendar{"", again.windows()}) != packed(Calendar{"", hours.windows()})) {
+        wrong("other hours", text);
+    }
+    const MomentReading moment(text, minutes_of_day);
+    if (!moment.wrong() && moment.number() == 0) {
+        shown(moment.moment());
+    }
+}
+
 // 1 where the text is understood.
 std::size_t hold(Engine &engine, const std::string &text) {
     // A text may also be that of tables.
@@ -73,6 +88,7 @@ std::size_t hold(Engine &engine, const std::string &text) {
     if (!inside(names.fault.at, text)) {
         wrong("a place outside the tables", text);
     }
+    hold_hours(text);
     const Question question(text, harbour());
     hold_engine_sized(question);
     if (!inside(question.fault.at, text)) {
@@ -89,8 +105,7 @@ std::size_t hold(Engine &engine, const std::string &text) {
         wrong("another question by its own text", text + "\n  " + written);
     }
     const std::uint64_t number = engine.check(packed(harbour()), question.bytes);
-    // Kind 21 has a text before the engine takes it (request E4).
-    if (number == breaks_bytes && written.find("open(") == std::string::npos) {
+    if (number == breaks_bytes) {
         wrong("22", text);
     }
     if (number != 0 && !inside(Locating(engine, packed(harbour()), question, number).located().at, text)) {
@@ -130,7 +145,7 @@ std::string broken(std::string text, Random &random) {
     static const std::vector<std::string> pieces = {
         "berths", "bollards", "b", ".", "berth", "pull", "{", "}", "(", ")", ",", "|", "<-", "sum{", "bag{", "set{ 1 }",
         "let x = ", "1", "-", "2147483648", "#3", "#256", "@1", "@5", " not ", " and ", "=", "<", ">=", "\xc3\xa9", "//", "$",
-        "x: ", "if ", " then ", " else ", "open(", "open(1, 2)", "min{ 1 }", "\n", std::string(1, '\0'), "((((((((", "-b"};
+        "x: ", "if ", " then ", " else ", "open(", "open(1, 2)", "open(lock, 2)", "quay", "min{ 1 }", "\n", std::string(1, '\0'), "((((((((", "-b"};
     for (std::size_t i = random.below(3) + 1; i > 0; i--) {
         const std::size_t at = random.below(text.size() + 1);
         switch (random.below(3)) {
@@ -145,7 +160,7 @@ std::string broken(std::string text, Random &random) {
 // Texts that a random change does not come upon.
 std::vector<std::string> deep() {
     std::vector<std::string> texts;
-    for (const char *piece : {"(", "sum{ ", "not ", "-", "if ", "(1, ", "open(0, ", "1 + ", "sum{ 1 | x <- ", "1 + (", "x."}) {
+    for (const char *piece : {"(", "sum{ ", "not ", "-", "if ", "(1, ", "open(0, ", "open(lock, ", "1 + ", "sum{ 1 | x <- ", "1 + (", "x."}) {
         std::string text;
         for (int i = 0; i < 20000; i++) {
             text += piece;
@@ -157,6 +172,10 @@ std::vector<std::string> deep() {
         many += (i == 0 ? " | " : ", ") + ("x" + std::to_string(i)) + " <- berths";
     }
     texts.push_back("sum{ 1" + many + " }");
+    for (const char *text : {"", "Mon", "Mon-Sun 00:00-24:00, 7 99:59-00:00", "255 0:00-0:01 256", "never", "-", "-7", "2026-11-17", "2026-11-17T09:30",
+                             "2026-11-17 ", "--", "0-0-0", "999999999999", "9999999999999", "-999999999999"}) {
+        texts.push_back(text);
+    }
     return texts;
 }
 

@@ -44,9 +44,13 @@ def literal(text):
     return ' '.join('"%s"' % text[at:at + 400] for at in range(0, max(len(text), 1), 400))
 
 
+def names_calendar(case):
+    return any(re.search(r'\bopen\(%s\b' % calendar.name, case.ask) for calendar in case.calendars)
+
+
 def schema(case):
-    """The names of the tables that a question names, those that are not there included. Records that
-    repeat a number or have none are the engine's to refuse."""
+    """The names of the tables that a question names, those that are not there included, and those of calendars
+    where it names one. Records that repeat a number or have none are the engine's to refuse."""
     written, numbers, names = [], set(), set()
     for place, table in enumerate(case.tables + case.absent):
         if not re.search(r'\b%s\b' % table.name, case.ask):
@@ -57,11 +61,13 @@ def schema(case):
         numbers.add(number)
         names.add(table.name)
         written.append('@%d %s(%s)' % (number, table.name, ', '.join(table.columns)))
+    if names_calendar(case):
+        written.append('open{%s}' % ', '.join(calendar.name for calendar in case.calendars))
     return ' '.join(written)
 
 
 def assertion(at, case):
-    asked = question(case.ask, case.tables + case.absent)
+    asked = question(case.ask, case.tables + case.absent, case.calendars)
     words = {'at': at, 'name': case.name, 'ask': literal(case.ask), 'tables': literal(schema(case)),
              'bytes': ','.join(map(str, asked))}
     if len(asked) > MOST_BYTES or case.number == TOO_MANY:

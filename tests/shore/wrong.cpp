@@ -4,14 +4,16 @@
 
 extern "C" {
 
-dislogha_result __real_dislogha_answer_by_plan(const std::uint8_t *, std::size_t, const std::uint8_t *, std::size_t,
-                                               std::uint64_t *, std::size_t, std::int64_t *, std::size_t) noexcept;
+dislogha_result __real_dislogha_answer_by_plan(const std::uint8_t *, std::uint64_t, const std::uint8_t *, std::uint64_t,
+                                               const std::uint8_t *, std::uint64_t, std::uint64_t *, std::uint64_t,
+                                               std::int64_t *, std::uint64_t) noexcept;
 
-dislogha_result __wrap_dislogha_answer_by_plan(const std::uint8_t *data, std::size_t data_bytes, const std::uint8_t *question,
-                                               std::size_t question_bytes, std::uint64_t *scratch, std::size_t scratch_words,
-                                               std::int64_t *answer, std::size_t answer_words) noexcept {
-    const auto result = __real_dislogha_answer_by_plan(data, data_bytes, question, question_bytes, scratch, scratch_words,
-                                                       answer, answer_words);
+dislogha_result __wrap_dislogha_answer_by_plan(const std::uint8_t *data, std::uint64_t data_bytes, const std::uint8_t *calendars,
+                                               std::uint64_t calendars_bytes, const std::uint8_t *question,
+                                               std::uint64_t question_bytes, std::uint64_t *scratch, std::uint64_t scratch_words,
+                                               std::int64_t *answer, std::uint64_t answer_words) noexcept {
+    const auto result = __real_dislogha_answer_by_plan(data, data_bytes, calendars, calendars_bytes, question, question_bytes,
+                                                       scratch, scratch_words, answer, answer_words);
     if (result.number == 0) {
         answer[result.length - 1]++;
     }
