@@ -140,14 +140,15 @@ void read(const std::string &path, const std::string &name, Input &input) {
 }
 
 // By plan in as few portions as there can be.
-dislogha::Result answer_in_portions(dislogha::Bytes data, dislogha::Bytes question,
-                                    dislogha::Words scratch, dislogha::Answer answer) noexcept {
-    const dislogha::Result begun = dislogha::begin(data, question, scratch);
+dislogha::Result answer_in_portions(dislogha::Bytes data, dislogha::Bytes calendars,
+                                    dislogha::Bytes question, dislogha::Words scratch,
+                                    dislogha::Answer answer) noexcept {
+    const dislogha::Result begun = dislogha::begin(data, calendars, question, scratch);
     if (begun.outcome != dislogha::Outcome::answered)
         return begun;
     dislogha::Portion portion{};
     do
-        portion = dislogha::portion(data, scratch, answer, dislogha::most_rows);
+        portion = dislogha::portion(data, calendars, scratch, answer, dislogha::most_rows);
     while (portion.unfinished());
     return {portion.outcome, portion.refusal, portion.length};
 }
@@ -162,7 +163,7 @@ class Engine {
     // The engine's words, and its number: buffers of one vector each never overlap.
     std::uint64_t run(const Bytes &data, const Bytes &question, Words &words) {
         const dislogha::Result result =
-            answer_by({data.data(), data.size()}, {question.data(), question.size()},
+            answer_by({data.data(), data.size()}, {}, {question.data(), question.size()},
                       {scratch.data(), scratch.size()}, {answer.data(), answer.size()});
         words.assign(answer.data(), answer.data() + result.length);
         return static_cast<std::uint64_t>(result.refusal);

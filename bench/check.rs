@@ -31,7 +31,7 @@ fn main() -> ExitCode {
     };
     let mut scratch = vec![0; SCRATCH];
     let (data, question) = listing();
-    let usual = fastest(|| check(&data, &question, &mut scratch));
+    let usual = fastest(|| check(&data, &[], &question, &mut scratch));
     let clearing = fastest(|| black_box(&mut scratch).fill(0));
     println!("a check uses at most {USED} scratch words, and clears {SCRATCH}");
     println!("      ns  listings");
@@ -39,7 +39,7 @@ fn main() -> ExitCode {
     println!("{usual:8.0}  {:8.2}  the listing", 1.0);
     for (by_column, kind) in [(false, "by row"), (true, "by column")] {
         let full = full_tables(by_column);
-        let judged = fastest(|| check(&full, &question, &mut scratch));
+        let judged = fastest(|| check(&full, &[], &question, &mut scratch));
         println!(
             "{judged:8.0}  {:8.2}  its question over 8 tables of 1,024 x 8 cells {kind}",
             judged / usual
@@ -49,7 +49,7 @@ fn main() -> ExitCode {
         .into_iter()
         .filter(|case| !case.name.contains("/random-"));
     let mut measure = |case: Case| {
-        let time = fastest(|| check(&case.data, &case.question, &mut scratch));
+        let time = fastest(|| check(&case.data, &case.calendars, &case.question, &mut scratch));
         (time, case.name)
     };
     let mut times: Vec<_> = named.map(&mut measure).collect();
@@ -67,7 +67,7 @@ fn longest_made() -> Vec<Case> {
     let mut times: Vec<(Duration, u64)> = Vec::new();
     for index in 0..MADE {
         let input = generate(1, index);
-        let call = || check(&input.data, &input.question, &mut scratch);
+        let call = || check(&input.data, &input.calendars, &input.question, &mut scratch);
         times.push((fastest_of(5, call), index));
     }
     times.sort();
@@ -76,6 +76,7 @@ fn longest_made() -> Vec<Case> {
         Case {
             name: format!("input {index} ({:?})", input.family),
             data: input.data,
+            calendars: input.calendars,
             question: input.question,
         }
     };

@@ -22,19 +22,31 @@ fn main() -> ExitCode {
     };
     let mut scratch = vec![0; SCRATCH];
     let mut text = vec![0; LENT];
-    let mut bytes_of =
-        |case: &Case| plan_lines(&case.data, &case.question, &mut scratch, &mut text).length;
-    cases.sort_by_cached_key(|case| std::cmp::Reverse(bytes_of(case)));
+    let mut planned = |case: &Case| {
+        let Case {
+            data,
+            calendars,
+            question,
+            ..
+        } = case;
+        plan_lines(data, calendars, question, &mut scratch, &mut text).length
+    };
+    cases.sort_by_cached_key(|case| std::cmp::Reverse(planned(case)));
     println!("   bytes        ns    checks  plan of");
     for case in cases.iter().take(SHOWN) {
-        let bytes = plan_lines(&case.data, &case.question, &mut scratch, &mut text).length;
-        let checked = fastest(|| check(&case.data, &case.question, &mut scratch));
-        let planned = fastest(|| plan_lines(&case.data, &case.question, &mut scratch, &mut text));
+        let bytes = planned(case);
+        let times = fastest(|| planned(case));
         println!(
-            "{bytes:8}  {planned:8.0}  {:8.2}  {}",
-            planned / checked,
+            "{bytes:8}  {times:8.0}  {:8.2}  {}",
+            times / checked_in(case),
             case.name
         );
     }
     ExitCode::SUCCESS
+}
+
+/// Nanoseconds of a check.
+fn checked_in(case: &Case) -> f64 {
+    let mut scratch = vec![0; SCRATCH];
+    fastest(|| check(&case.data, &case.calendars, &case.question, &mut scratch))
 }

@@ -7,7 +7,10 @@
 //
 // Questions are document 01's, with request E1's min (monoid 8) and request E2's choice (kind 19):
 // three terms (else 22), a truth and then two numbers or two truths (else 25); it is the first of the
-// two where the truth is true, else the second, and in the plan's lines (if c a b).
+// two where the truth is true, else the second, and in the plan's lines (if c a b). Request E4's open
+// minute (kind 21) is one byte of calendar and one term (else 22), a number (else 25), of a calendar that is
+// lent (else 42): true where that minute lies in a window of its weekday in that calendar, else false,
+// and in the plan's lines (open n e).
 //
 // Tables are document 01's, with request E9's number ahead of the collection byte and request E5's
 // bounds between row count and cells. Behind length and kind 20 a record has one byte of number (0
@@ -22,9 +25,17 @@
 // as 0, 1, 2, 3. Data may have both kinds; which one a table is in changes no answer and no refusal.
 // `table_to_columns` and `table_to_rows` turn one record into the other kind.
 //
+// Calendars (request E4) are a span of their own in every call that reads or runs a question, `{}` where
+// there are none: up to 4 records of kind 24, numbered by position from 0. A record has one byte of
+// windows (0 to 32), then the windows, each one byte of weekday (0 Monday to 6 Sunday) and two bytes each
+// of a first and an end minute of that day (0 to 1,440, the end after the first). A window includes its
+// first minute and not its end; windows may overlap and stand in any order. Day 0 is 2000-01-01, a
+// Saturday, and minute 0 its midnight; minutes before it and from 2400-01-01 on are never open.
+// `first_open` seeks an open minute, `day_number` and `date` go from dates to day numbers and back.
+//
 // What the engine promises holds for buffers that do not overlap. A wrapper tests that first:
 // where a span that is written shares a byte with another one, it makes no call, changes nothing
-// and gives `Outcome::overlapping`. Data and question are only read, and may overlap each other.
+// and gives `Outcome::overlapping`. Data, calendars and question are only read, and may overlap one another.
 #ifndef DISLOGHA_H
 #define DISLOGHA_H
 
@@ -55,51 +66,88 @@ struct dislogha_round_result {
     dislogha_portioned seats[4];
 };
 
+// 0, 1 and the first open minute, or 0 and zeros where there is none; or a refusal's number and zeros.
+struct dislogha_first_open_result {
+    std::uint64_t number;
+    std::uint64_t found;
+    std::uint64_t minute;
+};
+
+// 0 and the day number, or a refusal's number and 0.
+struct dislogha_day_number_result {
+    std::uint64_t number;
+    std::uint64_t day;
+};
+
+// 0 and the date, or a refusal's number and zeros.
+struct dislogha_date_result {
+    std::uint64_t number;
+    std::uint64_t year;
+    std::uint64_t month;
+    std::uint64_t day;
+};
+
 // A slice is a pointer and a count of its elements, of 64 bits on every target; an empty one may
 // have any pointer.
 dislogha_result dislogha_check(const std::uint8_t *data, std::uint64_t data_bytes,
+                               const std::uint8_t *calendars, std::uint64_t calendars_bytes,
                                const std::uint8_t *question, std::uint64_t question_bytes,
                                std::uint64_t *scratch, std::uint64_t scratch_words) noexcept;
 
 dislogha_result dislogha_answer_by_loops(const std::uint8_t *data, std::uint64_t data_bytes,
+                                         const std::uint8_t *calendars, std::uint64_t calendars_bytes,
                                          const std::uint8_t *question, std::uint64_t question_bytes,
                                          std::uint64_t *scratch, std::uint64_t scratch_words,
                                          std::int64_t *answer, std::uint64_t answer_words) noexcept;
 
 dislogha_result dislogha_answer_by_plan(const std::uint8_t *data, std::uint64_t data_bytes,
+                                        const std::uint8_t *calendars, std::uint64_t calendars_bytes,
                                         const std::uint8_t *question, std::uint64_t question_bytes,
                                         std::uint64_t *scratch, std::uint64_t scratch_words,
                                         std::int64_t *answer, std::uint64_t answer_words) noexcept;
 
 dislogha_result dislogha_plan_lines(const std::uint8_t *data, std::uint64_t data_bytes,
+                                    const std::uint8_t *calendars, std::uint64_t calendars_bytes,
                                     const std::uint8_t *question, std::uint64_t question_bytes,
                                     std::uint64_t *scratch, std::uint64_t scratch_words,
                                     std::uint8_t *lines, std::uint64_t lines_bytes) noexcept;
 
 dislogha_result dislogha_begin(const std::uint8_t *data, std::uint64_t data_bytes,
+                               const std::uint8_t *calendars, std::uint64_t calendars_bytes,
                                const std::uint8_t *question, std::uint64_t question_bytes,
                                std::uint64_t *scratch, std::uint64_t scratch_words) noexcept;
 
 dislogha_portioned dislogha_portion(const std::uint8_t *data, std::uint64_t data_bytes,
+                                    const std::uint8_t *calendars, std::uint64_t calendars_bytes,
                                     std::uint64_t *scratch, std::uint64_t scratch_words,
                                     std::int64_t *answer, std::uint64_t answer_words,
                                     std::uint64_t rows) noexcept;
 
 // There are as many seats as quotas; what is lent for later ones is not looked at.
 dislogha_round_result
-dislogha_round(const std::uint8_t *data, std::uint64_t data_bytes, const std::uint64_t *quotas,
-               std::uint64_t seats, std::uint64_t *scratch1, std::uint64_t scratch1_words,
-               std::int64_t *answer1, std::uint64_t answer1_words, std::uint64_t *scratch2,
-               std::uint64_t scratch2_words, std::int64_t *answer2, std::uint64_t answer2_words,
-               std::uint64_t *scratch3, std::uint64_t scratch3_words, std::int64_t *answer3,
-               std::uint64_t answer3_words, std::uint64_t *scratch4, std::uint64_t scratch4_words,
-               std::int64_t *answer4, std::uint64_t answer4_words) noexcept;
+dislogha_round(const std::uint8_t *data, std::uint64_t data_bytes, const std::uint8_t *calendars,
+               std::uint64_t calendars_bytes, const std::uint64_t *quotas, std::uint64_t seats,
+               std::uint64_t *scratch1, std::uint64_t scratch1_words, std::int64_t *answer1,
+               std::uint64_t answer1_words, std::uint64_t *scratch2, std::uint64_t scratch2_words,
+               std::int64_t *answer2, std::uint64_t answer2_words, std::uint64_t *scratch3,
+               std::uint64_t scratch3_words, std::int64_t *answer3, std::uint64_t answer3_words,
+               std::uint64_t *scratch4, std::uint64_t scratch4_words, std::int64_t *answer4,
+               std::uint64_t answer4_words) noexcept;
 
 dislogha_result dislogha_table_to_columns(const std::uint8_t *record, std::uint64_t record_bytes,
                                           std::uint8_t *target, std::uint64_t target_bytes) noexcept;
 
 dislogha_result dislogha_table_to_rows(const std::uint8_t *record, std::uint64_t record_bytes,
                                        std::uint8_t *target, std::uint64_t target_bytes) noexcept;
+
+dislogha_first_open_result dislogha_first_open(const std::uint8_t *calendars,
+                                               std::uint64_t calendars_bytes, std::uint64_t calendar,
+                                               std::int64_t minute) noexcept;
+
+dislogha_day_number_result dislogha_day_number(std::uint64_t year, std::uint64_t month,
+                                               std::uint64_t day) noexcept;
+
+dislogha_date_result dislogha_date(std::uint64_t day) noexcept;
 }
 
 namespace dislogha {
@@ -148,6 +196,11 @@ enum class Refusal : std::uint64_t {
     // at its record, after 12, 50 and 51.
     cell_beyond_bound = 43,
 
+    // Whoever packs the calendars, after all refusals of the data and before 21; and whoever names a day:
+    // A calendar record that breaks its layout, or a fifth one, whether or not the question asks for it;
+    // of `day_number` and `date` a date or day number that does not exist in the years 2000 to 2399.
+    calendar_or_date_out_of_range = 41,
+
     // Whoever types the question:
     // Over 4,096 bytes.
     question_too_long = 21,
@@ -159,6 +212,9 @@ enum class Refusal : std::uint64_t {
     name_does_not_hold = 24,
     // A type, field or table that does not fit, or a table's number that no record has.
     type_does_not_fit = 25,
+    // A calendar that is not lent; in a question over the whole of it, after 25 and before 26, of
+    // `first_open` after 41.
+    calendar_not_lent = 42,
     // A generator its monoid may not have.
     generator_not_allowed = 26,
     // A normal form over 512 nodes, each term, comprehension and qualifier being one, copies
@@ -210,6 +266,33 @@ struct Portion {
 
     // Whether another portion is due. After a refusal none is.
     constexpr bool unfinished() const noexcept { return outcome == Outcome::answered && !finished; }
+};
+
+struct FirstOpen {
+    Outcome outcome;
+    // The number, where the call refused; else 0, which is no refusal.
+    Refusal refusal;
+    // Whether there is an open minute at or after the given one, and the first of them; else 0.
+    bool found;
+    std::uint64_t minute;
+};
+
+struct DayNumber {
+    Outcome outcome;
+    // 41, where the date does not exist; else 0, which is no refusal.
+    Refusal refusal;
+    // Days from 2000-01-01 on.
+    std::uint64_t day;
+};
+
+struct Date {
+    Outcome outcome;
+    // 41, where the day number does not exist; else 0, which is no refusal.
+    Refusal refusal;
+    // 2000 to 2399, months and days from 1.
+    std::uint64_t year;
+    std::uint64_t month;
+    std::uint64_t day;
 };
 
 // Elements that belong to the caller.
@@ -289,44 +372,50 @@ inline Portion portion_of(dislogha_portioned said) noexcept {
 
 // A call that writes scratch alone.
 template <class Call>
-Result call_with(Call call, Bytes data, Bytes question, Words scratch) noexcept {
-    if (overlaps(scratch, data, question)) {
+Result call_with(Call call, Bytes data, Bytes calendars, Bytes question, Words scratch) noexcept {
+    if (overlaps(scratch, data, calendars, question)) {
         return overlapping;
     }
-    return result_of(call(data.first(), data.count(), question.first(), question.count(),
-                          scratch.first(), scratch.count()));
+    return result_of(call(data.first(), data.count(), calendars.first(), calendars.count(),
+                          question.first(), question.count(), scratch.first(), scratch.count()));
 }
 
-// The checker: `answered` and length 0 where the question is accepted over the tables.
-inline Result check(Bytes data, Bytes question, Words scratch) noexcept {
-    return call_with(dislogha_check, data, question, scratch);
+// The checker: `answered` and length 0 where the question is accepted over the tables and calendars.
+inline Result check(Bytes data, Bytes calendars, Bytes question, Words scratch) noexcept {
+    return call_with(dislogha_check, data, calendars, question, scratch);
 }
 
 // A call that writes into a buffer, too.
 template <class Call, class T>
-Result call_with(Call call, Bytes data, Bytes question, Words scratch, Span<T> buffer) noexcept {
-    if (overlaps(scratch, data, question, buffer) || overlaps(buffer, data, question)) {
+Result call_with(Call call, Bytes data, Bytes calendars, Bytes question, Words scratch,
+                 Span<T> buffer) noexcept {
+    if (overlaps(scratch, data, calendars, question, buffer) ||
+        overlaps(buffer, data, calendars, question)) {
         return overlapping;
     }
-    return result_of(call(data.first(), data.count(), question.first(), question.count(),
-                          scratch.first(), scratch.count(), buffer.first(), buffer.count()));
+    return result_of(call(data.first(), data.count(), calendars.first(), calendars.count(),
+                          question.first(), question.count(), scratch.first(), scratch.count(),
+                          buffer.first(), buffer.count()));
 }
 
 // The answer by loops: `answered` and the count of its words, which stand at the front of the
 // answer buffer. The words from there up to G are 0, later ones as they were.
-inline Result answer_by_loops(Bytes data, Bytes question, Words scratch, Answer answer) noexcept {
-    return call_with(dislogha_answer_by_loops, data, question, scratch, answer);
+inline Result answer_by_loops(Bytes data, Bytes calendars, Bytes question, Words scratch,
+                              Answer answer) noexcept {
+    return call_with(dislogha_answer_by_loops, data, calendars, question, scratch, answer);
 }
 
 // The answer by plan: number, length and words are those by loops.
-inline Result answer_by_plan(Bytes data, Bytes question, Words scratch, Answer answer) noexcept {
-    return call_with(dislogha_answer_by_plan, data, question, scratch, answer);
+inline Result answer_by_plan(Bytes data, Bytes calendars, Bytes question, Words scratch,
+                             Answer answer) noexcept {
+    return call_with(dislogha_answer_by_plan, data, calendars, question, scratch, answer);
 }
 
 // The plan's lines, byte 10 after each: `answered` and the count of their bytes, which stand at the
 // front of the buffer. Later bytes are as they were.
-inline Result plan_lines(Bytes data, Bytes question, Words scratch, Text lines) noexcept {
-    return call_with(dislogha_plan_lines, data, question, scratch, lines);
+inline Result plan_lines(Bytes data, Bytes calendars, Bytes question, Words scratch,
+                         Text lines) noexcept {
+    return call_with(dislogha_plan_lines, data, calendars, question, scratch, lines);
 }
 
 // A call that turns a record into the other kind.
@@ -358,29 +447,32 @@ inline Result table_to_rows(Bytes record, Target target) noexcept {
 //
 //     std::uint64_t rows = 0;
 //     auto portion = dislogha::Portion{};
-//     if (dislogha::begin(data, question, scratch).outcome == dislogha::Outcome::answered) {
+//     if (dislogha::begin(data, calendars, question, scratch).outcome ==
+//         dislogha::Outcome::answered) {
 //         do {
-//             portion = dislogha::portion(data, scratch, answer, 1000);
+//             portion = dislogha::portion(data, calendars, scratch, answer, 1000);
 //             show_progress(rows += portion.offered);
 //         } while (portion.unfinished());
 //     }
 //
 // `portion` says in the end what `answer_by_plan` would have said, and the words are the same. In
-// between another question may run over the same data, with a scratch and an answer buffer of its
-// own. What is lent must be as the last portion left it (at another address, if need be): else only
-// safety and an end are promised.
-inline Result begin(Bytes data, Bytes question, Words scratch) noexcept {
-    return call_with(dislogha_begin, data, question, scratch);
+// between another question may run over the same data and calendars, with a scratch and an answer
+// buffer of its own. What is lent must be as the last portion left it (at another address, if need
+// be): else only safety and an end are promised. (Of the calendars scratch has what it needs.)
+inline Result begin(Bytes data, Bytes calendars, Bytes question, Words scratch) noexcept {
+    return call_with(dislogha_begin, data, calendars, question, scratch);
 }
 
 // Offers exactly `rows` rows, 1 to 65,535, to the unfinished question in scratch, or all that
 // remain, if no more. While it is unfinished the answer buffer has no promised content; once it is
 // finished, with an answer or with 32, scratch is 0.
-inline Portion portion(Bytes data, Words scratch, Answer answer, std::uint64_t rows) noexcept {
-    if (overlaps(scratch, data, answer) || overlaps(answer, data)) {
+inline Portion portion(Bytes data, Bytes calendars, Words scratch, Answer answer,
+                       std::uint64_t rows) noexcept {
+    if (overlaps(scratch, data, calendars, answer) || overlaps(answer, data, calendars)) {
         return {Outcome::overlapping, Refusal{}, 0, false, 0};
     }
-    return portion_of(dislogha_portion(data.first(), data.count(), scratch.first(), scratch.count(),
+    return portion_of(dislogha_portion(data.first(), data.count(), calendars.first(),
+                                       calendars.count(), scratch.first(), scratch.count(),
                                        answer.first(), answer.count(), rows));
 }
 
@@ -406,22 +498,23 @@ template <class... Others> bool overlaps(const Seat &seat, Span<Others>... other
 //     while (open()) {
 //         for (std::size_t i = 0; i < 4; i++) {
 //             if (typed_at(i)) {
-//                 show(i, dislogha::begin(data, question_of(i), scratch[i]));
+//                 show(i, dislogha::begin(data, calendars, question_of(i), scratch[i]));
 //             }
 //         }
-//         const auto round = dislogha::round(data, quotas, seats);
+//         const auto round = dislogha::round(data, calendars, quotas, seats);
 //         for (std::size_t i = 0; i < round.visited; i++) {
 //             if (round.seats[i].finished) {
 //                 show(i, round.seats[i], answer[i]);
 //             }
 //         }
 //     }
-inline Round round(Bytes data, Quotas quotas, Span<const Seat> seats) noexcept {
+inline Round round(Bytes data, Bytes calendars, Quotas quotas, Span<const Seat> seats) noexcept {
     Seat lent[most_seats];
     Round told{Outcome::overlapping, Refusal{}, 0, {}};
     for (std::size_t i = 0; i < most_seats && i < seats.count(); i++) {
         lent[i] = seats.first()[i];
-        bool shared = overlap(lent[i].scratch, lent[i].answer) || overlaps(lent[i], data, quotas);
+        bool shared =
+            overlap(lent[i].scratch, lent[i].answer) || overlaps(lent[i], data, calendars, quotas);
         for (std::size_t j = 0; j < i; j++) {
             shared = shared || overlaps(lent[i], lent[j].scratch, lent[j].answer);
         }
@@ -429,13 +522,14 @@ inline Round round(Bytes data, Quotas quotas, Span<const Seat> seats) noexcept {
             return told;
         }
     }
-    const dislogha_round_result said = dislogha_round(
-        data.first(), data.count(), quotas.first(), quotas.count(), lent[0].scratch.first(),
-        lent[0].scratch.count(), lent[0].answer.first(), lent[0].answer.count(),
-        lent[1].scratch.first(), lent[1].scratch.count(), lent[1].answer.first(),
-        lent[1].answer.count(), lent[2].scratch.first(), lent[2].scratch.count(),
-        lent[2].answer.first(), lent[2].answer.count(), lent[3].scratch.first(),
-        lent[3].scratch.count(), lent[3].answer.first(), lent[3].answer.count());
+    const dislogha_round_result said =
+        dislogha_round(data.first(), data.count(), calendars.first(), calendars.count(),
+                       quotas.first(), quotas.count(), lent[0].scratch.first(),
+                       lent[0].scratch.count(), lent[0].answer.first(), lent[0].answer.count(),
+                       lent[1].scratch.first(), lent[1].scratch.count(), lent[1].answer.first(),
+                       lent[1].answer.count(), lent[2].scratch.first(), lent[2].scratch.count(),
+                       lent[2].answer.first(), lent[2].answer.count(), lent[3].scratch.first(),
+                       lent[3].scratch.count(), lent[3].answer.first(), lent[3].answer.count());
     const Result result = result_of({said.number, 0});
     told.outcome = result.outcome;
     told.refusal = result.refusal;
@@ -444,6 +538,29 @@ inline Round round(Bytes data, Quotas quotas, Span<const Seat> seats) noexcept {
         told.seats[i] = portion_of(said.seats[i]);
     }
     return told;
+}
+
+// The first open minute of a calendar at or after a signed one: `answered`, and whether there is one. The
+// calendars are judged whole (41) before the one that is asked for is sought (42).
+inline FirstOpen first_open(Bytes calendars, std::uint64_t calendar, std::int64_t minute) noexcept {
+    const auto told = dislogha_first_open(calendars.first(), calendars.count(), calendar, minute);
+    const Result result = result_of({told.number, 0});
+    return {result.outcome, result.refusal, told.found != 0, told.minute};
+}
+
+// The day number of a date of the years 2000 to 2399, months and days from 1. Minute 0 of that day is its
+// number times 1,440.
+inline DayNumber day_number(std::uint64_t year, std::uint64_t month, std::uint64_t day) noexcept {
+    const auto told = dislogha_day_number(year, month, day);
+    const Result result = result_of({told.number, 0});
+    return {result.outcome, result.refusal, told.day};
+}
+
+// The date of a day number, 0 to 146,096. Each of the two undoes the other.
+inline Date date(std::uint64_t day) noexcept {
+    const auto told = dislogha_date(day);
+    const Result result = result_of({told.number, 0});
+    return {result.outcome, result.refusal, told.year, told.month, told.day};
 }
 
 } // namespace dislogha

@@ -13,6 +13,7 @@ sys.dont_write_bytecode = True
 import edges  # noqa: E402
 import request_e1  # noqa: E402
 import request_e2  # noqa: E402
+import request_e4  # noqa: E402
 import request_e5  # noqa: E402
 import request_e9  # noqa: E402
 import request_e10  # noqa: E402
@@ -26,7 +27,7 @@ import source_004  # noqa: E402
 from notation import WIDEST  # noqa: E402
 
 SOURCES = [source_000, source_001, source_002, source_003, source_004, edges, request_e1, request_e2,
-           request_e5, request_e9, request_e10, request_e13]
+           request_e4, request_e5, request_e9, request_e10, request_e13]
 
 OPENING = '''# Example queries
 
@@ -47,7 +48,8 @@ reckoned again in plain Python; no engine was asked.
 Questions are in a small notation: `monoid{ head | qualifiers }` with `x <- term` for a generator,
 `let x = term` for a binding (the papers' ≡) and any other term for a condition; `(a, b)` is a
 record; `x.name` is the field of that column, `x.0` the first field; `if c then a else b` is a choice
-(document 02, E2). `a > b` is short for `b < a`,
+(document 02, E2), `open(Lock, a)` an open minute (document 02, E4), a calendar's name standing for its
+place among those of the case. `a > b` is short for `b < a`,
 `a <= b` for `not b < a`, `a >= b` for `not a < b`, `a != b` for `not a = b`. The tables of a case
 are numbered in the order in which they are given, where no other number (document 02, E9) stands behind
 a table's name. A table is by row where "by column" (document 02, E10) does not stand there; what such a
@@ -55,7 +57,7 @@ table then stores is given behind its rows, worked out by hand. A column is decl
 Each case's plan is in `tests/examples/cases`, written by hand too.
 
 A line of `tests/examples/cases` is one case, its fields separated by a tab: name, scratch words,
-data in hexadecimal, question in hexadecimal, the checker's number, G, the answer's words, the
+data, calendars and question in hexadecimal, the checker's number, G, the answer's words, the
 plan's lines with `\\n` for byte 10; `-` where there is nothing.
 '''
 
@@ -119,7 +121,32 @@ def tables_of(source):
 def names_of(case):
     stored = ', '.join(named(table) for table in case.tables)
     absent = ', '.join(named(table) for table in case.absent)
-    return stored + ('%snot there: %s' % ('; ' if stored else '', absent) if absent else '')
+    calendars = [calendar.name for calendar in case.calendars] + ['%d bytes 0' % case.tail] * (case.tail > 0)
+    parts = [stored, absent and 'not there: ' + absent, ', '.join(calendars)]
+    return '; '.join(part for part in parts if part)
+
+
+def calendars_of(source):
+    """The calendars of a source's cases, each once, in the order of their first use."""
+    calendars = {}
+    for case in source.CASES:
+        for calendar in case.calendars:
+            calendars.setdefault(calendar.name, calendar)
+    return calendars.values()
+
+
+WEEKDAYS = ['Monday', 'Tuesday', 'Wednesday', 'Thursday', 'Friday', 'Saturday', 'Sunday']
+
+
+def windows_of(calendar):
+    shown = ['%s %d to %d' % (WEEKDAYS[day] if day < 7 else 'weekday %d' % day, first, end)
+             for day, first, end in calendar.windows]
+    if len(shown) > 10:
+        shown = [shown[0], shown[1], '.. ' + shown[-1] + ': %d windows' % len(shown)]
+    broken = [('kind %d' % calendar.kind, calendar.kind != 24),
+              ('says %d windows' % calendar.count, calendar.count != len(calendar.windows)),
+              ('%d bytes short' % calendar.short, calendar.short), ('%d bytes cut off' % calendar.cut, calendar.cut)]
+    return '; '.join([', '.join(shown) or 'no windows'] + [what for what, holds in broken if holds])
 
 
 def gives(case):
@@ -139,7 +166,12 @@ def document():
         text += heading(['Table', 'Collection', 'Columns', 'Rows'])
         for table in tables_of(source):
             text += row([code(table.name), table.collection, columns_of(table), rows_of(table) + stored_by(table)])
-        text += '\n' + heading(['Case', 'Where', 'In the paper', 'Tables', 'Question', 'Gives'])
+        if calendars_of(source):
+            text += '\n' + heading(['Calendar', 'Windows'])
+        for calendar in calendars_of(source):
+            text += row([code(calendar.name), windows_of(calendar)])
+        behind = ['Tables; calendars' if calendars_of(source) else 'Tables', 'Question', 'Gives']
+        text += '\n' + heading(['Case', 'Where', 'In the paper'] + behind)
         for case in source.CASES:
             where = case.place.replace('*', '\\*')
             text += row([case.name, where, code(case.paper), names_of(case), asked(case.ask), gives(case)])

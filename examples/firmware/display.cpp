@@ -30,6 +30,8 @@ const char *words_of(dislogha::Refusal refusal) noexcept {
         return "table number twice";
     case Refusal::cell_beyond_bound:
         return "cell beyond bound";
+    case Refusal::calendar_or_date_out_of_range:
+        return "calendar or date bad";
     case Refusal::question_too_long:
         return "over 4096 bytes";
     case Refusal::broken_record:
@@ -40,6 +42,8 @@ const char *words_of(dislogha::Refusal refusal) noexcept {
         return "name unknown / twice";
     case Refusal::type_does_not_fit:
         return "wrong type or table";
+    case Refusal::calendar_not_lent:
+        return "calendar not lent";
     case Refusal::generator_not_allowed:
         return "generator not here";
     case Refusal::normal_form_too_large:

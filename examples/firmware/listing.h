@@ -1,4 +1,5 @@
-// Document 01's listing, its tables in bytes, and a question over them that is offered more rows.
+// Document 01's listing, its tables in bytes, a question over them that is offered more rows, and one
+// about a lock's hours.
 #ifndef LISTING_H
 #define LISTING_H
 
@@ -27,6 +28,20 @@ DISLOGHA_QUESTION(question, "berths(berth, depth) bollards(berth, pull)",
 DISLOGHA_QUESTION(ways_question, "berths(berth, depth) bollards(berth, pull)",
                   "sum{ 1 | a <- bollards, b <- bollards, c <- bollards,"
                   "         d <- bollards, e <- bollards, f <- bollards }");
+
+// A lock's hours, calendar 0: Saturdays from minute 480 to 720, so from 08:00 to 12:00.
+constexpr std::uint8_t hours[] = {
+    6, 0, 24, 0, 1, 5, 224, 1, 208, 2, //
+};
+
+// The sum of b.1 for b in table 0 while the lock is open at minute 480: the metres of berths behind it.
+constexpr std::uint8_t hours_question[] = {
+    40, 0, 14, 0, 4,                       // a sum
+    7,  0, 16, 0, 0,   0, 1,  0, 15, 0, 0, // for b (name 0) in table 0
+    13, 0, 18, 0, 9,   0, 21, 0, 0,        // where calendar 0 is open at
+    4,  0, 1,  0, 224, 1, 0,  0,           // 480
+    7,  0, 4,  0, 1,   2, 0,  3, 0,  0, 0, // of b.1
+};
 
 } // namespace listing
 

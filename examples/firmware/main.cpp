@@ -1,8 +1,10 @@
 // How firmware asks: buffers of its own, the question answered both ways and compared, the answer
-// or the refusal on the display; then a long question in portions while a short one runs. Nothing
-// is allocated, and nothing is thrown.
+// or the refusal on the display; then a long question in portions while a short one runs, and what
+// lies behind a lock while it is open, and when it opens next. Nothing is allocated, and nothing is
+// thrown.
 
 #include <algorithm>
+#include <cinttypes>
 #include <cstdio>
 #include <iterator>
 
@@ -42,8 +44,9 @@ bool ask(Bytes data, Bytes question, std::size_t words) noexcept {
     std::fill(std::begin(by_loops), std::end(by_loops), -1);
     std::fill(std::begin(by_plan), std::end(by_plan), -1);
     const Result loops =
-        dislogha::answer_by_loops(data, question, scratch, Answer(by_loops, words));
-    const Result plan = dislogha::answer_by_plan(data, question, scratch, Answer(by_plan, words));
+        dislogha::answer_by_loops(data, {}, question, scratch, Answer(by_loops, words));
+    const Result plan =
+        dislogha::answer_by_plan(data, {}, question, scratch, Answer(by_plan, words));
     if (!same(loops, plan)) {
         display::show("answers differ");
         return false;
@@ -72,14 +75,14 @@ class Asked {
     bool begin(Bytes data, Bytes question) noexcept {
         portion_ = Portion{};
         offered_ = 0;
-        return dislogha::begin(data, question, scratch_).outcome == Outcome::answered;
+        return dislogha::begin(data, {}, question, scratch_).outcome == Outcome::answered;
     }
 
     bool unfinished() const noexcept { return portion_.unfinished(); }
 
     // Offers the next rows, and shows how many were offered so far, or what came of the question.
     void go_on(Bytes data) noexcept {
-        portion_ = dislogha::portion(data, scratch_, answer_, rows_);
+        portion_ = dislogha::portion(data, {}, scratch_, answer_, rows_);
         offered_ += portion_.offered;
         if (portion_.unfinished()) {
             display::show(name_, static_cast<std::int64_t>(rows_),
@@ -121,6 +124,33 @@ bool ask_at_once(Bytes data) noexcept {
     return true;
 }
 
+// A minute as date and time of day.
+void show_minute(std::uint64_t minute) noexcept {
+    constexpr std::uint64_t minutes_of_day = 1440;
+    const dislogha::Date date = dislogha::date(minute / minutes_of_day);
+    const std::uint64_t of_day = minute % minutes_of_day;
+    char line[128];
+    std::snprintf(line, sizeof line,
+                  "%04" PRIu64 "-%02" PRIu64 "-%02" PRIu64 " %02" PRIu64 ":%02" PRIu64, date.year,
+                  date.month, date.day, of_day / 60, of_day % 60);
+    display::show(line);
+}
+
+// The metres of berths behind the lock while it is open, when it opens next once it has closed, and
+// what comes of the same question where its hours are not lent.
+bool ask_hours(Bytes data, Bytes hours) noexcept {
+    const Bytes question(listing::hours_question);
+    const Result metres = dislogha::answer_by_plan(data, hours, question, scratch, by_plan);
+    const dislogha::FirstOpen next = dislogha::first_open(hours, 0, 720);
+    if (metres.outcome != Outcome::answered || !next.found) {
+        return false;
+    }
+    display::show("metres", 480, by_plan[0]);
+    show_minute(next.minute);
+    display::show(display::words_of(dislogha::check(data, {}, question, scratch).refusal));
+    return true;
+}
+
 } // namespace
 
 int main() {
@@ -128,6 +158,6 @@ int main() {
     const Bytes tables(listing::tables), question(listing::question);
     const bool agreed = ask(tables, question, std::size(by_loops)) &&
                         ask(Bytes(), question, std::size(by_loops)) && ask(tables, question, 4) &&
-                        ask_at_once(tables);
+                        ask_at_once(tables) && ask_hours(tables, listing::hours);
     return agreed ? 0 : 1;
 }

@@ -28,6 +28,8 @@ using dislogha::Words;
 const std::vector<std::uint8_t> tables(std::begin(listing::tables), std::end(listing::tables));
 const std::vector<std::uint8_t> question(std::begin(listing::question),
                                          std::end(listing::question));
+// Saturdays from 08:00 to 12:00: lent to every call, and asked for where hours are.
+const std::vector<std::uint8_t> hours(std::begin(listing::hours), std::end(listing::hours));
 
 constexpr std::uint64_t rubbish = 0x5A5A5A5A5A5A5A5A;
 
@@ -81,12 +83,13 @@ bool cleared(const std::vector<std::uint64_t> &scratch) {
 
 void check_listing() {
     std::vector<std::uint64_t> scratch(dislogha::scratch_words + 3, rubbish);
-    const auto accepted = dislogha::check(bytes(tables), bytes(question), words(scratch));
+    const auto accepted =
+        dislogha::check(bytes(tables), bytes(hours), bytes(question), words(scratch));
     expect(answers(accepted, 0), "the listing is accepted");
     expect(cleared(scratch), "scratch is cleared and nothing behind it changed");
 
     // Without its tables the question names what is not there.
-    const auto refused = dislogha::check(Bytes(), bytes(question), words(scratch));
+    const auto refused = dislogha::check(Bytes(), bytes(hours), bytes(question), words(scratch));
     expect(refuses(refused, Refusal::type_does_not_fit), "a table that is not lent is refused");
 
     // The first column of the berths, 1 and 2, is declared 1.
@@ -94,16 +97,18 @@ void check_listing() {
     auto beyond = tables;
     beyond[bound_at] = 1;
     beyond[bound_at + 3] = 0;
-    const auto broken = dislogha::check(bytes(beyond), bytes(question), words(scratch));
+    const auto broken =
+        dislogha::check(bytes(beyond), bytes(hours), bytes(question), words(scratch));
     expect(refuses(broken, Refusal::cell_beyond_bound), "a cell beyond its bound is refused");
 
     // Both before that.
     beyond[number_at] = 8;
-    const auto above = dislogha::check(bytes(beyond), bytes(question), words(scratch));
+    const auto above =
+        dislogha::check(bytes(beyond), bytes(hours), bytes(question), words(scratch));
     expect(refuses(above, Refusal::table_number_out_of_range), "number 8 is refused");
     auto twice = tables;
     twice[number_at] = 1;
-    const auto used = dislogha::check(bytes(twice), bytes(question), words(scratch));
+    const auto used = dislogha::check(bytes(twice), bytes(hours), bytes(question), words(scratch));
     expect(refuses(used, Refusal::table_number_used), "a number twice is refused");
 }
 
@@ -113,8 +118,9 @@ void check_longer_scratch() {
     for (const std::size_t lent : {2048u, 2049u, 8191u, 8192u}) {
         std::vector<std::uint64_t> scratch(lent, rubbish);
         std::vector<std::int64_t> answer(6, -7);
-        const auto answered = dislogha::answer_by_plan(bytes(tables), bytes(question), words(scratch),
-                                                       Answer(answer.data(), answer.size()));
+        const auto answered =
+            dislogha::answer_by_plan(bytes(tables), bytes(hours), bytes(question), words(scratch),
+                                     Answer(answer.data(), answer.size()));
         expect(answers(answered, 5), "2,048 words and more are enough");
         expect(answer == std::vector<std::int64_t>{2, 1, 110, 2, 0, -7}, "the same words from all");
         expect(cleared(scratch), "2,048 words are cleared and nothing behind them changed");
@@ -125,21 +131,22 @@ void check_scratch() {
     static_assert(dislogha::scratch_words == 2048, "document 02, E13");
     std::vector<std::uint64_t> scratch(dislogha::scratch_words - 1, rubbish);
     const auto before = scratch;
-    const auto refused = dislogha::check(bytes(tables), bytes(question), words(scratch));
+    const auto refused =
+        dislogha::check(bytes(tables), bytes(hours), bytes(question), words(scratch));
     expect(refuses(refused, Refusal::scratch_too_short), "2,047 words are too few");
     expect(scratch == before, "scratch that is too short stays untouched");
-    const auto none = dislogha::check(Bytes(), Bytes(), Words());
+    const auto none = dislogha::check(Bytes(), Bytes(), Bytes(), Words());
     expect(refuses(none, Refusal::scratch_too_short), "nothing at all may be lent");
 }
 
-using AnswerCall = Result (*)(Bytes, Bytes, Words, Answer) noexcept;
+using AnswerCall = Result (*)(Bytes, Bytes, Bytes, Words, Answer) noexcept;
 
 // "answer 2 1 110 2 0", in a buffer that has a word more than the answer.
 void answer_listing(AnswerCall answer_by) {
     std::vector<std::uint64_t> scratch(dislogha::scratch_words + 3, rubbish);
     std::vector<std::int64_t> answer(6, -7);
     const auto answer_in = [&](Answer lent) {
-        return answer_by(bytes(tables), bytes(question), words(scratch), lent);
+        return answer_by(bytes(tables), bytes(hours), bytes(question), words(scratch), lent);
     };
     const auto answered = answer_in(Answer(answer.data(), answer.size()));
     expect(answers(answered, 5), "the listing has five words");
@@ -157,7 +164,7 @@ void answer_reversed(AnswerCall answer_by) {
     std::rotate(reversed.begin(), reversed.begin() + half, reversed.end());
     std::vector<std::uint64_t> scratch(dislogha::scratch_words, rubbish);
     std::vector<std::int64_t> answer(5, -7);
-    const auto answered = answer_by(bytes(reversed), bytes(question), words(scratch),
+    const auto answered = answer_by(bytes(reversed), bytes(hours), bytes(question), words(scratch),
                                     Answer(answer.data(), answer.size()));
     expect(answers(answered, 5), "the listing has five words in either order of its records");
     expect(answer == std::vector<std::int64_t>{2, 1, 110, 2, 0}, "and the same ones");
@@ -219,10 +226,125 @@ void answer_by_column(AnswerCall answer_by) {
     std::copy(berths_by_column.begin(), berths_by_column.end(), mixed.begin());
     std::vector<std::uint64_t> scratch(dislogha::scratch_words, rubbish);
     std::vector<std::int64_t> answer(5, -7);
-    const auto answered = answer_by(bytes(mixed), bytes(question), words(scratch),
+    const auto answered = answer_by(bytes(mixed), bytes(hours), bytes(question), words(scratch),
                                     Answer(answer.data(), answer.size()));
     expect(answers(answered, 5), "the listing has five words with its berths by column");
     expect(answer == std::vector<std::int64_t>{2, 1, 110, 2, 0}, "and these, too, are the same");
+}
+
+// The metres of berths while the lock is open: minute 480 is within its hours, and without them it is
+// refused.
+void answer_hours(AnswerCall answer_by) {
+    const std::vector<std::uint8_t> asked(std::begin(listing::hours_question),
+                                          std::end(listing::hours_question));
+    std::vector<std::uint64_t> scratch(dislogha::scratch_words + 3, rubbish);
+    std::vector<std::int64_t> answer(2, -7);
+    const auto answer_over = [&](const std::vector<std::uint8_t> &calendars) {
+        return answer_by(bytes(tables), bytes(calendars), bytes(asked), words(scratch),
+                         Answer(answer.data(), answer.size()));
+    };
+    expect(answers(answer_over(hours), 1), "a question about open hours is answered");
+    expect(answer == std::vector<std::int64_t>{160, -7}, "with all berths while the lock is open");
+    auto later = hours;
+    later[6]++;
+    expect(answers(answer_over(later), 1) && answer[0] == 0, "and none a minute before it opens");
+    expect(refuses(answer_over({}), Refusal::calendar_not_lent), "a calendar that is not lent");
+    auto sundays = hours;
+    sundays[5] = 7;
+    expect(refuses(answer_over(sundays), Refusal::calendar_or_date_out_of_range), "weekday 7");
+    expect(cleared(scratch), "scratch is cleared after such a refusal");
+}
+
+// "41, a calendar record that breaks this layout or a fifth one, after all data refusals", of all calls.
+void check_hours() {
+    std::vector<std::uint64_t> scratch(dislogha::scratch_words, rubbish);
+    auto many = hours;
+    for (int i = 0; i < 3; i++) {
+        many.insert(many.end(), hours.begin(), hours.end());
+    }
+    const auto check_over = [&](Bytes data, const std::vector<std::uint8_t> &calendars) {
+        return dislogha::check(data, bytes(calendars), bytes(question), words(scratch));
+    };
+    expect(answers(check_over(bytes(tables), many), 0), "four calendars are lent");
+    many.push_back(0);
+    expect(refuses(check_over(bytes(tables), many), Refusal::calendar_or_date_out_of_range),
+           "a byte behind them is a fifth");
+    expect(refuses(check_over(bytes(question), many), Refusal::not_a_table), "the data come first");
+    const auto begun = dislogha::begin(bytes(tables), bytes(many), bytes(question), words(scratch));
+    expect(refuses(begun, Refusal::calendar_or_date_out_of_range), "nothing is begun over them");
+    std::vector<std::uint8_t> lines(200);
+    const auto printed =
+        dislogha::plan_lines(bytes(tables), bytes(many), bytes(question), words(scratch),
+                             dislogha::Text(lines.data(), lines.size()));
+    expect(refuses(printed, Refusal::calendar_or_date_out_of_range), "and no plan is written");
+}
+
+bool found(dislogha::FirstOpen told, std::uint64_t minute) {
+    return told.outcome == Outcome::answered && told.refusal == Refusal{} && told.found &&
+           told.minute == minute;
+}
+
+bool none(dislogha::FirstOpen told) {
+    return told.outcome == Outcome::answered && told.refusal == Refusal{} && !told.found &&
+           told.minute == 0;
+}
+
+bool refuses(dislogha::FirstOpen told, Refusal refusal) {
+    return told.outcome == Outcome::refused && told.refusal == refusal && !told.found &&
+           told.minute == 0;
+}
+
+// Saturdays from 480 to 720; day 0 is one, the last day a Friday.
+void check_first_open() {
+    const auto first_open = [](std::uint64_t calendar, std::int64_t minute) {
+        return dislogha::first_open(bytes(hours), calendar, minute);
+    };
+    expect(found(first_open(0, 0), 480) && found(first_open(0, 480), 480), "the first minute");
+    expect(found(first_open(0, 719), 719), "the last minute of a window");
+    expect(found(first_open(0, 720), 10560), "a week later from its end on");
+    expect(found(first_open(0, INT64_MIN), 480), "the first of all years");
+    expect(none(first_open(0, 210379679)) && none(first_open(0, INT64_MAX)), "none");
+    expect(refuses(first_open(1, 0), Refusal::calendar_not_lent) &&
+               refuses(first_open(UINT64_MAX, 0), Refusal::calendar_not_lent) &&
+               refuses(dislogha::first_open(Bytes(), 0, 0), Refusal::calendar_not_lent),
+           "a calendar that is not lent has no first open minute");
+    auto cut = hours;
+    cut.pop_back();
+    expect(refuses(dislogha::first_open(bytes(cut), 7, 0), Refusal::calendar_or_date_out_of_range),
+           "a calendar cut short comes before one that is not lent");
+}
+
+bool is(dislogha::Date told, std::uint64_t year, std::uint64_t month, std::uint64_t day) {
+    return told.outcome == Outcome::answered && told.refusal == Refusal{} && told.year == year &&
+           told.month == month && told.day == day;
+}
+
+bool is(dislogha::DayNumber told, std::uint64_t day) {
+    return told.outcome == Outcome::answered && told.refusal == Refusal{} && told.day == day;
+}
+
+void check_dates() {
+    expect(is(dislogha::day_number(2000, 1, 1), 0) && is(dislogha::date(0), 2000, 1, 1), "day 0");
+    expect(is(dislogha::day_number(2000, 2, 29), 59) && is(dislogha::date(59), 2000, 2, 29),
+           "2000 is a leap year");
+    expect(is(dislogha::day_number(2100, 3, 1), 36584) && is(dislogha::date(36584), 2100, 3, 1),
+           "2100 is none");
+    expect(is(dislogha::day_number(2399, 12, 31), 146096) &&
+               is(dislogha::date(146096), 2399, 12, 31),
+           "the last day");
+    const auto no_day = [](dislogha::DayNumber told) {
+        return told.outcome == Outcome::refused &&
+               told.refusal == Refusal::calendar_or_date_out_of_range && told.day == 0;
+    };
+    expect(no_day(dislogha::day_number(2100, 2, 29)) &&
+               no_day(dislogha::day_number(1999, 12, 31)) &&
+               no_day(dislogha::day_number(2400, 1, 1)) &&
+               no_day(dislogha::day_number(2000, 0, 1)) && no_day(dislogha::day_number(2000, 1, 0)),
+           "dates that do not exist");
+    const dislogha::Date past = dislogha::date(146097);
+    expect(past.outcome == Outcome::refused && past.year == 0 && past.month == 0 && past.day == 0 &&
+               past.refusal == Refusal::calendar_or_date_out_of_range,
+           "a day number that does not exist");
 }
 
 // The listing has six rows a pass; its words are those of the single call.
@@ -231,9 +353,10 @@ void portion_listing() {
     std::vector<std::int64_t> answer(6, -7);
     const auto lent = Answer(answer.data(), answer.size());
     const auto portion = [&](std::uint64_t rows) {
-        return dislogha::portion(bytes(tables), words(scratch), lent, rows);
+        return dislogha::portion(bytes(tables), bytes(hours), words(scratch), lent, rows);
     };
-    const auto begun = dislogha::begin(bytes(tables), bytes(question), words(scratch));
+    const auto begun =
+        dislogha::begin(bytes(tables), bytes(hours), bytes(question), words(scratch));
     expect(answers(begun, 0), "the listing is begun");
     expect(unfinished(portion(5), 5), "five rows are offered");
     const auto before = scratch;
@@ -241,7 +364,8 @@ void portion_listing() {
     expect(refuses(portion(dislogha::most_rows + 1), Refusal::rows_out_of_range),
            "65,536 rows are refused");
     const auto short_of = Words(scratch.data(), dislogha::scratch_words - 1);
-    expect(refuses(dislogha::portion(bytes(tables), short_of, lent, 1), Refusal::scratch_too_short),
+    expect(refuses(dislogha::portion(bytes(tables), bytes(hours), short_of, lent, 1),
+                   Refusal::scratch_too_short),
            "2,047 words are too few for a portion");
     expect(scratch == before, "what is refused changes nothing");
     expect(finished(portion(7), {Outcome::answered, Refusal{}, 5}, 7), "seven rows finish it");
@@ -249,11 +373,14 @@ void portion_listing() {
     expect(cleared(scratch), "scratch is cleared after the last portion");
     expect(refuses(portion(1), Refusal::nothing_unfinished), "then no question is unfinished");
 
-    expect(answers(dislogha::begin(bytes(tables), bytes(question), words(scratch)), 0), "again");
-    const auto few = dislogha::portion(bytes(tables), words(scratch), Answer(answer.data(), 4), 9);
+    expect(
+        answers(dislogha::begin(bytes(tables), bytes(hours), bytes(question), words(scratch)), 0),
+        "again");
+    const auto few =
+        dislogha::portion(bytes(tables), bytes(hours), words(scratch), Answer(answer.data(), 4), 9);
     expect(finished(few, {Outcome::refused, Refusal::answer_too_short, 0}, 6),
            "four words are too few, after one pass");
-    const auto none = dislogha::begin(Bytes(), bytes(question), words(scratch));
+    const auto none = dislogha::begin(Bytes(), bytes(hours), bytes(question), words(scratch));
     expect(refuses(none, Refusal::type_does_not_fit), "a beginning is refused as a check is");
 }
 
@@ -279,7 +406,7 @@ Round round_over(Desks &desks, const std::vector<std::uint64_t> &quotas) {
     for (Desk &desk : desks) {
         seats.push_back(desk.seat());
     }
-    return dislogha::round(bytes(tables), {quotas.data(), quotas.size()},
+    return dislogha::round(bytes(tables), bytes(hours), {quotas.data(), quotas.size()},
                            {seats.data(), seats.size()});
 }
 
@@ -289,7 +416,8 @@ bool visits(const Round &round, std::size_t seats) {
 }
 
 void begin_at(Desk &desk) {
-    const auto begun = dislogha::begin(bytes(tables), bytes(question), words(desk.scratch));
+    const auto begun =
+        dislogha::begin(bytes(tables), bytes(hours), bytes(question), words(desk.scratch));
     expect(answers(begun, 0), "the listing is begun at a seat");
 }
 
@@ -374,12 +502,16 @@ void check_seats_apart() {
         return std::vector<Seat>{desks[0].seat(), desks[1].seat(), desks[2].seat(),
                                  desks[3].seat()};
     };
-    const auto not_made = [&](Bytes data, dislogha::Quotas rota, const std::vector<Seat> &seats,
-                              const char *what) {
-        const Round round = dislogha::round(data, rota, {seats.data(), seats.size()});
+    const auto not_lent = [&](Bytes data, Bytes calendars, dislogha::Quotas rota,
+                              const std::vector<Seat> &seats, const char *what) {
+        const Round round = dislogha::round(data, calendars, rota, {seats.data(), seats.size()});
         expect(round.outcome == Outcome::overlapping && round.refusal == Refusal{} &&
                    round.visited == 0 && !round.unfinished() && desks == begun,
                what);
+    };
+    const auto not_made = [&](Bytes data, dislogha::Quotas rota, const std::vector<Seat> &seats,
+                              const char *what) {
+        not_lent(data, bytes(hours), rota, seats, what);
     };
     const auto last_word = [](Desk &desk) { return &desk.scratch.back(); };
     const auto last_answer = [](Desk &desk) { return &desk.answer.back(); };
@@ -394,6 +526,10 @@ void check_seats_apart() {
         not_made(Bytes(last_byte(last_word(desks[i])), 1), quotas, lent(), "data inside a scratch");
         not_made(Bytes(last_byte(last_answer(desks[i])), 1), quotas, lent(),
                  "data inside an answer");
+        not_lent(bytes(tables), Bytes(last_byte(last_word(desks[i])), 1), quotas, lent(),
+                 "calendars inside a scratch");
+        not_lent(bytes(tables), Bytes(last_byte(last_answer(desks[i])), 1), quotas, lent(),
+                 "calendars inside an answer");
         not_made(bytes(tables), {last_word(desks[i]), 1}, lent(), "quotas inside a scratch");
         not_made(bytes(tables), {unsigned_word(last_answer(desks[i])), 1}, lent(),
                  "quotas inside an answer");
@@ -412,8 +548,28 @@ void check_seats_apart() {
         }
     }
     const auto seats = lent();
-    expect(visits(dislogha::round(bytes(tables), quotas, {seats.data(), seats.size()}), 2),
-           "seats that are apart are visited");
+    expect(
+        visits(dislogha::round(bytes(tables), bytes(hours), quotas, {seats.data(), seats.size()}),
+               2),
+        "seats that are apart are visited");
+}
+
+// A question about open hours in portions and in rounds: two rows a pass, the berths.
+void portion_hours() {
+    const std::vector<std::uint8_t> asked(std::begin(listing::hours_question),
+                                          std::end(listing::hours_question));
+    std::vector<std::uint64_t> scratch(dislogha::scratch_words, rubbish);
+    std::int64_t answer[1] = {-7};
+    const auto begun = dislogha::begin(bytes(tables), bytes(hours), bytes(asked), words(scratch));
+    expect(answers(begun, 0), "a question about open hours is begun");
+    const auto first = dislogha::portion(bytes(tables), bytes(hours), words(scratch), answer, 3);
+    expect(unfinished(first, 3), "three rows are offered");
+    const Seat seats[] = {{words(scratch), answer}};
+    const std::uint64_t quotas[] = {5};
+    const Round last = dislogha::round(bytes(tables), bytes(hours), quotas, seats);
+    expect(visits(last, 1) && finished(last.seats[0], {Outcome::answered, Refusal{}, 1}, 1),
+           "one more finishes it");
+    expect(answer[0] == 160, "with the word of a single call");
 }
 
 void print_listing() {
@@ -426,26 +582,33 @@ void print_listing() {
     std::vector<std::uint8_t> lines(plan.size());
     const auto lines_in = [&](std::size_t count) {
         const auto lent = dislogha::Text(lines.data(), count);
-        return dislogha::plan_lines(bytes(tables), bytes(question), words(scratch), lent);
+        return dislogha::plan_lines(bytes(tables), bytes(hours), bytes(question), words(scratch),
+                                    lent);
     };
     expect(answers(lines_in(plan.size()), plan.size()), "the plan is written");
     expect(std::string(lines.begin(), lines.end()) == plan, "the plan's lines");
     expect(refuses(lines_in(plan.size() - 1), Refusal::lines_too_short), "a byte less is too few");
 }
 
-// Data, question, scratch and answer side by side in one block of words. Buffers that touch are
-// used; where one that is written shares a word with another one, no call is made.
+// Words that hold so many bytes.
+constexpr std::size_t words_of(std::size_t count) { return (count + 7) / 8; }
+
+// Data, calendars, question, scratch and answer side by side in one block of words. Buffers that touch
+// are used; where one that is written shares a word with another one, no call is made.
 void answer_side_by_side(AnswerCall answer_by) {
-    constexpr std::size_t question_at = sizeof listing::tables / 8;
-    constexpr std::size_t scratch_at = question_at + sizeof listing::question / 8;
+    constexpr std::size_t hours_at = words_of(sizeof listing::tables);
+    constexpr std::size_t question_at = hours_at + words_of(sizeof listing::hours);
+    constexpr std::size_t scratch_at = question_at + words_of(sizeof listing::question);
     constexpr std::size_t answer_at = scratch_at + dislogha::scratch_words;
+    static_assert(sizeof listing::question % 8 == 0, "the question touches scratch");
     std::vector<std::uint64_t> block(answer_at + 5, rubbish);
     std::memcpy(&block[0], listing::tables, sizeof listing::tables);
+    std::memcpy(&block[hours_at], listing::hours, sizeof listing::hours);
     std::memcpy(&block[question_at], listing::question, sizeof listing::question);
     const auto before = block;
     const auto answered = [&](std::size_t scratch, std::size_t answer) {
         const auto first = reinterpret_cast<const std::uint8_t *>(block.data());
-        return answer_by(Bytes(first, tables.size()),
+        return answer_by(Bytes(first, tables.size()), Bytes(first + 8 * hours_at, hours.size()),
                          Bytes(first + 8 * question_at, question.size()),
                          Words(&block[scratch], dislogha::scratch_words),
                          Answer(reinterpret_cast<std::int64_t *>(&block[answer]), 5));
@@ -455,41 +618,68 @@ void answer_side_by_side(AnswerCall answer_by) {
     };
     not_made(scratch_at, answer_at - 1, "an answer that begins in scratch is not written");
     not_made(scratch_at, question_at + 1, "an answer inside the question is not written");
+    not_made(scratch_at, question_at - 5, "an answer that ends in the calendars is not written");
     not_made(scratch_at, 0, "an answer inside the data is not written");
     not_made(scratch_at - 1, answer_at, "scratch that begins in the question is not written");
-    not_made(question_at - 1, answer_at, "scratch that begins in the data is not written");
+    not_made(question_at - 1, answer_at, "scratch that begins in the calendars is not written");
+    not_made(hours_at - 1, answer_at, "scratch that begins in the data is not written");
     expect(answers(answered(scratch_at, answer_at), 5), "buffers may touch");
+    const auto words = reinterpret_cast<const std::int64_t *>(&block[answer_at]);
+    expect(std::vector<std::int64_t>(words, words + 5) ==
+               std::vector<std::int64_t>{2, 1, 110, 2, 0},
+           "the listing's words where buffers touch");
 }
 
 void check_overlap() {
     std::vector<std::uint64_t> scratch(dislogha::scratch_words, rubbish);
     const auto before = scratch;
     const auto last = reinterpret_cast<std::uint8_t *>(scratch.data() + scratch.size()) - 1;
-    const auto not_made = dislogha::check(bytes(tables), Bytes(last, 1), words(scratch));
+    const auto not_made =
+        dislogha::check(bytes(tables), bytes(hours), Bytes(last, 1), words(scratch));
     expect(overlaps(not_made), "a question inside scratch is not called with");
-    const auto not_written = dislogha::plan_lines(bytes(tables), bytes(question), words(scratch),
-                                                  dislogha::Text(last, 1));
+    const auto not_written = dislogha::plan_lines(bytes(tables), bytes(hours), bytes(question),
+                                                  words(scratch), dislogha::Text(last, 1));
     expect(overlaps(not_written), "lines inside scratch are not written");
-    const auto not_begun = dislogha::begin(Bytes(last, 1), bytes(question), words(scratch));
+    const auto not_begun =
+        dislogha::begin(Bytes(last, 1), bytes(hours), bytes(question), words(scratch));
     expect(overlaps(not_begun), "a question over data inside scratch is not begun");
+    const auto in_last = Bytes(last, 1);
+    expect(overlaps(dislogha::check(bytes(tables), in_last, bytes(question), words(scratch))) &&
+               overlaps(dislogha::begin(bytes(tables), in_last, bytes(question), words(scratch))),
+           "calendars inside scratch are not called with");
+    std::uint8_t lines[1] = {0x5A};
+    expect(overlaps(dislogha::plan_lines(in_last, bytes(hours), bytes(question), words(scratch),
+                                         lines)) &&
+               overlaps(dislogha::plan_lines(bytes(tables), in_last, bytes(question),
+                                             words(scratch), lines)),
+           "nor is a plan written over data or calendars inside scratch");
+    const auto not_over_lines = dislogha::plan_lines(bytes(tables), Bytes(lines, 1),
+                                                     bytes(question), words(scratch), lines);
+    expect(overlaps(not_over_lines) && lines[0] == 0x5A,
+           "lines over the calendars are not written");
     std::int64_t answer[1] = {-7};
-    const auto not_offered = [&](Bytes data, Answer lent, const char *what) {
-        const auto portion = dislogha::portion(data, words(scratch), lent, 1);
+    const auto not_offered = [&](Bytes data, Bytes calendars, Answer lent, const char *what) {
+        const auto portion = dislogha::portion(data, calendars, words(scratch), lent, 1);
         expect(is(portion, dislogha::overlapping, false, 0) && answer[0] == -7, what);
     };
     const auto in_scratch = Answer(reinterpret_cast<std::int64_t *>(&scratch.back()), 1);
     const auto in_answer = Bytes(reinterpret_cast<std::uint8_t *>(answer) + 7, 1);
-    not_offered(Bytes(last, 1), answer, "data inside scratch are not offered");
-    not_offered(bytes(tables), in_scratch, "a portion inside scratch is not written");
-    not_offered(in_answer, answer, "data inside the answer are not offered");
+    not_offered(in_last, bytes(hours), answer, "data inside scratch are not offered");
+    not_offered(bytes(tables), in_last, answer, "nor with calendars inside scratch");
+    not_offered(bytes(tables), bytes(hours), in_scratch, "a portion inside scratch is not written");
+    not_offered(in_answer, bytes(hours), answer, "data inside the answer are not offered");
+    not_offered(bytes(tables), in_answer, answer, "nor with calendars inside the answer");
     expect(scratch == before, "nothing is changed where no call is made");
     auto record = tables;
     const auto inside = dislogha::Target(&record.back(), 1);
     expect(overlaps(dislogha::table_to_columns(bytes(record), inside)) &&
                overlaps(dislogha::table_to_rows(bytes(record), inside)) && record == tables,
            "a target inside the record is not written");
-    const auto same = dislogha::check(bytes(question), bytes(question), words(scratch));
+    const auto same =
+        dislogha::check(bytes(question), bytes(hours), bytes(question), words(scratch));
     expect(refuses(same, Refusal::not_a_table), "data and question may be the same bytes");
+    const auto also = dislogha::check(Bytes(), bytes(question), bytes(question), words(scratch));
+    expect(refuses(also, Refusal::calendar_or_date_out_of_range), "calendars and question, too");
 }
 
 } // namespace
@@ -501,8 +691,13 @@ int main() {
         answer_listing(answer_by);
         answer_reversed(answer_by);
         answer_by_column(answer_by);
+        answer_hours(answer_by);
         answer_side_by_side(answer_by);
     }
+    check_hours();
+    portion_hours();
+    check_first_open();
+    check_dates();
     portion_listing();
     round_listing();
     check_rota();

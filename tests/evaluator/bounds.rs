@@ -36,7 +36,8 @@ impl Bounds<'_> {
             Term::Binary(operation, left, right) => self.of_binary(*operation, left, right)?,
             Term::Choice(truth, first, second) => self.of_choice(truth, first, second)?,
             Term::Truth(_) | Term::Name(_) | Term::Table(_) => None,
-            Term::Record(_) | Term::Not(_) => {
+            // A truth has no bound, its minute has one (E4).
+            Term::Record(_) | Term::Not(_) | Term::Open(_, _) => {
                 for part in term.below() {
                     self.of(part)?;
                 }

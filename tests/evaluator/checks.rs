@@ -1,11 +1,11 @@
-//! The checks on the question as typed: refusals 24, 25 and 26, "each over the whole question".
+//! The checks on the question as typed: refusals 24, 25, 42 and 26, "each over the whole question".
 
 use std::collections::{HashMap, HashSet};
 use std::rc::Rc;
 
 use super::budget::Stop;
-use super::tables::Tables;
 use super::terms::{Comprehension, Monoid, Name, Operation, Qualifier, Term};
+use super::Lent;
 
 /// "24: a name out of scope or bound twice."
 pub fn check_names(question: &Comprehension) -> Result<(), Stop> {
@@ -69,14 +69,19 @@ enum Type {
 /// "25: a type, field or table that does not fit."
 const MISFIT: Stop = Stop::Refused(25);
 
-/// 25 over the whole question, then "26: a generator its monoid may not have".
-pub fn check_types(question: &Comprehension, tables: &Tables) -> Result<(), Stop> {
+/// 25 over the whole question; E4: "42, a calendar not lent, after 25 in a question"; then "26: a
+/// generator its monoid may not have".
+pub fn check_types(question: &Comprehension, lent: &Lent) -> Result<(), Stop> {
     let mut types = Types {
-        tables,
+        lent,
         names: HashMap::new(),
+        not_lent: false,
         forbidden: false,
     };
     types.comprehension(question)?;
+    if types.not_lent {
+        return Err(Stop::Refused(42));
+    }
     if types.forbidden {
         return Err(Stop::Refused(26));
     }
@@ -84,9 +89,11 @@ pub fn check_types(question: &Comprehension, tables: &Tables) -> Result<(), Stop
 }
 
 struct Types<'a> {
-    tables: &'a Tables,
+    lent: &'a Lent,
     /// Each name is bound once, so one map serves all scopes.
     names: HashMap<Name, Rc<Type>>,
+    /// Whether some calendar is not lent.
+    not_lent: bool,
     /// Whether some generator may not stand in its monoid.
     forbidden: bool,
 }
@@ -139,6 +146,7 @@ impl Types<'_> {
                 Ok(found)
             }
             Term::Choice(truth, first, second) => self.choice(truth, first, second),
+            Term::Open(calendar, minute) => self.open_minute(*calendar, minute),
             Term::Comprehension(inner) => self.comprehension(inner),
             Term::Table(number) => self.table(*number),
         }
@@ -183,10 +191,17 @@ impl Types<'_> {
         }
     }
 
+    /// E4: "one byte of calendar and one number term, and is true when": a truth.
+    fn open_minute(&mut self, calendar: u8, minute: &Term) -> Result<Rc<Type>, Stop> {
+        number(self.term(minute)?.as_ref())?;
+        self.not_lent |= !self.lent.calendars.is_lent(u64::from(calendar));
+        Ok(Rc::new(Type::Truth))
+    }
+
     /// A table is a collection of records of as many numbers as it has columns. E9: "naming an absent
     /// number is 25", whichever of 0 to 255 it is.
     fn table(&self, number: u8) -> Result<Rc<Type>, Stop> {
-        let table = self.tables.get(&number).ok_or(MISFIT)?;
+        let table = self.lent.tables.get(&number).ok_or(MISFIT)?;
         let row = table.bounds.iter().map(|_| Rc::new(Type::Number)).collect();
         Ok(Rc::new(Type::Collection(
             table.collection,

@@ -1,12 +1,14 @@
-//! A second evaluator of document 01 with the landed requests of document 02 (E1, E2, E5, E9, E10, E13), written from their
-//! text alone and as literally as it can be: trees are rewritten, streams are kept whole, and nothing
+//! A second evaluator of document 01 with the landed requests of document 02 (E1, E2, E4, E5, E9, E10, E13), written from
+//! their text alone and as literally as it can be: trees are rewritten, streams are kept whole, and nothing
 //! is fast. It serves the four calls and says `Unknown` where an input would take it too long; it also
-//! turns tables from rows to columns and back.
+//! turns tables from rows to columns and back, and knows days, dates and open minutes.
 
 mod bounds;
 mod budget;
 mod by_column;
+mod calendars;
 mod checks;
+mod dates;
 mod meaning;
 mod normal;
 mod operators;
@@ -18,6 +20,7 @@ mod values;
 
 use budget::Stop;
 pub use budget::Unknown;
+use calendars::Calendars;
 use tables::{Kind, Tables};
 use terms::Comprehension;
 
@@ -41,8 +44,13 @@ pub struct Answer {
 
 /// The checker: number and length, the length always 0. "The checker takes no answer buffer and
 /// ends after 28."
-pub fn check(data: &[u8], question: &[u8], scratch: usize) -> Result<(u32, u64), Unknown> {
-    let accepted = accept(data, question, scratch).map(|_| (0, 0));
+pub fn check(
+    data: &[u8],
+    calendars: &[u8],
+    question: &[u8],
+    scratch: usize,
+) -> Result<(u32, u64), Unknown> {
+    let accepted = accept(data, calendars, question, scratch).map(|_| (0, 0));
     refusal_or(accepted, |number| (number, 0))
 }
 
@@ -51,42 +59,59 @@ pub fn check(data: &[u8], question: &[u8], scratch: usize) -> Result<(u32, u64),
 /// with its repeats) that is `Unknown` too.
 pub fn by_loops(
     data: &[u8],
+    calendars: &[u8],
     question: &[u8],
     scratch: usize,
     answer_words: u64,
 ) -> Result<Answer, Unknown> {
-    answered(data, question, scratch, answer_words, |accepted| {
-        let words = meaning::answer_by_loops(&accepted.question, &accepted.tables)?;
-        let again = meaning::answer_by_loops(&accepted.form, &accepted.tables)?;
-        if again != words {
-            return Err(budget::FAULT);
-        }
-        Ok((words, 0))
-    })
+    answered(
+        data,
+        calendars,
+        question,
+        scratch,
+        answer_words,
+        |accepted| {
+            let words = meaning::answer_by_loops(&accepted.question, &accepted.lent)?;
+            let again = meaning::answer_by_loops(&accepted.form, &accepted.lent)?;
+            if again != words {
+                return Err(budget::FAULT);
+            }
+            Ok((words, 0))
+        },
+    )
 }
 
 /// The answer by plan, from the operators' definitions.
 pub fn by_plan(
     data: &[u8],
+    calendars: &[u8],
     question: &[u8],
     scratch: usize,
     answer_words: u64,
 ) -> Result<Answer, Unknown> {
-    answered(data, question, scratch, answer_words, |accepted| {
-        let plan = plan::make_plan(&accepted.form)?;
-        let run = operators::answer_by_plan(&plan, &accepted.tables)?;
-        Ok((run.words, run.offered))
-    })
+    answered(
+        data,
+        calendars,
+        question,
+        scratch,
+        answer_words,
+        |accepted| {
+            let plan = plan::make_plan(&accepted.form)?;
+            let run = operators::answer_by_plan(&plan, &accepted.lent)?;
+            Ok((run.words, run.offered))
+        },
+    )
 }
 
 /// The plan's lines; at a refusal its number and no bytes. The length is that of the bytes.
 pub fn plan_lines(
     data: &[u8],
+    calendars: &[u8],
     question: &[u8],
     scratch: usize,
     buffer_bytes: usize,
 ) -> Result<(u32, Vec<u8>), Unknown> {
-    let lines = accept(data, question, scratch).and_then(|accepted| {
+    let lines = accept(data, calendars, question, scratch).and_then(|accepted| {
         let lines = plan::lines_of(&plan::make_plan(&accepted.form)?).into_bytes();
         // "33: the plan call's byte buffer is shorter than the plan's lines."
         if buffer_bytes < lines.len() {
@@ -113,36 +138,81 @@ fn turned(record: &[u8], from: Kind, target_bytes: usize) -> Result<(u32, Vec<u8
     refusal_or(bytes, |number| (number, Vec::new()))
 }
 
+/// E4: number, found and minute of "the first open minute at or after a given signed one, or none exactly if
+/// no such minute exists"; 42 is "after 41 in the first-open call". None is found 0 and minute 0. What is
+/// behind the number is 0 at a refusal, as for the two calls below.
+pub fn first_open(calendars: &[u8], calendar: u64, minute: i64) -> Result<[u64; 3], Unknown> {
+    let first = calendars::read_calendars(calendars)
+        .and_then(|calendars| calendars.first_open(calendar, minute));
+    told(first.map(|first| match first {
+        Some(minute) => [0, 1, minute],
+        None => [0, 0, 0],
+    }))
+}
+
+/// E4: number and day of the call "from year, month, day to day number".
+pub fn day_number(year: u64, month: u64, day: u64) -> Result<[u64; 2], Unknown> {
+    told(dates::day_number(year, month, day).map(|day| [0, day]))
+}
+
+/// E4: number, year, month and day of the call "back".
+pub fn date(day: u64) -> Result<[u64; 4], Unknown> {
+    told(dates::date(day).map(|(year, month, day)| [0, year, month, day]))
+}
+
+fn told<const WORDS: usize>(words: Result<[u64; WORDS], Stop>) -> Result<[u64; WORDS], Unknown> {
+    refusal_or(words, |number| {
+        let mut refused = [0; WORDS];
+        refused[0] = u64::from(number);
+        refused
+    })
+}
+
 /// For tests of the evaluator itself: whether the normal form is one, by the six rules and the
 /// node count alone. True for a question that is refused.
-pub fn normal_form_holds(data: &[u8], question: &[u8]) -> Result<bool, Unknown> {
-    let holds = accept(data, question, SCRATCH).map(|accepted| {
+pub fn normal_form_holds(data: &[u8], calendars: &[u8], question: &[u8]) -> Result<bool, Unknown> {
+    let holds = accept(data, calendars, question, SCRATCH).map(|accepted| {
         normal::no_rule_applies(&accepted.form) && normal::nodes_of(&accepted.form) <= 512
     });
     refusal_or(holds, |_| true)
 }
 
+/// What a question is asked over.
+struct Lent {
+    tables: Tables,
+    calendars: Calendars,
+}
+
 /// A question that the checker answers with 0.
 struct Accepted {
-    tables: Tables,
+    lent: Lent,
     question: Comprehension,
     form: Comprehension,
 }
 
 /// "Order: 31; the data ...; 21; 22 and 23 in reading order ...; then 24 to 28 by number, each
-/// over the whole question".
-fn accept(data: &[u8], question: &[u8], scratch: usize) -> Result<Accepted, Stop> {
+/// over the whole question"; E4: 41 is "after all data refusals", whether or not the question asks for a
+/// calendar, and 42 "after 25 in a question".
+fn accept(
+    data: &[u8],
+    calendars: &[u8],
+    question: &[u8],
+    scratch: usize,
+) -> Result<Accepted, Stop> {
     if scratch < SCRATCH {
         return Err(Stop::Refused(31));
     }
-    let tables = tables::read_tables(data)?;
+    let lent = Lent {
+        tables: tables::read_tables(data)?,
+        calendars: calendars::read_calendars(calendars)?,
+    };
     let question = reader::read_question(question)?;
     checks::check_names(&question)?;
-    checks::check_types(&question, &tables)?;
-    let form = normal::normal_form(&question, &tables)?;
-    bounds::check_bounds(&form, &tables)?;
+    checks::check_types(&question, &lent)?;
+    let form = normal::normal_form(&question, &lent.tables)?;
+    bounds::check_bounds(&form, &lent.tables)?;
     Ok(Accepted {
-        tables,
+        lent,
         question,
         form,
     })
@@ -151,13 +221,14 @@ fn accept(data: &[u8], question: &[u8], scratch: usize) -> Result<Accepted, Stop
 /// "32: the answer buffer has fewer than G words", then the words and the pairs offered.
 fn answered(
     data: &[u8],
+    calendars: &[u8],
     question: &[u8],
     scratch: usize,
     answer_words: u64,
     evaluate: impl Fn(&Accepted) -> Result<(Vec<i64>, u64), Stop>,
 ) -> Result<Answer, Unknown> {
-    let answer = accept(data, question, scratch).and_then(|accepted| {
-        let greatest = meaning::greatest_length(&accepted.form, &accepted.tables)?;
+    let answer = accept(data, calendars, question, scratch).and_then(|accepted| {
+        let greatest = meaning::greatest_length(&accepted.form, &accepted.lent)?;
         if answer_words < greatest {
             return Ok(Answer {
                 number: 32,

@@ -193,6 +193,7 @@ impl Rewriting {
                 let first = Box::new(self.term(*first)?);
                 Term::Choice(truth, first, Box::new(self.term(*second)?))
             }
+            Term::Open(calendar, minute) => Term::Open(calendar, Box::new(self.term(*minute)?)),
             single => single,
         })
     }
@@ -232,6 +233,9 @@ impl Rewriting {
                 let truth = Box::new(self.copy(truth, names)?);
                 let first = Box::new(self.copy(first, names)?);
                 Term::Choice(truth, first, Box::new(self.copy(second, names)?))
+            }
+            Term::Open(calendar, minute) => {
+                Term::Open(*calendar, Box::new(self.copy(minute, names)?))
             }
             Term::Comprehension(inner) => {
                 let qualifiers = inner.qualifiers.iter();
@@ -352,6 +356,9 @@ fn renumbered_term(term: &Term, names: &mut HashMap<Name, Name>) -> Term {
             let truth = Box::new(renumbered_term(truth, names));
             let first = Box::new(renumbered_term(first, names));
             Term::Choice(truth, first, Box::new(renumbered_term(second, names)))
+        }
+        Term::Open(calendar, minute) => {
+            Term::Open(*calendar, Box::new(renumbered_term(minute, names)))
         }
         Term::Comprehension(inner) => Term::Comprehension(Box::new(renumbered_below(inner, names))),
         Term::Number(_) | Term::Truth(_) | Term::Table(_) => term.clone(),

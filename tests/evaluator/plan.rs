@@ -17,6 +17,7 @@ pub enum PlanTerm {
     Binary(Operation, Box<PlanTerm>, Box<PlanTerm>),
     Not(Box<PlanTerm>),
     Choice(Box<PlanTerm>, Box<PlanTerm>, Box<PlanTerm>),
+    Open(u8, Box<PlanTerm>),
 }
 
 /// What a join or an outer ranges over.
@@ -145,6 +146,7 @@ impl Planner {
                 let first = Box::new(self.term(first)?);
                 PlanTerm::Choice(truth, first, Box::new(self.term(second)?))
             }
+            Term::Open(calendar, minute) => PlanTerm::Open(*calendar, Box::new(self.term(minute)?)),
             Term::Comprehension(inner) => self.nest(inner)?,
             Term::Table(_) => return Err(FAULT),
         })
@@ -267,7 +269,7 @@ fn word_of_source(source: Source) -> String {
 }
 
 /// "terms are prefix: . (field, index first), rec, +, -, *, =, <, and, or, not; numbers decimal,
-/// truths true or false"; E2: a choice "prints as (if c a b)".
+/// truths true or false"; E2: a choice "prints as (if c a b)"; E4: "Kind 21 prints as (open n e)".
 fn text_of(term: &PlanTerm) -> String {
     match term {
         PlanTerm::Number(number) => number.to_string(),
@@ -298,5 +300,6 @@ fn text_of(term: &PlanTerm) -> String {
                 text_of(second)
             )
         }
+        PlanTerm::Open(calendar, minute) => format!("(open {calendar} {})", text_of(minute)),
     }
 }

@@ -142,6 +142,7 @@ impl Reader {
             ))),
             15 => Ok(Term::Table(only_byte(content)?)),
             19 => self.choice(content, level),
+            21 => self.open_minute(content, level),
             _ => Err(BYTES),
         }
     }
@@ -174,6 +175,13 @@ impl Reader {
         let (left, behind) = self.next_term(content, level)?;
         let right = self.only_term(behind, level)?;
         Ok(Term::Binary(operation, Box::new(left), Box::new(right)))
+    }
+
+    /// E4: "Kind 21 holds one byte of calendar and one number term"; any byte, like a table's number.
+    fn open_minute(&mut self, content: &[u8], level: usize) -> Result<Term, Stop> {
+        let (calendar, left) = content.split_first().ok_or(BYTES)?;
+        let minute = Box::new(self.only_term(left, level)?);
+        Ok(Term::Open(*calendar, minute))
     }
 
     /// E2: "kind 19, three terms".

@@ -114,6 +114,8 @@ pub enum Term {
     Not(Box<Term>),
     /// Request E2's "kind 19, three terms: a truth, then two numbers or two truths".
     Choice(Box<Term>, Box<Term>, Box<Term>),
+    /// Request E4's "Kind 21 holds one byte of calendar and one number term".
+    Open(u8, Box<Term>),
     Comprehension(Box<Comprehension>),
     Table(u8),
 }
@@ -147,7 +149,9 @@ impl Term {
     pub fn below(&self) -> Vec<&Term> {
         match self {
             Term::Number(_) | Term::Truth(_) | Term::Name(_) | Term::Table(_) => Vec::new(),
-            Term::Field(_, inner) | Term::Not(inner) => vec![inner.as_ref()],
+            Term::Field(_, inner) | Term::Not(inner) | Term::Open(_, inner) => {
+                vec![inner.as_ref()]
+            }
             Term::Record(fields) => fields.iter().collect(),
             Term::Binary(_, left, right) => vec![left.as_ref(), right.as_ref()],
             Term::Choice(truth, first, second) => {

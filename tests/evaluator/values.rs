@@ -4,6 +4,7 @@ use std::cmp::Ordering;
 use std::rc::Rc;
 
 use super::budget::{Budget, Stop, FAULT};
+use super::calendars::Calendars;
 use super::terms::{Monoid, Operation};
 
 /// A value. Parts are shared, so that a value of many words may stay small.
@@ -226,6 +227,16 @@ pub fn apply(operation: Operation, left: &Value, right: &Value) -> Result<Value,
         Operation::And => Value::Truth(left.truth()? && right.truth()?),
         Operation::Or => Value::Truth(left.truth()? || right.truth()?),
     })
+}
+
+/// E4: kind 21 "is true when that minute lies in a window of its weekday. Minutes outside the years are
+/// not open", those over 127 bits among them.
+pub fn open_at(calendars: &Calendars, calendar: u8, minute: &Value) -> Result<Value, Stop> {
+    let open = match minute.number()? {
+        Some(minute) => calendars.is_open(u64::from(calendar), minute)?,
+        None => false,
+    };
+    Ok(Value::Truth(open))
 }
 
 fn arithmetic(operation: Operation, left: Option<i128>, right: Option<i128>) -> Option<i128> {

@@ -52,19 +52,24 @@ fn compare(vector: &Recorded, found: &mut Vec<String>) -> Result<(), Unknown> {
     note(
         found,
         "scratch",
-        &check(&vector.data, &vector.question, ENOUGH - 1)?,
+        &check(
+            &vector.data,
+            &vector.calendars,
+            &vector.question,
+            ENOUGH - 1,
+        )?,
         &(31, 0),
     );
     note(
         found,
         "check",
-        &check(&vector.data, &vector.question, ENOUGH)?,
+        &check(&vector.data, &vector.calendars, &vector.question, ENOUGH)?,
         &(vector.check, 0),
     );
     note(
         found,
         "rules",
-        &normal_form_holds(&vector.data, &vector.question)?,
+        &normal_form_holds(&vector.data, &vector.calendars, &vector.question)?,
         &true,
     );
     compare_plan(vector, found)?;
@@ -75,7 +80,16 @@ fn compare(vector: &Recorded, found: &mut Vec<String>) -> Result<(), Unknown> {
 }
 
 fn compare_plan(vector: &Recorded, found: &mut Vec<String>) -> Result<(), Unknown> {
-    let (number, lines) = plan_lines(&vector.data, &vector.question, ENOUGH, usize::MAX)?;
+    let lines_in = |bytes: usize| {
+        plan_lines(
+            &vector.data,
+            &vector.calendars,
+            &vector.question,
+            ENOUGH,
+            bytes,
+        )
+    };
+    let (number, lines) = lines_in(usize::MAX)?;
     note(found, "plan number", &number, &vector.check);
     let Some(plan) = &vector.plan else {
         return Ok(());
@@ -87,30 +101,43 @@ fn compare_plan(vector: &Recorded, found: &mut Vec<String>) -> Result<(), Unknow
         plan,
     );
     let short = lines.len().saturating_sub(1);
-    let refused = plan_lines(&vector.data, &vector.question, ENOUGH, short)?;
-    note(found, "plan in a short buffer", &refused, &(33, Vec::new()));
+    note(
+        found,
+        "plan in a short buffer",
+        &lines_in(short)?,
+        &(33, Vec::new()),
+    );
     Ok(())
 }
 
 fn compare_answers(vector: &Recorded, found: &mut Vec<String>) -> Result<(), Unknown> {
     for (way, answer_by) in [("loops", by_loops as AnswerCall), ("plan", by_plan)] {
-        let answer = answer_by(&vector.data, &vector.question, ENOUGH, u64::MAX)?;
+        let answer_in = |words: u64| {
+            answer_by(
+                &vector.data,
+                &vector.calendars,
+                &vector.question,
+                ENOUGH,
+                words,
+            )
+        };
+        let answer = answer_in(u64::MAX)?;
         note(found, way, &answer.number, &vector.check);
         note_known(found, way, &answer.greatest, &vector.greatest);
         note_known(found, way, &answer.length, &vector.length);
         note_known(found, way, &answer.words, &vector.words);
         if let Some(greatest) = vector.greatest {
             let short = greatest.saturating_sub(1);
-            let refused = answer_by(&vector.data, &vector.question, ENOUGH, short)?;
+            let refused = answer_in(short)?;
             note(found, way, &(refused.number, refused.length), &(32, 0));
-            let enough = answer_by(&vector.data, &vector.question, ENOUGH, greatest)?;
+            let enough = answer_in(greatest)?;
             note(found, way, &enough, &answer);
         }
     }
     Ok(())
 }
 
-type AnswerCall = fn(&[u8], &[u8], usize, u64) -> Result<evaluator::Answer, Unknown>;
+type AnswerCall = fn(&[u8], &[u8], &[u8], usize, u64) -> Result<evaluator::Answer, Unknown>;
 
 fn note<T: PartialEq + std::fmt::Debug>(found: &mut Vec<String>, what: &str, is: &T, should: &T) {
     if is != should {

@@ -1,20 +1,21 @@
-"""Tables and questions in a small readable notation, and document 01's bytes of both.
+"""Tables, calendars and questions in a small readable notation, and their bytes.
 
     question   monoid{ head | qualifier, qualifier, .. }      or  monoid{ head }
     monoid     list  bag  set  sum  max  some  all  min
     qualifier  x <- term (generator)   let x = term (binding)   term (condition)
     term       7  -3  true  false  x  Table  x.column  x.0  (a, b)  (a,)  a + b  a - b  a * b
                a = b  a < b  a and b  a or b  not a  if a then b else c
-               and a question inside the question
+               open(Calendar, a)  open(2, a)  and a question inside the question
 
-Kinds 1 to 19 are all there is, so the other comparisons are short for these: a > b is b < a,
+Kinds 1 to 19 and 21 are all there is, so the other comparisons are short for these: a > b is b < a,
 a <= b is not b < a, a >= b is not a < b, a != b is not a = b. A column's name stands for its
-index. Names are numbered from 0 in the order of their qualifiers in the bytes; a name that is
+index, a calendar's for its place. Names are numbered from 0 in the order of their qualifiers in the bytes; a name that is
 neither bound nor a table's is name 255, which is out of scope.
 """
 import copy
 import re
 from collections import namedtuple
+from datetime import datetime, timedelta
 
 COLLECTIONS = {'list': 1, 'bag': 2, 'set': 3}
 MONOIDS = {'list': 1, 'bag': 2, 'set': 3, 'sum': 4, 'max': 5, 'some': 6, 'all': 7, 'min': 8}
@@ -79,6 +80,31 @@ class Table:
         return record(self.kind, head + bounds + self.cells())
 
 
+class Calendar:
+    """A stored calendar (document 02, E4) with windows (weekday, first, end). To break it: another kind or
+    count of windows, bytes cut off with or without the length saying so."""
+
+    def __init__(self, name, *windows, kind=24, count=None, short=0, cut=0):
+        self.name, self.windows, self.kind, self.cut = name, windows, kind, cut
+        self.count, self.short = len(windows) if count is None else count, short
+
+    def open(self, minute):
+        """Whether a minute is open, by Python's own dates."""
+        try:
+            moment = datetime(2000, 1, 1) + timedelta(minutes=minute)
+        except OverflowError:
+            return False
+        of_day = 60 * moment.hour + moment.minute
+        hours = [range(first, end) for weekday, first, end in self.windows if weekday == moment.weekday()]
+        return 2000 <= moment.year < 2400 and any(of_day in window for window in hours)
+
+    def packed(self):
+        windows = [bytes([weekday]) + unsigned16(first) + unsigned16(end) for weekday, first, end in self.windows]
+        content = bytes([self.count]) + b''.join(windows)
+        whole = record(self.kind, content[:len(content) - self.short])
+        return whole[:len(whole) - self.cut]
+
+
 def columns_of(rows, columns):
     """The cells of each column, as differences from the cell above (the first from 0), wrapped at 32 bits
     and folded: 0, -1, 1, -2 become 0, 1, 2, 3."""
@@ -111,13 +137,13 @@ def packed(tables):
     return b''.join(table.packed(place) for place, table in enumerate(tables))
 
 
-def question(text, tables):
-    """The bytes of a question over tables."""
+def question(text, tables, calendars):
+    """The bytes of a question over tables and calendars."""
     reader = Reader(text)
     tree = reader.term()
     if reader.next is not None or tree[0] != 'comprehension':
         raise ValueError('not one question: ' + text)
-    return Writer(tables).term(tree, {})
+    return Writer(tables, calendars).term(tree, {})
 
 
 class Reader:
@@ -196,6 +222,13 @@ class Reader:
             return self.parenthesis()
         if token in MONOIDS and self.next == '{':
             return self.comprehension(token)
+        if token == 'open' and self.next == '(':
+            self.step()
+            calendar = self.step()
+            self.take(',')
+            minute = self.term()
+            self.take(')')
+            return ('open', calendar, minute)
         if not re.match(r'[A-Za-z]', token):
             raise ValueError('no term at %s in: %s' % (token, self.text))
         return ('name', token)
@@ -239,8 +272,8 @@ class Writer:
     """Trees to bytes. A scope gives what each name is, as far as columns are to be found:
     ('row', table), ('record', parts), ('collection', element), or None for numbers and truths."""
 
-    def __init__(self, tables):
-        self.tables, self.numbers = tables, {}
+    def __init__(self, tables, calendars):
+        self.tables, self.calendars, self.numbers = tables, calendars, {}
 
     def place(self, name):
         return [table.name for table in self.tables].index(name)
@@ -249,6 +282,9 @@ class Writer:
         place = self.place(name)
         own = self.tables[place].number
         return place if own is None else own
+
+    def calendar(self, name):
+        return int(name) if name.isdigit() else [calendar.name for calendar in self.calendars].index(name)
 
     def term(self, tree, scope):
         sort = tree[0]
@@ -270,6 +306,8 @@ class Writer:
             return record(13, self.term(tree[1], scope))
         if sort == 'choice':
             return record(19, b''.join(self.term(part, scope) for part in tree[1:]))
+        if sort == 'open':
+            return record(21, bytes([self.calendar(tree[1])]) + self.term(tree[2], scope))
         if sort == 'comprehension':
             return self.comprehension(tree, scope)
         return record(BINARY[sort], self.term(tree[1], scope) + self.term(tree[2], scope))

@@ -1,6 +1,6 @@
-//! Every open call against itself, over data in two states that must be the same to it (document 02: the
-//! records in another order, E9; the tables in the other kind, E10): number, length, all words up to G, the
-//! plan's bytes, and what portions and rounds say.
+//! Every open call against itself, over data and calendars in two states that must be the same to it (document
+//! 02: the records in another order, E9; the tables in the other kind, E10; the calendars' windows in other
+//! words, E4): number, length, all words up to G, the plan's bytes, and what portions and rounds say.
 
 use std::time::Instant;
 
@@ -49,18 +49,31 @@ impl Alike {
     }
 
     /// Compares an input with the same question over the other state of its data.
-    pub fn input(&mut self, place: Place, input: &Input, data: Vec<u8>) {
-        self.tally.inputs += 1;
+    pub fn over_data(&mut self, place: Place, input: &Input, data: Vec<u8>) {
         let other = Input {
             data,
             ..input.clone()
         };
-        if most_offers(input).max(most_offers(&other)) > MOST_OFFERS {
+        self.input(place, input, &other);
+    }
+
+    /// The same over the other state of its calendars.
+    pub fn over_calendars(&mut self, place: Place, input: &Input, calendars: Vec<u8>) {
+        let other = Input {
+            calendars,
+            ..input.clone()
+        };
+        self.input(place, input, &other);
+    }
+
+    fn input(&mut self, place: Place, input: &Input, other: &Input) {
+        self.tally.inputs += 1;
+        if most_offers(input).max(most_offers(other)) > MOST_OFFERS {
             return self.tally.skip("too many rows may be offered");
         }
         let mut random = Random::new(!place.0, place.1);
-        if let Err(what) = self.compare(place, [input, &other], &mut random) {
-            self.tally.input_differs(place, &other, &what);
+        if let Err(what) = self.compare(place, [input, other], &mut random) {
+            self.tally.input_differs(place, other, &what);
             self.tally
                 .input_differs(place, input, "was the first state");
         }
@@ -105,7 +118,7 @@ impl Alike {
 fn begin(way: &mut Way, input: &Input, salt: u64) -> Outcome {
     way.answer.lend(MOST_WORDS, salt);
     let scratch = way.scratch.lend(SCRATCH, salt);
-    calls::begin(&input.data, &input.question, scratch)
+    calls::begin(&input.data, &input.calendars, &input.question, scratch)
 }
 
 /// Portions and rounds until both have ended; each must say the same of both.
@@ -133,14 +146,14 @@ fn portions(
 fn offered(way: &mut Way, input: &Input, rows: u64, round: bool) -> Portioned {
     let (scratch, answer) = (way.scratch.again(), way.answer.again());
     if !round {
-        return calls::portion(&input.data, scratch, answer, rows);
+        return calls::portion(&input.data, &input.calendars, scratch, answer, rows);
     }
     let none = || LentSeat {
         scratch: &mut [],
         answer: &mut [],
     };
     let seats = [LentSeat { scratch, answer }, none(), none(), none()];
-    calls::round(&input.data, &[rows], seats).seats[0]
+    calls::round(&input.data, &input.calendars, &[rows], seats).seats[0]
 }
 
 impl<T: Unit> Both<T> {

@@ -33,7 +33,7 @@ fn is_term(kind: u16) -> bool {
     !matches!(kind, GENERATOR | BINDING | CONDITION)
 }
 
-/// Another name, index, table number, monoid, truth or number.
+/// Another name, index, table number, calendar, monoid, truth or number.
 fn change_own_bytes(random: &mut Random, node: &mut Node) {
     let change = random.one_of(&[1, 2, 3, 255], 1);
     let Some(byte) = node.fixed.first_mut() else {
@@ -53,6 +53,8 @@ fn change_kind(random: &mut Random, node: &mut Node) {
         GENERATOR => BINDING,
         BINDING => GENERATOR,
         NOT | CHOICE => RECORD,
+        OPEN => FIELD,
+        FIELD if random.chance(50) => OPEN,
         RECORD if node.parts.len() == 3 => CHOICE,
         _ => return replace_term(random, node),
     };
@@ -62,13 +64,22 @@ fn replace_term(random: &mut Random, node: &mut Node) {
     if !is_term(node.kind) || node.kind == COMPREHENSION {
         return random_swap(random, node);
     }
-    *node = match random.below(7) {
+    *node = match random.below(8) {
         0 => number(1),
         1 => truth(true),
         2 => name(u16::from(random.byte())),
         3 => table(random.one_of(&[0, 1, 2, 7, 8, 255], 0)),
         4 => record(vec![number(1), truth(false)]),
         5 => misfit_choice(random),
+        6 => {
+            let minute = random.one_of(&[0, 0, 480], 0);
+            let minute = if random.chance(70) {
+                number(minute)
+            } else {
+                truth(true)
+            };
+            open(random.one_of(&[0, 0, 0, 1, 3, 4, 255], 0), minute)
+        }
         _ => comprehension(BAG, Vec::new(), number(1)),
     };
 }
@@ -110,7 +121,7 @@ pub fn break_record(random: &mut Random, question: &mut Node) {
     };
     match random.below(7) {
         0 => {
-            let kinds = [0, 16, 17, 18, 19, 20, 21, 23, 256, 270, 65_535];
+            let kinds = [0, 16, 17, 18, 19, 20, 21, 22, 23, 24, 256, 270, 277, 65_535];
             node.kind = random.one_of(&kinds, 0);
         }
         1 => node.fixed.push(extra),

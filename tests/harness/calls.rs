@@ -48,7 +48,13 @@ pub struct LentSeat<'a> {
     pub answer: &'a mut [i64],
 }
 
-/// Declares a call of an archive and lends slices to it: data and question, then what is written.
+/// What a call about days and hours gives, by value: its number, and what it tells.
+#[repr(C)]
+#[derive(Clone, Copy, Debug, PartialEq, Eq)]
+pub struct Told<const WORDS: usize>(pub [u64; WORDS]);
+
+/// Declares a call of an archive and lends slices to it: data, calendars and question, then what is
+/// written.
 #[macro_export]
 macro_rules! open_call {
     ($archive:literal, $linked:ident as $name:ident: $($buffer:ident of $unit:ty),*) => {
@@ -57,6 +63,8 @@ macro_rules! open_call {
             fn $linked(
                 data: *const u8,
                 data_bytes: usize,
+                calendars: *const u8,
+                calendars_bytes: usize,
                 question: *const u8,
                 question_bytes: usize,
                 $($buffer: *mut $unit, _: usize),*
@@ -65,6 +73,7 @@ macro_rules! open_call {
 
         pub fn $name(
             data: &[u8],
+            calendars: &[u8],
             question: &[u8],
             $($buffer: &mut [$unit]),*
         ) -> $crate::calls::Outcome {
@@ -74,6 +83,8 @@ macro_rules! open_call {
                 $linked(
                     data.as_ptr(),
                     data.len(),
+                    calendars.as_ptr(),
+                    calendars.len(),
                     question.as_ptr(),
                     question.len(),
                     $($buffer.as_mut_ptr(), $buffer.len()),*
@@ -93,6 +104,8 @@ extern "C" {
     fn dislogha_portion(
         data: *const u8,
         data_bytes: usize,
+        calendars: *const u8,
+        calendars_bytes: usize,
         scratch: *mut u64,
         scratch_words: usize,
         answer: *mut i64,
@@ -103,6 +116,8 @@ extern "C" {
     fn dislogha_round(
         data: *const u8,
         data_bytes: usize,
+        calendars: *const u8,
+        calendars_bytes: usize,
         quotas: *const u64,
         seats: usize,
         scratch1: *mut u64,
@@ -122,6 +137,17 @@ extern "C" {
         answer4: *mut i64,
         answer4_words: usize,
     ) -> Round;
+
+    fn dislogha_first_open(
+        calendars: *const u8,
+        calendars_bytes: usize,
+        calendar: u64,
+        minute: i64,
+    ) -> Told<3>;
+
+    fn dislogha_day_number(year: u64, month: u64, day: u64) -> Told<2>;
+
+    fn dislogha_date(day: u64) -> Told<4>;
 }
 
 /// Declares a direction: a record, and the target that it is written into.
@@ -155,13 +181,21 @@ direction!(dislogha_table_to_columns as table_to_columns);
 direction!(dislogha_table_to_rows as table_to_rows);
 
 /// A portion of the question in scratch: it takes no question, so it is not declared as the others.
-pub fn portion(data: &[u8], scratch: &mut [u64], answer: &mut [i64], rows: u64) -> Portioned {
+pub fn portion(
+    data: &[u8],
+    calendars: &[u8],
+    scratch: &mut [u64],
+    answer: &mut [i64],
+    rows: u64,
+) -> Portioned {
     // SAFETY: each pointer goes with the length of its own slice, and what is written overlaps
     // nothing else.
     unsafe {
         dislogha_portion(
             data.as_ptr(),
             data.len(),
+            calendars.as_ptr(),
+            calendars.len(),
             scratch.as_mut_ptr(),
             scratch.len(),
             answer.as_mut_ptr(),
@@ -172,7 +206,7 @@ pub fn portion(data: &[u8], scratch: &mut [u64], answer: &mut [i64], rows: u64) 
 }
 
 /// A round over a rota with these quotas, one for each of its seats.
-pub fn round(data: &[u8], quotas: &[u64], seats: [LentSeat; 4]) -> Round {
+pub fn round(data: &[u8], calendars: &[u8], quotas: &[u64], seats: [LentSeat; 4]) -> Round {
     let [first, second, third, fourth] = seats;
     // SAFETY: as for a portion; the seats' slices are all lent to be written, so none overlaps
     // another one.
@@ -180,6 +214,8 @@ pub fn round(data: &[u8], quotas: &[u64], seats: [LentSeat; 4]) -> Round {
         dislogha_round(
             data.as_ptr(),
             data.len(),
+            calendars.as_ptr(),
+            calendars.len(),
             quotas.as_ptr(),
             quotas.len(),
             first.scratch.as_mut_ptr(),
@@ -200,4 +236,22 @@ pub fn round(data: &[u8], quotas: &[u64], seats: [LentSeat; 4]) -> Round {
             fourth.answer.len(),
         )
     }
+}
+
+/// Number, found and minute of the first open minute of a calendar at or after a given one.
+pub fn first_open(calendars: &[u8], calendar: u64, minute: i64) -> [u64; 3] {
+    // SAFETY: the pointer goes with the length of its slice, and nothing is written.
+    unsafe { dislogha_first_open(calendars.as_ptr(), calendars.len(), calendar, minute).0 }
+}
+
+/// Number and day number of a date.
+pub fn day_number(year: u64, month: u64, day: u64) -> [u64; 2] {
+    // SAFETY: nothing is lent.
+    unsafe { dislogha_day_number(year, month, day).0 }
+}
+
+/// Number, year, month and day of a day number.
+pub fn date(day: u64) -> [u64; 4] {
+    // SAFETY: nothing is lent.
+    unsafe { dislogha_date(day).0 }
 }

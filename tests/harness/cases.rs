@@ -42,15 +42,15 @@ fn known(vector: &Recorded) -> bool {
     vector.check != 0 || vector.words.is_some()
 }
 
-/// One byte that says whether the answer is known, two lengths of two bytes, data, question.
+/// One byte that says whether the answer is known, three lengths of two bytes, data, calendars, question.
 fn case_of(vector: &Recorded) -> Result<Vec<u8>, String> {
     let mut bytes = vec![u8::from(known(vector))];
-    for part in [&vector.data, &vector.question] {
+    let parts = [&vector.data, &vector.calendars, &vector.question];
+    for part in parts {
         let length = u16::try_from(part.len()).map_err(|_| format!("{}: long", vector.name))?;
         bytes.extend(length.to_le_bytes());
     }
-    bytes.extend(&vector.data);
-    bytes.extend(&vector.question);
+    bytes.extend(parts.into_iter().flatten());
     Ok(bytes)
 }
 

@@ -29,7 +29,7 @@ struct Case<'a, T> {
 impl<T: Unit> Held for Comparison<'_, T> {
     /// Compares one input, over several lengths of what is lent.
     fn input(&mut self, place: Place, input: &Input) {
-        let reply = match (self.call.expected)(&input.data, &input.question) {
+        let reply = match (self.call.expected)(input) {
             Ok(reply) => reply,
             Err(unknown) => {
                 self.tally.skip(unknown.0);
@@ -89,7 +89,7 @@ impl<'a, T: Unit> Comparison<'a, T> {
     /// What the call itself says is taken for its reply, so that all but the number is compared.
     fn reply_unknown(&mut self, input: &Input) -> Reply<T> {
         let scratch = self.scratch.lend(SCRATCH, 0);
-        let outcome = (self.call.made)(&input.data, &input.question, scratch, &mut []);
+        let outcome = (self.call.made)(input, scratch, &mut []);
         Reply {
             number: outcome.number,
             length: 0,
@@ -99,8 +99,7 @@ impl<'a, T: Unit> Comparison<'a, T> {
 
     fn lengths(&mut self, mut case: Case<T>) -> Result<(), String> {
         if case.reply.number == 0 {
-            let Input { data, question, .. } = case.input;
-            self.tally.answered(data, question);
+            self.tally.answered(&case.input.data, &case.input.question);
         }
         let most = self.call.too_short.map(|_| case.reply.written.len());
         for (scratch, buffer) in lengths(&mut case.random, most) {
@@ -113,9 +112,8 @@ impl<'a, T: Unit> Comparison<'a, T> {
     fn made(&mut self, case: &mut Case<T>, scratch: usize, buffer: usize) -> Result<(), String> {
         let lent_scratch = self.scratch.lend(scratch, case.random.next());
         let lent_buffer = self.buffer.lend(buffer, case.random.next());
-        let Input { data, question, .. } = case.input;
         let start = Instant::now();
-        let outcome = (self.call.made)(data, question, lent_scratch, lent_buffer);
+        let outcome = (self.call.made)(case.input, lent_scratch, lent_buffer);
         self.tally
             .called(outcome.number, start.elapsed(), case.place);
         self.compare_call(case.reply, outcome)

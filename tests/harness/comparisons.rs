@@ -41,7 +41,13 @@ impl Ordered {
     fn held(&self) -> Result<u64, String> {
         let (mut scratch, mut answer) = (Lent::<u64>::new(), Lent::<i64>::new());
         let lent = answer.lend(self.answer, 1);
-        let reply = comparisons(&self.data, &self.question, scratch.lend(SCRATCH, 2), lent);
+        let reply = comparisons(
+            &self.data,
+            &[],
+            &self.question,
+            scratch.lend(SCRATCH, 2),
+            lent,
+        );
         if reply.number != 0 {
             return Ok(reply.number);
         }

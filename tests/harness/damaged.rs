@@ -1,6 +1,6 @@
 //! What is lent to portions, changed in between (document 02, E7): "only safety and an end are
-//! promised". Questions at two seats are begun, and before each portion words of scratch, the data,
-//! the answer buffer or a length is another one. Fences around all that is lent must stay; every other
+//! promised". Questions at two seats are begun, and before each portion words of scratch, the data, the
+//! calendars, the answer buffer or a length is another one. Fences around all that is lent must stay; every other
 //! call is made on heap blocks of exactly the lent lengths, so that valgrind sees a step outside. A
 //! question that is then begun over what is left must end as it does alone.
 
@@ -10,7 +10,7 @@ use super::calls::{self, Portioned};
 use super::generate::{generate, questions, Input};
 use super::lent::{Lent, SCRATCH};
 use super::offers::most_offers;
-use super::open::{MOST_ROWS, PLAN, PORTIONS};
+use super::open::{CHECK, MOST_ROWS, PLAN, PORTIONS};
 use super::random::Random;
 use super::seat::{MOST_OFFERS, UNFINISHED};
 use super::tally::{Place, Tally};
@@ -37,6 +37,7 @@ pub struct Damage {
 struct Seat {
     input: Input,
     data: Lent<u8>,
+    calendars: Lent<u8>,
     way: Way,
     /// Words of scratch that are lent.
     scratch: usize,
@@ -92,7 +93,7 @@ impl Damage {
         } else {
             (second, first)
         };
-        match random.below(16) {
+        match random.below(17) {
             0..=5 => seat.change_used(random),
             6 | 7 => {
                 let at = random.below(SCRATCH);
@@ -111,7 +112,8 @@ impl Damage {
                 }
             }
             11 => seat.words().fill(0),
-            12 => seat.change_data(&other.input.data, random),
+            12 => change_bytes(&mut seat.data, &other.input.data, random),
+            16 => change_bytes(&mut seat.calendars, &other.input.calendars, random),
             13 => {
                 let words = random.one_of(&[0, 1, 2, 5, 30, 200], 0);
                 seat.way.answer.lend(words, random.next());
@@ -177,11 +179,10 @@ impl Damage {
         let (scratch, answer) = (way.scratch.len(), random.below(60));
         let salt = random.next();
         way.answer.lend(answer, salt);
-        let Input { data, question, .. } = &*input;
-        let outcome = (PORTIONS.made)(data, question, way.scratch.again(), way.answer.again());
+        let outcome = (PORTIONS.made)(input, way.scratch.again(), way.answer.again());
         let alone = self.alone.answers(input, (scratch, answer), salt ^ OTHER);
         if alone.number == 0 {
-            self.tally.answered(data, question);
+            self.tally.answered(&input.data, &input.question);
         }
         agree([(&self.alone, alone), (way, outcome)])
             .map(|_| ())
@@ -197,9 +198,7 @@ fn inputs((seed, index): Place, random: &mut Random) -> [Input; 2] {
         all.splice(0..0, questions(seed, index, TRIED as usize));
     }
     let mut scratch = vec![0; SCRATCH];
-    all.sort_by_cached_key(|input| {
-        calls::check(&input.data, &input.question, &mut scratch).number != 0
-    });
+    all.sort_by_cached_key(|input| (CHECK.made)(input, &mut scratch, &mut []).number != 0);
     [all.remove(0), all.remove(0)]
 }
 
@@ -214,11 +213,34 @@ fn any_word(random: &mut Random) -> u64 {
     )
 }
 
+fn lend_bytes(lent: &mut Lent<u8>, bytes: &[u8], random: &mut Random) {
+    let again = lent.lend(bytes.len(), random.next());
+    again.copy_from_slice(bytes);
+}
+
+/// Bytes changed, cut off, put behind, or another question's.
+fn change_bytes(lent: &mut Lent<u8>, other: &[u8], random: &mut Random) {
+    let mut bytes = lent.again().to_vec();
+    match random.below(4) {
+        0 => {
+            let at = random.below(bytes.len());
+            if let Some(byte) = bytes.get_mut(at) {
+                *byte = random.byte();
+            }
+        }
+        1 => bytes.truncate(random.between(0, bytes.len())),
+        2 => bytes.extend((0..random.between(1, 40)).map(|_| random.byte())),
+        _ => bytes = other.to_vec(),
+    }
+    lend_bytes(lent, &bytes, random);
+}
+
 impl Seat {
     fn new(input: Input) -> Seat {
         Seat {
             input,
             data: Lent::new(),
+            calendars: Lent::new(),
             way: Way::new(PORTIONS),
             scratch: SCRATCH,
             answer_changed: false,
@@ -233,9 +255,11 @@ impl Seat {
         self.scratch = scratch;
         self.answer_changed = false;
         self.input = input;
-        self.lend_data(self.input.data.clone(), random);
+        lend_bytes(&mut self.data, &self.input.data, random);
+        lend_bytes(&mut self.calendars, &self.input.calendars, random);
         calls::begin(
             self.data.again(),
+            self.calendars.again(),
             &self.input.question,
             self.way.scratch.again(),
         );
@@ -244,11 +268,6 @@ impl Seat {
     /// Whether no question is unfinished, so that a portion would be 48.
     fn is_over(&mut self) -> bool {
         self.words().iter().all(|word| *word == 0)
-    }
-
-    fn lend_data(&mut self, bytes: Vec<u8>, random: &mut Random) {
-        let lent = self.data.lend(bytes.len(), random.next());
-        lent.copy_from_slice(&bytes);
     }
 
     /// The words of scratch that a call may use.
@@ -278,33 +297,22 @@ impl Seat {
         words[at] = random.one_of(&chosen, 0);
     }
 
-    /// Bytes changed, cut off, put behind, or another question's.
-    fn change_data(&mut self, other: &[u8], random: &mut Random) {
-        let mut bytes = self.data.again().to_vec();
-        match random.below(4) {
-            0 => {
-                let at = random.below(bytes.len());
-                if let Some(byte) = bytes.get_mut(at) {
-                    *byte = random.byte();
-                }
-            }
-            1 => bytes.truncate(random.between(0, bytes.len())),
-            2 => bytes.extend((0..random.between(1, 40)).map(|_| random.byte())),
-            _ => bytes = other.to_vec(),
-        }
-        self.lend_data(bytes, random);
-    }
-
     /// The call between fences, or on blocks of their own.
     fn portion(&mut self, scratch: usize, rows: u64, fenced: bool) -> Portioned {
-        let data = self.data.again();
+        let (data, calendars) = (self.data.again(), self.calendars.again());
         let scratch = &mut self.way.scratch.again()[..scratch];
         let answer = self.way.answer.again();
         if fenced {
-            return calls::portion(data, scratch, answer, rows);
+            return calls::portion(data, calendars, scratch, answer, rows);
         }
         let (mut own_scratch, mut own_answer) = (scratch.to_vec(), answer.to_vec());
-        let said = calls::portion(&data.to_vec(), &mut own_scratch, &mut own_answer, rows);
+        let said = calls::portion(
+            &data.to_vec(),
+            &calendars.to_vec(),
+            &mut own_scratch,
+            &mut own_answer,
+            rows,
+        );
         scratch.copy_from_slice(&own_scratch);
         answer.copy_from_slice(&own_answer);
         said
@@ -315,6 +323,7 @@ impl Seat {
             ("scratch", self.way.scratch.broken_fence()),
             ("answer", self.way.answer.broken_fence()),
             ("data", self.data.broken_fence()),
+            ("calendars", self.calendars.broken_fence()),
         ];
         for (name, what) in broken {
             if let Some(what) = what {

@@ -14,8 +14,9 @@ use harness::tally::{exit_code, Tally};
 const DESK: &str = "target/bin/desk";
 
 /// What may be printed in front: a plan, "too long", and the refusals that an input can reach. Its
-/// data are whole records of kind 20 or 23, so it has no 11; its buffers are long enough for 31 and 33.
-const FRONTS: [&str; 16] = [
+/// data are whole records of kind 20 or 23, so it has no 11; it lends no calendar, so it has no 41, and a
+/// question that asks for one is 42; its buffers are long enough for 31 and 33.
+const FRONTS: [&str; 17] = [
     "one",
     "too long",
     "refused 12",
@@ -28,6 +29,7 @@ const FRONTS: [&str; 16] = [
     "refused 23",
     "refused 24",
     "refused 25",
+    "refused 42",
     "refused 26",
     "refused 27",
     "refused 28",
@@ -36,7 +38,7 @@ const FRONTS: [&str; 16] = [
 
 fn main() -> ExitCode {
     let [seed, count] = arguments("seed, count of inputs", [1, 2_000]);
-    let mut tally = Tally::of_questions("desk", FRONTS.map(String::from).to_vec());
+    let mut tally = Tally::without_calendars("desk", FRONTS.map(String::from).to_vec());
     for (name, input) in edges() {
         // The evaluator gives up at none of them.
         if let Err(unknown) = compare(&mut tally, &name, &input) {
@@ -85,17 +87,17 @@ fn printed(input: &[u8]) -> std::io::Result<Vec<u8>> {
     Ok(desk.wait_with_output()?.stdout)
 }
 
-/// What it should print.
+/// What it should print. E4: "the desk program lends no calendar".
 fn expected(input: &[u8]) -> Result<String, Unknown> {
     if input.len() > 65_536 {
         return Ok("too long\n".to_string());
     }
     let (data, question) = input.split_at(tables_end(input));
-    let answer = evaluator::by_loops(data, question, SCRATCH, 4096)?;
+    let answer = evaluator::by_loops(data, &[], question, SCRATCH, 4096)?;
     if answer.number != 0 {
         return Ok(format!("refused {}\n", answer.number));
     }
-    let (_, lines) = evaluator::plan_lines(data, question, SCRATCH, usize::MAX)?;
+    let (_, lines) = evaluator::plan_lines(data, &[], question, SCRATCH, usize::MAX)?;
     let words: String = answer.words.iter().map(|word| format!(" {word}")).collect();
     Ok(format!(
         "{}answer{words}\n",

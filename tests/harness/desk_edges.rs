@@ -64,8 +64,28 @@ pub fn edges() -> Vec<(String, Vec<u8>)> {
         named("the longest words", squares()),
     ];
     edges.extend(cuts("cut", &whole));
+    edges.extend(edges_of_hours(&data));
     edges.extend(edges_by_column(&data, &question));
     edges
+}
+
+/// "the desk program lends no calendar" (document 02, E4): a question that asks for one is 42 once all up to 25
+/// holds, and a calendar in the input is where the question should be.
+fn edges_of_hours(data: &[u8]) -> Vec<(String, Vec<u8>)> {
+    let minute = || open(0, number(480));
+    let asked = |head: Node| comprehension(SOME, Vec::new(), head).bytes();
+    let calendar = record_bytes(CALENDAR, &[1, 5, 0xe0, 1, 0xd0, 2]);
+    let listed = comprehension(LIST, vec![generator(0, table(0))], minute()).bytes();
+    let named = |name: &str, parts: &[&[u8]]| (format!("hours: {name}"), parts.concat());
+    vec![
+        named("an open minute", &[&asked(minute())]),
+        named("behind tables", &[data, &asked(minute())]),
+        named("a calendar before", &[&calendar, &asked(minute())]),
+        named("a calendar behind", &[data, &asked(minute()), &calendar]),
+        named("a calendar alone", &[&calendar]),
+        named("a minute that is a truth", &[&asked(open(0, truth(true)))]),
+        named("in a list over a bag", &[data, &listed]),
+    ]
 }
 
 /// An input cut at each byte.

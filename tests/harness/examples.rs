@@ -72,6 +72,7 @@ struct Example {
     name: String,
     scratch: usize,
     data: Vec<u8>,
+    calendars: Vec<u8>,
     question: Vec<u8>,
     number: u32,
     /// What is behind here is empty at a refusal.
@@ -93,6 +94,7 @@ impl Example {
             name: next()?.to_string(),
             scratch: next()?.parse().ok()?,
             data: bytes_of_hex(next()?)?,
+            calendars: bytes_of_hex(next()?)?,
             question: bytes_of_hex(next()?)?,
             number: next()?.parse().ok()?,
             greatest: next().map(|field| field.parse().unwrap_or(0))?,
@@ -114,6 +116,7 @@ impl Example {
         let input = Input {
             family: Family::WellTyped,
             data: self.data.clone(),
+            calendars: self.calendars.clone(),
             question: self.question.clone(),
         };
         let (checked, answered) = (self.reply(Vec::new()), self.reply(written));
@@ -124,11 +127,13 @@ impl Example {
     }
 
     fn compare_evaluator(&self) -> Result<Result<(), String>, Unknown> {
-        let (data, question, scratch) = (&self.data[..], &self.question[..], self.scratch);
-        let checked = evaluator::check(data, question, scratch)?;
-        let loops = evaluator::by_loops(data, question, scratch, u64::MAX)?;
-        let plan = evaluator::by_plan(data, question, scratch, u64::MAX)?;
-        let (number, lines) = evaluator::plan_lines(data, question, scratch, usize::MAX)?;
+        let (data, calendars) = (&self.data[..], &self.calendars[..]);
+        let (question, scratch) = (&self.question[..], self.scratch);
+        let checked = evaluator::check(data, calendars, question, scratch)?;
+        let loops = evaluator::by_loops(data, calendars, question, scratch, u64::MAX)?;
+        let plan = evaluator::by_plan(data, calendars, question, scratch, u64::MAX)?;
+        let (number, lines) =
+            evaluator::plan_lines(data, calendars, question, scratch, usize::MAX)?;
         let numbers = [checked.0, loops.number, plan.number, number];
         let greatest = self.greatest as u64;
         Ok(all_hold(&[

@@ -5,7 +5,8 @@ use std::collections::BTreeSet;
 
 use super::by_column::tables_of;
 use super::nodes::{
-    Node, CHOICE, COMPREHENSION, CONDITION, FIELD, GENERATOR, MINUS, NAME, PLUS, SUM, TABLE, TIMES,
+    Node, CHOICE, COMPREHENSION, CONDITION, FIELD, GENERATOR, MINUS, NAME, OPEN, PLUS, SUM, TABLE,
+    TIMES,
 };
 
 /// A sum of a product of two cells (document 02, E5): refused with 28 where a cell has the bound 2^31.
@@ -28,8 +29,20 @@ const CHOICES: [&str; 6] = [
     "comprehension in a choice's second",
 ];
 
+/// Open minutes (document 02, E4) by where they stand and what stands in them.
+const OPEN_MINUTES: [&str; 3] = [
+    "open minute",
+    "open minute as a condition",
+    "comprehension in an open minute",
+];
+
 /// All forms.
 pub fn forms() -> impl Iterator<Item = &'static str> {
+    forms_without_calendars().chain(OPEN_MINUTES)
+}
+
+/// The forms that are answered where no calendar is lent.
+pub fn forms_without_calendars() -> impl Iterator<Item = &'static str> {
     let of_question = CHOICES.into_iter().chain([SUM_OF_PRODUCT]);
     of_question.chain(TABLES)
 }
@@ -40,6 +53,7 @@ pub fn forms_of(data: &[u8], question: &[u8]) -> BTreeSet<&'static str> {
     add_tables(data, &mut found);
     if let Some(question) = Node::of_bytes(question) {
         add_choices(&question, &mut found);
+        add_open_minutes(&question, &mut found);
         let mut rows = BTreeSet::new();
         add_rows(&question, &mut rows);
         found.extend(sums_product(&question, &rows).then_some(SUM_OF_PRODUCT));
@@ -102,5 +116,20 @@ fn add_choices(node: &Node, found: &mut BTreeSet<&'static str>) {
     }
     for part in &node.parts {
         add_choices(part, found);
+    }
+}
+
+fn add_open_minutes(node: &Node, found: &mut BTreeSet<&'static str>) {
+    let [open, condition, inner] = OPEN_MINUTES;
+    let holds_inner = || node.parts.iter().any(|part| part.holds(COMPREHENSION));
+    let is_open = |part: &Node| part.kind == OPEN;
+    if node.kind == OPEN {
+        found.insert(open);
+        found.extend(holds_inner().then_some(inner));
+    }
+    let is_condition = node.kind == CONDITION && node.parts.iter().any(is_open);
+    found.extend(is_condition.then_some(condition));
+    for part in &node.parts {
+        add_open_minutes(part, found);
     }
 }

@@ -1,11 +1,12 @@
 //! Inputs for the open calls: the same data and question for the same seed and index.
 
 use super::by_column::of_either_kind;
+use super::calendars::{broken_calendars, Calendars};
 use super::nodes::{Node, Stored};
 use super::numbers::Numbers;
 use super::random::Random;
 use super::typed::{random_tables, Size, Writer};
-use super::{breaks, chains, choices, columns, doublings, extremes, limits, tall};
+use super::{breaks, chains, choices, columns, doublings, extremes, hours, limits, tall};
 
 /// What an input was made to be. What it is, only an evaluator can tell.
 #[derive(Clone, Copy, Debug, PartialEq, Eq, PartialOrd, Ord)]
@@ -18,6 +19,7 @@ pub enum Family {
     BrokenData,
     BeyondBounds,
     BrokenNumbers,
+    BrokenCalendars,
     Levels,
     Records,
     Bytes,
@@ -30,6 +32,7 @@ pub enum Family {
     Choice,
     Columns,
     Tall,
+    Hours,
 }
 
 /// One input of the calls, with the family it belongs to.
@@ -37,12 +40,13 @@ pub enum Family {
 pub struct Input {
     pub family: Family,
     pub data: Vec<u8>,
+    pub calendars: Vec<u8>,
     pub question: Vec<u8>,
 }
 
 /// Families with their weights, of 1,000.
-const FAMILIES: [(Family, usize); 20] = [
-    (Family::WellTyped, 265),
+const FAMILIES: [(Family, usize); 22] = [
+    (Family::WellTyped, 205),
     (Family::ForbiddenGenerator, 40),
     (Family::BrokenMeaning, 110),
     (Family::BrokenRecord, 60),
@@ -50,6 +54,7 @@ const FAMILIES: [(Family, usize); 20] = [
     (Family::BrokenData, 60),
     (Family::BeyondBounds, 20),
     (Family::BrokenNumbers, 20),
+    (Family::BrokenCalendars, 20),
     (Family::Levels, 25),
     (Family::Records, 20),
     (Family::Bytes, 20),
@@ -62,6 +67,7 @@ const FAMILIES: [(Family, usize); 20] = [
     (Family::Choice, 40),
     (Family::Columns, 40),
     (Family::Tall, 15),
+    (Family::Hours, 40),
 ];
 
 /// The input of an index.
@@ -71,84 +77,114 @@ pub fn generate(seed: u64, index: u64) -> Input {
     let family = FAMILIES
         .get(position)
         .map_or(Family::WellTyped, |(family, _)| *family);
-    let (data, question) = input_of(&mut random, family);
+    let made = Made::random(&mut random, family);
+    let (data, question) = made.input_of(&mut random, family);
+    let calendars = match family {
+        Family::BrokenCalendars => broken_calendars(&mut random),
+        // Now and then fewer are lent than the question was made for.
+        _ if random.chance(3) => made.calendars.fewer(&mut random).bytes(),
+        _ => made.calendars.bytes(),
+    };
     Input {
         family,
         data,
+        calendars,
         question,
     }
 }
 
-/// Questions over the same tables; now and then one is broken.
+/// Questions over the same tables and calendars; now and then one is broken.
 pub fn questions(seed: u64, index: u64, count: usize) -> Vec<Input> {
     let mut random = Random::new(seed, index);
-    let made = Made::random(&mut random);
+    let made = Made::random(&mut random, Family::WellTyped);
     let mut question = || Input {
         family: Family::WellTyped,
         data: made.data(),
+        calendars: made.calendars.bytes(),
         question: made.broken_or_whole(&mut random, 5),
     };
     (0..count).map(|_| question()).collect()
 }
 
-fn input_of(random: &mut Random, family: Family) -> (Vec<u8>, Vec<u8>) {
-    let made = Made::random(random);
-    let (numbers, tables) = (made.numbers, &made.tables);
-    match family {
-        Family::WellTyped => (made.data(), made.question(random, false).bytes()),
-        Family::ForbiddenGenerator => (made.data(), made.question(random, true).bytes()),
-        Family::BrokenMeaning => {
-            let mut question = made.question(random, false);
-            for _ in 0..random.between(1, 2) {
-                breaks::break_meaning(random, &mut question);
-            }
-            (made.data(), question.bytes())
-        }
-        Family::BrokenRecord => {
-            let mut question = made.question(random, false);
-            breaks::break_record(random, &mut question);
-            (made.data(), question.bytes())
-        }
-        Family::BrokenBytes => (made.data(), made.broken_bytes(random)),
-        Family::BrokenData => {
-            let question = made.broken_or_whole(random, 30);
-            (breaks::broken_data(random, numbers, tables), question)
-        }
-        Family::BeyondBounds => {
-            let question = made.broken_or_whole(random, 30);
-            (breaks::beyond_bounds(random, numbers, tables), question)
-        }
-        Family::BrokenNumbers => {
-            let question = made.broken_or_whole(random, 30);
-            (breaks::broken_numbers(random, numbers, tables), question)
-        }
-        Family::Levels => (made.data(), perhaps_broken(random, limits::of_levels)),
-        Family::Records => (made.data(), perhaps_broken(random, limits::of_records)),
-        Family::Bytes => (made.data(), limits::of_bytes(random)),
-        Family::Nodes => (made.data(), limits::of_nodes(random).bytes()),
-        Family::Bounds => perhaps_changed(random, numbers, limits::of_bounds),
-        Family::Rows => perhaps_changed(random, numbers, limits::of_rows),
-        Family::Doubling => perhaps_changed(random, numbers, doublings::random_doubling),
-        Family::Chain => perhaps_changed(random, numbers, chains::random_chain),
-        Family::Extreme => perhaps_changed(random, numbers, extremes::random_extreme),
-        Family::Choice => perhaps_changed(random, numbers, choices::random_choice),
-        Family::Columns => perhaps_changed(random, numbers, columns::random_columns),
-        Family::Tall => perhaps_changed(random, numbers, tall::random_tall),
-    }
-}
-
-/// Tables of either kind and their numbers.
+/// Tables of either kind, their numbers, and calendars.
 struct Made {
     numbers: Numbers,
     tables: Vec<Stored>,
+    calendars: Calendars,
 }
 
 impl Made {
-    fn random(random: &mut Random) -> Made {
+    fn random(random: &mut Random, family: Family) -> Made {
         let (numbers, tables) = (Numbers::random(random), random_tables(random));
         Made {
             numbers,
             tables: of_either_kind(random, tables),
+            calendars: match family {
+                Family::Hours if random.chance(95) => Calendars::some(random),
+                _ => Calendars::random(random),
+            },
+        }
+    }
+
+    /// Data and question.
+    fn input_of(&self, random: &mut Random, family: Family) -> (Vec<u8>, Vec<u8>) {
+        let (numbers, tables) = (self.numbers, &self.tables);
+        let lent = !self.calendars.0.is_empty();
+        match family {
+            Family::WellTyped => (self.data(), self.question(random, false).bytes()),
+            Family::ForbiddenGenerator => (self.data(), self.question(random, true).bytes()),
+            Family::BrokenMeaning => {
+                let mut question = self.question(random, false);
+                for _ in 0..random.between(1, 2) {
+                    breaks::break_meaning(random, &mut question);
+                }
+                (self.data(), question.bytes())
+            }
+            Family::BrokenRecord => {
+                let mut question = self.question(random, false);
+                breaks::break_record(random, &mut question);
+                (self.data(), question.bytes())
+            }
+            Family::BrokenBytes => (self.data(), self.broken_bytes(random)),
+            Family::BrokenData => {
+                let question = self.broken_or_whole(random, 30);
+                (breaks::broken_data(random, numbers, tables), question)
+            }
+            Family::BeyondBounds => {
+                let question = self.broken_or_whole(random, 30);
+                (breaks::beyond_bounds(random, numbers, tables), question)
+            }
+            Family::BrokenNumbers => {
+                let question = self.broken_or_whole(random, 30);
+                (breaks::broken_numbers(random, numbers, tables), question)
+            }
+            // Refusals of the data come before 41, those of the question behind it.
+            Family::BrokenCalendars => {
+                let question = self.broken_or_whole(random, 30);
+                match random.below(5) {
+                    0 => (breaks::broken_data(random, numbers, tables), question),
+                    1 => (self.data(), limits::of_bytes(random)),
+                    _ => (self.data(), question),
+                }
+            }
+            Family::Levels => {
+                let question = perhaps_broken(random, |random| limits::of_levels(random, lent));
+                (self.data(), question)
+            }
+            Family::Records => (self.data(), perhaps_broken(random, limits::of_records)),
+            Family::Bytes => (self.data(), limits::of_bytes(random)),
+            Family::Nodes => (self.data(), limits::of_nodes(random, lent).bytes()),
+            Family::Bounds => perhaps_changed(random, numbers, limits::of_bounds),
+            Family::Rows => perhaps_changed(random, numbers, limits::of_rows),
+            Family::Doubling => perhaps_changed(random, numbers, doublings::random_doubling),
+            Family::Chain => perhaps_changed(random, numbers, chains::random_chain),
+            Family::Extreme => perhaps_changed(random, numbers, extremes::random_extreme),
+            Family::Choice => perhaps_changed(random, numbers, choices::random_choice),
+            Family::Columns => perhaps_changed(random, numbers, columns::random_columns),
+            Family::Tall => perhaps_changed(random, numbers, tall::random_tall),
+            Family::Hours => perhaps_changed(random, numbers, |random| {
+                hours::random_hours(random, &self.calendars)
+            }),
         }
     }
 
@@ -159,7 +195,7 @@ impl Made {
     /// A well-typed question over the tables.
     fn question(&self, random: &mut Random, lawless: bool) -> Node {
         let size = Size::random(random);
-        let question = Writer::new(random, &self.tables, size, lawless).question();
+        let question = Writer::new(random, &self.tables, &self.calendars, size, lawless).question();
         self.numbers.renamed(question)
     }
 
@@ -180,7 +216,7 @@ impl Made {
 }
 
 /// A question at a limit, sometimes with broken bytes: the order of 22 and 23.
-fn perhaps_broken(random: &mut Random, make: fn(&mut Random) -> Node) -> Vec<u8> {
+fn perhaps_broken(random: &mut Random, make: impl Fn(&mut Random) -> Node) -> Vec<u8> {
     let mut bytes = make(random).bytes();
     if random.chance(25) {
         breaks::break_bytes(random, &mut bytes);
@@ -192,7 +228,7 @@ fn perhaps_broken(random: &mut Random, make: fn(&mut Random) -> Node) -> Vec<u8>
 fn perhaps_changed(
     random: &mut Random,
     numbers: Numbers,
-    make: fn(&mut Random) -> (Vec<Stored>, Node),
+    make: impl Fn(&mut Random) -> (Vec<Stored>, Node),
 ) -> (Vec<u8>, Vec<u8>) {
     let (tables, question) = make(random);
     let mut question = numbers.renamed(question);

@@ -1,7 +1,7 @@
 //! Counts what the generated inputs reach, and tests the evaluator against itself on the way:
 //! loops and plan must agree, no rule may apply to a normal form, with each column declared 2^31
-//! nothing but 28 may change, and with the records in another order, or the tables in the other kind,
-//! nothing at all.
+//! nothing but 28 may change, and with the records in another order, the tables in the other kind, or
+//! the calendars' windows in other words, nothing at all.
 //!
 //! Arguments: seed (default 1), count of inputs (default 20,000).
 
@@ -12,6 +12,7 @@ use std::time::Instant;
 use evaluator::{by_loops, by_plan, check, normal_form_holds, plan_lines, Unknown};
 use harness::arguments;
 use harness::by_column::other_kind;
+use harness::calendars::{in_other_words, without_windows};
 use harness::columns::widened;
 use harness::generate::{generate, Family, Input};
 use harness::held::{inputs_of, Held};
@@ -33,6 +34,8 @@ fn main() -> ExitCode {
         by_bounds: 0,
         reordered: 0,
         turned: 0,
+        reworded: 0,
+        by_hours: 0,
         offered: 0,
     };
     inputs_of(seed, count, &mut [&mut histogram]);
@@ -61,6 +64,10 @@ struct Histogram {
     reordered: u64,
     /// Inputs whose tables have another kind.
     turned: u64,
+    /// Inputs whose calendars have other words.
+    reworded: u64,
+    /// Questions that have another answer over calendars without windows.
+    by_hours: u64,
     offered: u64,
 }
 
@@ -85,7 +92,7 @@ impl Held for Histogram {
 impl Histogram {
     /// Up to the first call at which the evaluator gives up.
     fn add(&mut self, place: Place, input: &Input) -> Result<(), Unknown> {
-        let (number, _) = check(&input.data, &input.question, SCRATCH)?;
+        let (number, _) = check(&input.data, &input.calendars, &input.question, SCRATCH)?;
         self.tally.gave(u64::from(number));
         let numbers = self.families.entry(input.family).or_default();
         *numbers.entry(number).or_default() += 1;
@@ -94,29 +101,41 @@ impl Histogram {
         }
         if let Some(other) = other_order(place, &input.data) {
             self.reordered += 1;
-            if !same_over(input, &other)? {
+            if !same_over(input, &other, &input.calendars)? {
                 self.fault(place, input, "the records' order shows");
             }
         }
         if let Some(other) = other_kind(place, &input.data) {
             self.turned += 1;
-            if !same_over(input, &other)? {
+            if !same_over(input, &other, &input.calendars)? {
                 self.fault(place, input, "the tables' kind shows");
+            }
+        }
+        if let Some(other) = in_other_words(place, &input.calendars) {
+            self.reworded += 1;
+            if !same_over(input, &input.data, &other)? {
+                self.fault(place, input, "the calendars' words show");
             }
         }
         Ok(())
     }
 
     fn answers(&mut self, place: Place, input: &Input) -> Result<(), Unknown> {
-        let (data, question) = (&input.data, &input.question);
-        if normal_form_holds(data, question) != Ok(true) {
+        let Input {
+            data,
+            calendars,
+            question,
+            ..
+        } = input;
+        if normal_form_holds(data, calendars, question) != Ok(true) {
             self.fault(place, input, "a rule applies to the normal form");
         }
-        if !matches!(plan_lines(data, question, SCRATCH, usize::MAX), Ok((0, _))) {
+        let lines = plan_lines(data, calendars, question, SCRATCH, usize::MAX);
+        if !matches!(lines, Ok((0, _))) {
             self.fault(place, input, "no plan");
         }
-        let loops = by_loops(data, question, SCRATCH, u64::MAX)?;
-        let plan = by_plan(data, question, SCRATCH, u64::MAX)?;
+        let loops = by_loops(data, calendars, question, SCRATCH, u64::MAX)?;
+        let plan = by_plan(data, calendars, question, SCRATCH, u64::MAX)?;
         if loops.words != plan.words || loops.length > loops.greatest {
             self.fault(place, input, "loops and plan differ");
         }
@@ -131,11 +150,14 @@ impl Histogram {
         }
         self.offered = self.offered.max(plan.offered);
         let wide = widened(data);
-        match by_plan(&wide, question, SCRATCH, u64::MAX)? {
+        match by_plan(&wide, calendars, question, SCRATCH, u64::MAX)? {
             refused if refused.number == 28 => self.by_bounds += 1,
             same if same == plan => {}
             _ => self.fault(place, input, "bounds change an answer"),
         }
+        let closed = without_windows(calendars);
+        let at_no_hour = by_plan(data, &closed, question, SCRATCH, u64::MAX)?;
+        self.by_hours += u64::from(at_no_hour != plan);
         Ok(())
     }
 
@@ -161,15 +183,21 @@ impl Histogram {
         println!("accepted by their bounds alone: {}", self.by_bounds);
         println!("in another order of the records: {}", self.reordered);
         println!("with tables in the other kind: {}", self.turned);
+        println!("with calendars in other words: {}", self.reworded);
+        println!("answers by open hours: {}", self.by_hours);
         println!("most rows offered: {}", self.offered);
     }
 }
 
-/// Whether number, words and plan are the same over the other data.
-fn same_over(Input { data, question, .. }: &Input, other: &[u8]) -> Result<bool, Unknown> {
-    let plan_of = |data: &[u8]| plan_lines(data, question, SCRATCH, usize::MAX);
-    let words_of = |data: &[u8]| by_loops(data, question, SCRATCH, u64::MAX);
-    Ok(plan_of(other)? == plan_of(data)? && words_of(other)? == words_of(data)?)
+/// Whether number, words and plan are the same over the other data and calendars.
+fn same_over(input: &Input, data: &[u8], calendars: &[u8]) -> Result<bool, Unknown> {
+    let question = &input.question;
+    let plan_of =
+        |data: &[u8], hours: &[u8]| plan_lines(data, hours, question, SCRATCH, usize::MAX);
+    let words_of = |data: &[u8], hours: &[u8]| by_loops(data, hours, question, SCRATCH, u64::MAX);
+    let (first, hours) = (&input.data, &input.calendars);
+    Ok(plan_of(data, calendars)? == plan_of(first, hours)?
+        && words_of(data, calendars)? == words_of(first, hours)?)
 }
 
 fn class_of(length: u64) -> &'static str {

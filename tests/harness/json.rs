@@ -41,7 +41,7 @@ impl Json {
     }
 
     pub fn words(&self) -> Option<Vec<i64>> {
-        self.each(|element| i64::try_from(element.number()?).ok())
+        self.each(Json::signed)
     }
 
     pub fn text(&self) -> Option<&str> {
@@ -53,6 +53,10 @@ impl Json {
 
     pub fn unsigned(&self) -> Option<u64> {
         u64::try_from(self.number()?).ok()
+    }
+
+    pub fn signed(&self) -> Option<i64> {
+        i64::try_from(self.number()?).ok()
     }
 
     fn number(&self) -> Option<i128> {

@@ -17,7 +17,7 @@ fn main() -> ExitCode {
     for index in 0..count {
         let (place, input) = ((seed, index), generate(seed, index));
         if let Some(data) = other_kind(place, &input.data) {
-            kinds.input(place, &input, data);
+            kinds.over_data(place, &input, data);
         }
     }
     exit_code([&kinds.tally])

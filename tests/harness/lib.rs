@@ -4,6 +4,8 @@
 pub mod alike;
 mod breaks;
 pub mod by_column;
+pub mod calendar_calls;
+pub mod calendars;
 pub mod calls;
 mod chains;
 mod choices;
@@ -17,6 +19,7 @@ mod extremes;
 mod forms;
 pub mod generate;
 pub mod held;
+mod hours;
 pub mod json;
 pub mod lent;
 mod limits;

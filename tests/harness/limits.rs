@@ -4,8 +4,8 @@ use super::nodes::*;
 use super::random::Random;
 use super::typed::{declared, random_cell, Type};
 
-/// A well-typed question of a wanted count of levels, near 32.
-pub fn of_levels(random: &mut Random) -> Node {
+/// A well-typed question of a wanted count of levels, near 32; with open minutes where a calendar is lent.
+pub fn of_levels(random: &mut Random, lent: bool) -> Node {
     let levels = random.one_of(&[30, 31, 32, 32, 33, 33, 34], 32);
     let start = random.chance(50);
     let mut tower = Tower {
@@ -15,7 +15,7 @@ pub fn of_levels(random: &mut Random) -> Node {
     };
     while tower.levels.saturating_add(1) < levels {
         let two_fit = tower.levels.saturating_add(2) < levels;
-        tower.grow(random, two_fit);
+        tower.grow(random, two_fit, lent);
     }
     tower.wrap(random)
 }
@@ -28,7 +28,7 @@ struct Tower {
 
 impl Tower {
     /// Puts one or two levels on top.
-    fn grow(&mut self, random: &mut Random, two_fit: bool) {
+    fn grow(&mut self, random: &mut Random, two_fit: bool, lent: bool) {
         let top = self.top.clone();
         let (grown, levels) = match random.below(5) {
             0 if two_fit => (field(0, record(vec![top])), 2),
@@ -43,9 +43,13 @@ impl Tower {
                 1 => (two(AND, truth(true), top), 1),
                 _ => (two(OR, top, truth(false)), 1),
             },
-            _ => match random.below(3) {
+            _ => match random.below(4) {
                 0 => (two(PLUS, top, number(1)), 1),
                 1 => (two(MINUS, number(1), top), 1),
+                2 if lent => {
+                    self.of = Type::Truth;
+                    (open(0, top), 1)
+                }
                 _ => {
                     self.of = Type::Truth;
                     (two(LESS, top, number(0)), 1)
@@ -135,8 +139,9 @@ pub fn of_bytes(random: &mut Random) -> Vec<u8> {
     record_bytes(COMPREHENSION, &content)
 }
 
-/// Sums of doubled names whose normal form has a wanted count of nodes, near 512.
-pub fn of_nodes(random: &mut Random) -> Node {
+/// Sums of doubled names whose normal form has a wanted count of nodes, near 512; as an open minute, where a
+/// calendar is lent.
+pub fn of_nodes(random: &mut Random, lent: bool) -> Node {
     let wanted = random.one_of(&[508, 510, 511, 512, 512, 513, 513, 514, 520], 512);
     let operation = random.one_of(&[PLUS, MINUS], PLUS);
     let mut qualifiers = vec![binding(0, number(1))];
@@ -145,7 +150,9 @@ pub fn of_nodes(random: &mut Random) -> Node {
         qualifiers.push(binding(next, two(operation, name(last), name(last))));
     }
     let left = usize::saturating_sub(wanted, 1);
-    let head = match random.below(4) {
+    let head = match random.below(5) {
+        // An open minute is one node, its choice and the two numbers are three more.
+        4 if lent => choice(open(0, sum_of_nodes(left - 4)), number(1), number(0)),
         // A choice is one node, its truth and the 1 are two more.
         0 => choice(truth(true), number(1), sum_of_nodes(left - 3)),
         1 => choice(truth(true), sum_of_nodes(left - 3), number(1)),

@@ -31,6 +31,9 @@ pub const BINDING: u16 = 17;
 pub const CONDITION: u16 = 18;
 pub const CHOICE: u16 = 19;
 pub const STORED: u16 = 20;
+/// An open minute, and a stored calendar (document 02, E4).
+pub const OPEN: u16 = 21;
+pub const CALENDAR: u16 = 24;
 /// A stored table by column (document 02, E10).
 pub const BY_COLUMN: u16 = 23;
 
@@ -80,6 +83,10 @@ pub fn not(inner: Node) -> Node {
 
 pub fn choice(truth: Node, first: Node, second: Node) -> Node {
     node(CHOICE, &[], vec![truth, first, second])
+}
+
+pub fn open(calendar: u8, minute: Node) -> Node {
+    node(OPEN, &[calendar], vec![minute])
 }
 
 pub fn table(number: u8) -> Node {
@@ -168,7 +175,7 @@ impl Node {
 pub fn own_bytes(kind: u16, content: usize) -> usize {
     match kind {
         NUMBER | TRUTH | NAME | TABLE => content,
-        FIELD | COMPREHENSION => 1,
+        FIELD | COMPREHENSION | OPEN => 1,
         GENERATOR | BINDING => 2,
         _ => 0,
     }

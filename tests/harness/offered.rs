@@ -4,6 +4,7 @@
 use std::process::ExitCode;
 
 use harness::compare::Comparison;
+use harness::generate::Input;
 use harness::held::run;
 use harness::lent::SCRATCH;
 use harness::open::{Call, Reply};
@@ -15,9 +16,21 @@ const OFFERED: Call<i64> = Call {
     name: "offered",
     too_short: None,
     always: false,
-    made: |data, question, scratch, _| offered_rows(data, question, scratch),
-    expected: |data, question| {
-        let answer = evaluator::by_plan(data, question, SCRATCH, u64::MAX)?;
+    made: |Input {
+               data,
+               calendars,
+               question,
+               ..
+           },
+           scratch,
+           _| { offered_rows(data, calendars, question, scratch) },
+    expected: |Input {
+                   data,
+                   calendars,
+                   question,
+                   ..
+               }| {
+        let answer = evaluator::by_plan(data, calendars, question, SCRATCH, u64::MAX)?;
         Ok(Reply {
             number: u64::from(answer.number),
             length: answer.offered,

@@ -14,7 +14,13 @@ const MOST_BYTES: usize = 65_536;
 pub fn most_offers(input: &Input) -> u64 {
     let mut bytes = vec![0; MOST_BYTES];
     let mut scratch = vec![0; SCRATCH];
-    let planned = plan_lines(&input.data, &input.question, &mut scratch, &mut bytes);
+    let planned = plan_lines(
+        &input.data,
+        &input.calendars,
+        &input.question,
+        &mut scratch,
+        &mut bytes,
+    );
     bytes.truncate(planned.length as usize);
     if planned.number != 0 {
         return 0;

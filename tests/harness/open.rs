@@ -3,6 +3,7 @@
 use evaluator::{Answer, Unknown};
 
 use super::calls::{self, Outcome};
+use super::generate::Input;
 use super::lent::SCRATCH;
 
 /// Words of an answer that is compared: ordering longer ones may take the engine seconds.
@@ -11,8 +12,10 @@ pub const MOST_WORDS: usize = 8_300;
 /// "1 to 65,535" rows of a portion.
 pub const MOST_ROWS: u64 = 65_535;
 
-/// The numbers that data and question decide; a call may also give 31 and its own `too_short`.
-pub const NUMBERS: [u64; 15] = [0, 11, 12, 13, 50, 51, 43, 21, 22, 23, 24, 25, 26, 27, 28];
+/// The numbers that data, calendars and question decide; a call may also give 31 and its own `too_short`.
+pub const NUMBERS: [u64; 17] = [
+    0, 11, 12, 13, 50, 51, 43, 41, 21, 22, 23, 24, 25, 42, 26, 27, 28,
+];
 
 /// What a call should do with scratch enough and the longest buffer.
 pub struct Reply<T> {
@@ -29,10 +32,10 @@ pub struct Call<T> {
     pub too_short: Option<u64>,
     /// Whether it is made even where the evaluator gives up: it ends soon, and takes no buffer.
     pub always: bool,
-    /// The call over data, question, scratch and buffer.
-    pub made: fn(&[u8], &[u8], &mut [u64], &mut [T]) -> Outcome,
-    /// What the evaluator says of data and question.
-    pub expected: fn(&[u8], &[u8]) -> Result<Reply<T>, Unknown>,
+    /// The call over an input, scratch and buffer.
+    pub made: fn(&Input, &mut [u64], &mut [T]) -> Outcome,
+    /// What the evaluator says of the input.
+    pub expected: fn(&Input) -> Result<Reply<T>, Unknown>,
 }
 
 impl<T> Call<T> {
@@ -47,9 +50,21 @@ pub const CHECK: Call<i64> = Call {
     name: "check",
     too_short: None,
     always: true,
-    made: |data, question, scratch, _| calls::check(data, question, scratch),
-    expected: |data, question| {
-        let (number, length) = evaluator::check(data, question, SCRATCH)?;
+    made: |Input {
+               data,
+               calendars,
+               question,
+               ..
+           },
+           scratch,
+           _| { calls::check(data, calendars, question, scratch) },
+    expected: |Input {
+                   data,
+                   calendars,
+                   question,
+                   ..
+               }| {
+        let (number, length) = evaluator::check(data, calendars, question, SCRATCH)?;
         Ok(Reply {
             number: u64::from(number),
             length,
@@ -62,9 +77,27 @@ pub const LOOPS: Call<i64> = Call {
     name: "loops",
     too_short: Some(32),
     always: false,
-    made: calls::answer_by_loops,
-    expected: |data, question| {
-        reply_of_answer(evaluator::by_loops(data, question, SCRATCH, u64::MAX)?)
+    made: |Input {
+               data,
+               calendars,
+               question,
+               ..
+           },
+           scratch,
+           answer| { calls::answer_by_loops(data, calendars, question, scratch, answer) },
+    expected: |Input {
+                   data,
+                   calendars,
+                   question,
+                   ..
+               }| {
+        reply_of_answer(evaluator::by_loops(
+            data,
+            calendars,
+            question,
+            SCRATCH,
+            u64::MAX,
+        )?)
     },
 };
 
@@ -72,9 +105,27 @@ pub const PLAN: Call<i64> = Call {
     name: "plan",
     too_short: Some(32),
     always: false,
-    made: calls::answer_by_plan,
-    expected: |data, question| {
-        reply_of_answer(evaluator::by_plan(data, question, SCRATCH, u64::MAX)?)
+    made: |Input {
+               data,
+               calendars,
+               question,
+               ..
+           },
+           scratch,
+           answer| { calls::answer_by_plan(data, calendars, question, scratch, answer) },
+    expected: |Input {
+                   data,
+                   calendars,
+                   question,
+                   ..
+               }| {
+        reply_of_answer(evaluator::by_plan(
+            data,
+            calendars,
+            question,
+            SCRATCH,
+            u64::MAX,
+        )?)
     },
 };
 
@@ -83,13 +134,20 @@ pub const PORTIONS: Call<i64> = Call {
     name: "portions",
     too_short: Some(32),
     always: false,
-    made: |data, question, scratch, answer| {
-        let begun = calls::begin(data, question, scratch);
+    made: |Input {
+               data,
+               calendars,
+               question,
+               ..
+           },
+           scratch,
+           answer| {
+        let begun = calls::begin(data, calendars, question, scratch);
         if begun.number != 0 {
             return begun;
         }
         loop {
-            let said = calls::portion(data, scratch, answer, MOST_ROWS);
+            let said = calls::portion(data, calendars, scratch, answer, MOST_ROWS);
             if !said.is_unfinished() {
                 return said.outcome();
             }
@@ -102,9 +160,22 @@ pub const LINES: Call<u8> = Call {
     name: "lines",
     too_short: Some(33),
     always: false,
-    made: calls::plan_lines,
-    expected: |data, question| {
-        let (number, written) = evaluator::plan_lines(data, question, SCRATCH, usize::MAX)?;
+    made: |Input {
+               data,
+               calendars,
+               question,
+               ..
+           },
+           scratch,
+           lines| { calls::plan_lines(data, calendars, question, scratch, lines) },
+    expected: |Input {
+                   data,
+                   calendars,
+                   question,
+                   ..
+               }| {
+        let (number, written) =
+            evaluator::plan_lines(data, calendars, question, SCRATCH, usize::MAX)?;
         Ok(Reply {
             number: u64::from(number),
             length: written.len() as u64,

@@ -234,6 +234,12 @@ impl Seat {
 
     fn offer(&mut self, input: &Input, scratch: usize, rows: u64) -> Portioned {
         let scratch = &mut self.way.scratch.again()[..scratch];
-        calls::portion(&input.data, scratch, self.way.answer.again(), rows)
+        calls::portion(
+            &input.data,
+            &input.calendars,
+            scratch,
+            self.way.answer.again(),
+            rows,
+        )
     }
 }

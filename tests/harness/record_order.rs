@@ -9,7 +9,7 @@ use super::tally::Place;
 pub fn other_order(place: Place, data: &[u8]) -> Option<Vec<u8>> {
     let mut random = Random::new(!place.0, place.1);
     let question = comprehension(SUM, Vec::new(), number(7)).bytes();
-    if evaluator::check(data, &question, SCRATCH).ok()?.0 != 0 {
+    if evaluator::check(data, &[], &question, SCRATCH).ok()?.0 != 0 {
         return None;
     }
     let mut records = records_of(data);

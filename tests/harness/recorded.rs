@@ -9,6 +9,7 @@ pub struct Recorded {
     /// The file's name without its ending, a slash, and the name in the file.
     pub name: String,
     pub data: Vec<u8>,
+    pub calendars: Vec<u8>,
     pub question: Vec<u8>,
     pub check: u32,
     pub plan: Option<String>,
@@ -17,10 +18,11 @@ pub struct Recorded {
     pub words: Option<Vec<i64>>,
 }
 
-/// A case of the program `test_vectors`: its name, data and question.
+/// A case of the program `test_vectors`: its name, data, calendars and question.
 pub struct Case {
     pub name: String,
     pub data: Vec<u8>,
+    pub calendars: Vec<u8>,
     pub question: Vec<u8>,
 }
 
@@ -40,12 +42,13 @@ pub fn cases_in(folder: &str) -> Result<Vec<Case>, String> {
     };
     let mut cases = Vec::new();
     for name in names.lines() {
-        let header = take(5)?;
+        let header = take(7)?;
         let length = |at: usize| usize::from(u16::from_le_bytes([header[at], header[at + 1]]));
         cases.push(Case {
             name: name.to_string(),
             data: take(length(1))?,
-            question: take(length(3))?,
+            calendars: take(length(3))?,
+            question: take(length(5))?,
         });
     }
     Ok(cases)
@@ -92,6 +95,7 @@ impl Recorded {
         Some(Recorded {
             name: format!("{file}/{}", line.get("name")?.text()?),
             data: line.get("data")?.bytes()?,
+            calendars: bytes_or_none(line.get("calendars"))?,
             question: line.get("question")?.bytes()?,
             check: u32::try_from(unsigned("check")?).ok()?,
             plan: line.get("plan").and_then(Json::text).map(str::to_string),
@@ -100,6 +104,11 @@ impl Recorded {
             words: line.get("words").and_then(Json::words),
         })
     }
+}
+
+/// Bytes in hexadecimal; none where a line does not have them.
+pub fn bytes_or_none(bytes: Option<&Json>) -> Option<Vec<u8>> {
+    bytes.map_or(Some(Vec::new()), Json::bytes)
 }
 
 pub fn bytes_of_hex(text: &str) -> Option<Vec<u8>> {

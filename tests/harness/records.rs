@@ -11,7 +11,7 @@ use harness::record_order::other_order;
 use harness::tally::exit_code;
 
 /// What a call over data that reads can give.
-const NUMBERS: [u64; 12] = [0, 21, 22, 23, 24, 25, 26, 27, 28, 31, 32, 33];
+const NUMBERS: [u64; 14] = [0, 41, 21, 22, 23, 24, 25, 42, 26, 27, 28, 31, 32, 33];
 
 fn main() -> ExitCode {
     let [seed, count] = arguments("seed, count of inputs", [1, 100_000]);
@@ -19,7 +19,7 @@ fn main() -> ExitCode {
     for index in 0..count {
         let (place, input) = ((seed, index), generate(seed, index));
         if let Some(data) = other_order(place, &input.data) {
-            records.input(place, &input, data);
+            records.over_data(place, &input, data);
         }
     }
     exit_code([&records.tally])

@@ -161,7 +161,7 @@ impl Rounds {
             .desks
             .each_mut()
             .map(|desk| desk.lent(usize::MAX, usize::MAX));
-        let Round { number, seats } = calls::round(game.data(), &quotas, lent);
+        let Round { number, seats } = calls::round(game.data(), game.calendars(), &quotas, lent);
         self.tally.gave(number);
         if number != 49 {
             return Err(format!("{quotas:?} gave {number}, should be 49"));
@@ -184,7 +184,8 @@ impl Rounds {
             desk.lent(*scratch, *answer)
         });
         let start = Instant::now();
-        let Round { number, seats } = calls::round(game.data(), &game.quotas, lent);
+        let Round { number, seats } =
+            calls::round(game.data(), game.calendars(), &game.quotas, lent);
         let taken = start.elapsed();
         if number != 0 {
             return Err(format!("{:?} gave {number}, should be 0", game.quotas));
@@ -301,7 +302,13 @@ impl Desk {
                 let rows = game.random.between(1, 9) as u64;
                 let before = self.seat.held();
                 let lent = self.lent(usize::MAX, usize::MAX);
-                let said = calls::portion(&input.data, lent.scratch, lent.answer, rows);
+                let said = calls::portion(
+                    &input.data,
+                    &input.calendars,
+                    lent.scratch,
+                    lent.answer,
+                    rows,
+                );
                 self.rounds = None;
                 Ok(Some(self.seat.told(rows, said, &before.1)?.0))
             }
@@ -338,6 +345,11 @@ impl Game<'_> {
     /// The tables, which are the same for all questions.
     fn data(&self) -> &[u8] {
         &self.questions[0].0.data
+    }
+
+    /// The calendars, likewise.
+    fn calendars(&self) -> &[u8] {
+        &self.questions[0].0.calendars
     }
 }
 

@@ -5,10 +5,10 @@
 use super::calls::{self, LentSeat, Outcome, Portioned};
 use super::json::Json;
 use super::lent::{Lent, SCRATCH};
-use super::recorded::read_lines;
+use super::recorded::{bytes_or_none, read_lines};
 
 /// Requests that have landed, beside those whose calls are played here: a scene may need others.
-const LANDED: [&str; 5] = ["e1", "e2", "e5", "e9", "e10"];
+const LANDED: [&str; 6] = ["e1", "e2", "e4", "e5", "e9", "e10"];
 
 /// Seats of a round.
 const SEATS: usize = 4;
@@ -19,6 +19,7 @@ pub struct Scene {
     /// What it waits for; it cannot be played before.
     pub waits_for: Option<String>,
     data: Vec<u8>,
+    calendars: Vec<u8>,
     seats: Vec<Lengths>,
     steps: Vec<Step>,
     /// G, where the scene has one question.
@@ -93,6 +94,7 @@ impl Scene {
             name: format!("{file}/{}", line.get("name")?.text()?),
             waits_for: missing,
             data: line.get("data")?.bytes()?,
+            calendars: bytes_or_none(line.get("calendars"))?,
             seats: line.get("seats")?.each(Lengths::of_object)?,
             steps: line.get("steps")?.each(Step::of_object)?,
             greatest: line.get("G").and_then(size_of),
@@ -137,7 +139,7 @@ impl Scene {
         };
         let before = [&mut *first, second, third, fourth].map(|seat| seat.held());
         let lent = [&mut *first, second, third, fourth].map(Seat::lent);
-        let round = calls::round(&self.data, quotas, lent);
+        let round = calls::round(&self.data, &self.calendars, quotas, lent);
         if round.number != number || outs.len() != SEATS {
             return Err(format!("number {}, should be {number}", round.number));
         }
@@ -249,7 +251,7 @@ impl Seat {
     /// Makes a call at this seat alone; gives its number.
     fn play(&mut self, scene: &Scene, call: &Call, out: &Out) -> Result<u64, String> {
         let before = self.held();
-        let said = self.said(&scene.data, call);
+        let said = self.said(scene, call);
         self.compare(scene, said, out, &before, false)?;
         Ok(said.number)
     }
@@ -287,15 +289,18 @@ impl Seat {
     }
 
     /// Makes the call; one that is no portion is taken for one that offers nothing.
-    fn said(&mut self, data: &[u8], call: &Call) -> Portioned {
+    fn said(&mut self, scene: &Scene, call: &Call) -> Portioned {
+        let (data, calendars) = (&scene.data[..], &scene.calendars[..]);
         let (scratch, answer) = (self.scratch.again(), self.answer.again());
         let Outcome { number, length } = match call {
-            Call::Begin(question) => calls::begin(data, question, scratch),
-            Call::Check(question) => calls::check(data, question, scratch),
-            Call::AnswerByPlan(question) => calls::answer_by_plan(data, question, scratch, answer),
+            Call::Begin(question) => calls::begin(data, calendars, question, scratch),
+            Call::Check(question) => calls::check(data, calendars, question, scratch),
+            Call::AnswerByPlan(question) => {
+                calls::answer_by_plan(data, calendars, question, scratch, answer)
+            }
             Call::Portion(rows, lent) => {
                 let lent = lent.unwrap_or(scratch.len());
-                return calls::portion(data, &mut scratch[..lent], answer, *rows);
+                return calls::portion(data, calendars, &mut scratch[..lent], answer, *rows);
             }
         };
         Portioned {

@@ -43,7 +43,13 @@ pub fn known_of(input: &Input) -> Result<Known, Unknown> {
     if most_offers(input) > MOST_OFFERS {
         return Err(Unknown("too many rows may be offered"));
     }
-    let answer = evaluator::by_plan(&input.data, &input.question, SCRATCH, u64::MAX)?;
+    let answer = evaluator::by_plan(
+        &input.data,
+        &input.calendars,
+        &input.question,
+        SCRATCH,
+        u64::MAX,
+    )?;
     Ok(Known {
         pass: answer.offered,
         greatest: usize::try_from(answer.greatest).unwrap_or(usize::MAX),
@@ -98,7 +104,12 @@ impl Seat {
 
     /// "One call begins, with all refusals to 28", and 31: its number, and whether that was all.
     pub fn begin(&mut self, input: &Input) -> Result<(u64, bool), String> {
-        let begun = calls::begin(&input.data, &input.question, self.way.scratch.again());
+        let begun = calls::begin(
+            &input.data,
+            &input.calendars,
+            &input.question,
+            self.way.scratch.again(),
+        );
         let wanted = match self.outcome.number {
             0 | 32 => 0,
             number => number,
@@ -184,14 +195,13 @@ impl Seat {
     /// Another call takes the scratch; then no question is unfinished.
     pub fn lose_scratch(&mut self, input: &Input, random: &mut Random) -> Result<(), String> {
         self.offered = None;
-        let Input { data, question, .. } = input;
         let scratch = self.way.scratch.again();
         let (mut words, mut bytes) = ([0; 8], [0; 64]);
         let whole = match random.below(4) {
-            0 => (CHECK.made)(data, question, scratch, &mut []),
-            1 => (LOOPS.made)(data, question, scratch, &mut words),
-            2 => (PLAN.made)(data, question, scratch, &mut words),
-            _ => (LINES.made)(data, question, scratch, &mut bytes),
+            0 => (CHECK.made)(input, scratch, &mut []),
+            1 => (LOOPS.made)(input, scratch, &mut words),
+            2 => (PLAN.made)(input, scratch, &mut words),
+            _ => (LINES.made)(input, scratch, &mut bytes),
         };
         cleared(&self.way.scratch, whole.number)
     }

@@ -6,7 +6,7 @@ use std::fmt::Debug;
 use std::process::ExitCode;
 use std::time::Duration;
 
-use super::forms::{forms, forms_of};
+use super::forms::{forms, forms_of, forms_without_calendars};
 use super::generate::Input;
 
 /// Inputs that are written out where they differ; further ones are counted.
@@ -54,6 +54,14 @@ impl<Outcome: Debug + Default + Ord> Tally<Outcome> {
         }
     }
 
+    /// The same where no calendar is lent, so that no open minute is answered.
+    pub fn without_calendars(name: &'static str, known: Vec<Outcome>) -> Tally<Outcome> {
+        Tally {
+            forms: forms_without_calendars().map(|form| (form, 0)).collect(),
+            ..Tally::new(name, known)
+        }
+    }
+
     /// Counts the forms of a question that was answered, and of its data.
     pub fn answered(&mut self, data: &[u8], question: &[u8]) {
         for form in forms_of(data, question) {
@@ -88,6 +96,7 @@ impl<Outcome: Debug + Default + Ord> Tally<Outcome> {
             &format!("input {index} of seed {seed} ({:?})", input.family),
             what,
             &format!("data {}", hex(&input.data)),
+            &format!("calendars {}", hex(&input.calendars)),
             &format!("question {}", hex(&input.question)),
         ]);
     }

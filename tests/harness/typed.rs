@@ -1,5 +1,6 @@
 //! Random tables, and random questions over them that are well typed.
 
+use super::calendars::Calendars;
 use super::nodes::*;
 use super::random::Random;
 
@@ -128,6 +129,7 @@ impl Size {
 pub struct Writer<'a> {
     random: &'a mut Random,
     tables: &'a [Stored],
+    calendars: &'a Calendars,
     /// Names that hold here, with their types.
     scope: Vec<(u16, Type)>,
     /// Names not bound yet.
@@ -161,7 +163,13 @@ impl Room {
 }
 
 impl<'a> Writer<'a> {
-    pub fn new(random: &'a mut Random, tables: &'a [Stored], size: Size, lawless: bool) -> Self {
+    pub fn new(
+        random: &'a mut Random,
+        tables: &'a [Stored],
+        calendars: &'a Calendars,
+        size: Size,
+        lawless: bool,
+    ) -> Self {
         let mut fresh: Vec<u16> = (0..256).collect();
         for last in (1..fresh.len()).rev() {
             let other = random.between(0, last);
@@ -170,6 +178,7 @@ impl<'a> Writer<'a> {
         Writer {
             random,
             tables,
+            calendars,
             scope: Vec::new(),
             fresh,
             left: size,
@@ -292,11 +301,11 @@ impl<'a> Writer<'a> {
         name
     }
 
-    /// A truth that is often a "some" comprehension, an "and", a choice, or met by many rows.
+    /// A truth that is often a "some" comprehension, an "and", a choice, an open minute, or met by many rows.
     fn condition(&mut self, room: Room) -> Node {
         let tight = self.tight(room);
         let path = self.path(&Type::Number);
-        match (self.random.weighted(&[21, 10, 37, 27, 5]), path) {
+        match (self.random.weighted(&[21, 10, 35, 25, 5, 4]), path) {
             (0, _) if !tight && room.nesting > 0 => self.comprehension(SOME, &Type::Truth, room),
             (1, _) if !tight => {
                 self.left.records = self.left.records.saturating_sub(1);
@@ -305,6 +314,7 @@ impl<'a> Writer<'a> {
             }
             (2, Some(path)) => self.likely(path),
             (4, _) if !tight => self.choice(&Type::Truth, room),
+            (5, _) if !tight => self.open(room),
             _ => self.term(&Type::Truth, room),
         }
     }
@@ -471,6 +481,23 @@ impl<'a> Writer<'a> {
         choice(truth, first, self.term(of, room))
     }
 
+    /// A minute of a calendar that is lent, around the edges of its windows or any; else any truth.
+    fn open(&mut self, room: Room) -> Node {
+        let Some(calendar) = self.calendars.number(self.random) else {
+            return self.pair(LESS, &Type::Number, room.below());
+        };
+        self.left.records = self.left.records.saturating_sub(2);
+        let edge = number(self.calendars.edge(self.random, calendar) as i32);
+        let path = self.path(&Type::Number);
+        let minute = match (self.random.below(6), path) {
+            (0 | 1, Some(path)) => path,
+            (2, Some(path)) => two(PLUS, edge, path),
+            (3 | 4, _) => edge,
+            _ => self.term(&Type::Number, room.below()),
+        };
+        open(calendar, minute)
+    }
+
     fn pair(&mut self, kind: u16, operands: &Type, room: Room) -> Node {
         let left = self.term(operands, room);
         two(kind, left, self.term(operands, room))
@@ -487,7 +514,9 @@ impl<'a> Writer<'a> {
 
     fn truth(&mut self, room: Room) -> Node {
         let room = room.below();
-        let choice = self.random.weighted(&[15, 5, 14, 15, 7, 8, 9, 21, 15, 3]);
+        let choice = self
+            .random
+            .weighted(&[15, 5, 13, 14, 7, 8, 9, 20, 14, 3, 4]);
         let wanted = if choice == 8 {
             Type::Number
         } else {
@@ -502,6 +531,7 @@ impl<'a> Writer<'a> {
             (5, _) => self.pair(OR, &Type::Truth, room),
             (6, _) => not(self.term(&Type::Truth, room)),
             (9, _) => self.choice(&Type::Truth, room),
+            (10, _) => self.open(room),
             (7, _) if room.nesting > 0 => {
                 let monoid = self.random.one_of(&[SOME, ALL], SOME);
                 self.comprehension(monoid, &Type::Truth, room)

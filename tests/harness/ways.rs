@@ -131,7 +131,7 @@ impl<T: Unit> Way<T> {
     pub fn answers(&mut self, input: &Input, lent: (usize, usize), salt: u64) -> Outcome {
         let scratch = self.scratch.lend(lent.0, salt);
         let answer = self.answer.lend(lent.1, salt);
-        (self.call.made)(&input.data, &input.question, scratch, answer)
+        (self.call.made)(input, scratch, answer)
     }
 
     /// The first words of the answer buffer.

@@ -8,5 +8,5 @@
 int main() {
     std::vector<std::uint64_t> scratch(dislogha::scratch_words - 1);
     const dislogha::Words told = {scratch.data(), dislogha::scratch_words};
-    dislogha::check({nullptr, 0}, {nullptr, 0}, told);
+    dislogha::check({nullptr, 0}, {nullptr, 0}, {nullptr, 0}, told);
 }

@@ -1,6 +1,6 @@
 #!/usr/bin/env python3
 """shapes.py OUT: questions that drive each recursion as deep as document 01's sizes allow, a line each:
-name, data, question, the last two in hex ("-" for none). Each shape repeats one unit; its size is the
+name, data, calendars, question, the last three in hex ("-" for none). Each shape repeats one unit; its size is the
 largest that the checker accepts: every question must be accepted, and with one unit more none is."""
 import struct
 import sys
@@ -65,6 +65,11 @@ def choice(c, a, b):
     return rec(19, c + a + b)
 
 
+def opened(t):
+    """An open minute of the last calendar (document 02, E4)."""
+    return rec(21, bytes([3]) + t)
+
+
 def bag(kind, cells):
     """Table 0 with one column, which is declared 2^31, by row or by column."""
     return rec(kind, struct.pack('<BBBHI', 0, 2, 1, len(cells), 2 ** 31) + b''.join(struct.pack('<i', c) for c in cells))
@@ -73,13 +78,15 @@ def bag(kind, cells):
 NONE, ONE, TWO, EMPTY = b'', bag(20, [7]), bag(20, [7, 7]), bag(20, [])
 # The same tables by column (document 02, E10).
 BY_COLUMN = {ONE: bag(23, [14]), TWO: bag(23, [14, 0]), EMPTY: bag(23, [])}
+# Four calendars of 32 windows each, none of them open at the minutes below.
+HOURS = 4 * rec(24, bytes([32]) + b''.join(struct.pack('<BHH', i % 7, 1400 + i, 1440) for i in range(32)))
 SHAPES = []
 
 
-def shape(called, size, data, question):
-    SHAPES.append((f'{called}-{size}', data, question))
+def shape(called, size, data, question, calendars=NONE):
+    SHAPES.append((f'{called}-{size}', data, calendars, question))
     if data != NONE:
-        SHAPES.append((f'{called}-columns-{size}', BY_COLUMN[data], question))
+        SHAPES.append((f'{called}-columns-{size}', BY_COLUMN[data], calendars, question))
 
 
 def deep(unit, base, size, room, first=0):
@@ -126,38 +133,52 @@ for called, levels, unit, over_none, over_two in COLLECTED:
     bindings, term = deep(unit, num(1), over_two, room)
     shape(called + '-rows', over_two, TWO, comp(BAG, [*bindings, gen(200, table(0))], term))
 
-TRUTHS = [  # name, levels of a unit, unit, size in a head, size in a condition
-    ('not', 1, no, 238, 236),
-    ('and-left', 1, lambda t: two(AND, t, tru(1)), 123, 122),
-    ('and-right', 1, lambda t: two(AND, tru(1), t), 123, 122),
-    ('or-left', 1, lambda t: two(OR, t, tru(0)), 123, 122),
-    ('or-right', 1, lambda t: two(OR, tru(0), t), 123, 122),
-    ('all', 1, lambda t: comp(ALL, [], t), 238, 236),
-    ('all-if', 2, lambda t: comp(ALL, [cond(t)], tru(1)), 81, 80),
-    ('some-if', 2, lambda t: comp(SOME, [cond(t)], tru(1)), 81, 80),
-    ('all-behind', 1, lambda t: comp(ALL, [cond(tru(1))], t), 83, 82),
-    ('some', 1, lambda t: comp(SOME, [], t), 238, 236),
-    ('not-all', 2, lambda t: no(comp(ALL, [], t)), 119, 117),
-    ('or-all', 2, lambda t: two(OR, tru(0), comp(ALL, [], t)), 81, 80),
-    ('choice-truth', 1, lambda t: choice(t, tru(1), tru(0)), 83, 82),
-    ('choice-all', 2, lambda t: choice(comp(ALL, [], t), tru(1), tru(0)), 61, 61),
+TRUTHS = [  # name, levels of a unit, unit, size in a head, size in a condition, size around an open minute
+    ('not', 1, no, 238, 236, 237),
+    ('and-left', 1, lambda t: two(AND, t, tru(1)), 123, 122, 122),
+    ('and-right', 1, lambda t: two(AND, tru(1), t), 123, 122, 122),
+    ('or-left', 1, lambda t: two(OR, t, tru(0)), 123, 122, 122),
+    ('or-right', 1, lambda t: two(OR, tru(0), t), 123, 122, 122),
+    ('all', 1, lambda t: comp(ALL, [], t), 238, 236, 237),
+    ('all-if', 2, lambda t: comp(ALL, [cond(t)], tru(1)), 81, 80, 80),
+    ('some-if', 2, lambda t: comp(SOME, [cond(t)], tru(1)), 81, 80, 80),
+    ('all-behind', 1, lambda t: comp(ALL, [cond(tru(1))], t), 83, 82, 82),
+    ('some', 1, lambda t: comp(SOME, [], t), 238, 236, 237),
+    ('not-all', 2, lambda t: no(comp(ALL, [], t)), 119, 117, 117),
+    ('or-all', 2, lambda t: two(OR, tru(0), comp(ALL, [], t)), 81, 80, 80),
+    ('choice-truth', 1, lambda t: choice(t, tru(1), tru(0)), 83, 82, 82),
+    ('choice-all', 2, lambda t: choice(comp(ALL, [], t), tru(1), tru(0)), 61, 61, 61),
 ]
-for called, levels, unit, in_head, in_condition in TRUTHS:
+for called, levels, unit, in_head, in_condition, around in TRUTHS:
     shape(called + '-head', in_head, NONE, headed(ALL, unit, tru(1), in_head, 28 // levels))
     shape(called + '-condition', in_condition, NONE, conditioned(unit, in_condition, 27 // levels))
+    bindings, term = deep(unit, opened(num(1)), around, 27 // levels)
+    shape(called + '-of-open', around, NONE, comp(ALL, bindings, term), HOURS)
 
-NUMBERS = [
-    ('plus-left', 1, lambda t: two(PLUS, t, num(1)), 123),
-    ('plus-right', 1, lambda t: two(PLUS, num(1), t), 123),
-    ('sum', 1, lambda t: comp(SUM, [], t), 238),
-    ('max', 1, lambda t: comp(MAX, [], t), 238),
-    ('plus-sum', 2, lambda t: two(PLUS, num(1), comp(SUM, [], t)), 81),
-    ('choice-first', 1, lambda t: choice(tru(1), t, num(1)), 83),
-    ('choice-second', 1, lambda t: choice(tru(0), num(1), t), 83),
-    ('choice-sum', 2, lambda t: choice(tru(0), num(1), comp(SUM, [], t)), 61),
+NUMBERS = [  # name, levels of a unit, unit, size in a head, size in an open minute
+    ('plus-left', 1, lambda t: two(PLUS, t, num(1)), 123, 122),
+    ('plus-right', 1, lambda t: two(PLUS, num(1), t), 123, 122),
+    ('sum', 1, lambda t: comp(SUM, [], t), 238, 237),
+    ('max', 1, lambda t: comp(MAX, [], t), 238, 237),
+    ('plus-sum', 2, lambda t: two(PLUS, num(1), comp(SUM, [], t)), 81, 80),
+    ('choice-first', 1, lambda t: choice(tru(1), t, num(1)), 83, 82),
+    ('choice-second', 1, lambda t: choice(tru(0), num(1), t), 83, 82),
+    ('choice-sum', 2, lambda t: choice(tru(0), num(1), comp(SUM, [], t)), 61, 61),
 ]
-for called, levels, unit, size in NUMBERS:
+for called, levels, unit, size, inside in NUMBERS:
     shape(called, size, NONE, headed(SUM, unit, num(1), size, 28 // levels))
+    bindings, term = deep(unit, num(1), inside, 27 // levels)
+    shape('open-of-' + called, inside, NONE, comp(ALL, bindings, opened(term)), HOURS)
+
+OPENED = [  # open minutes in one another: name, units in one term, unit, size
+    ('open-choice', 14, lambda t: choice(opened(t), num(1), num(0)), 61),
+    ('open-choice-second', 9, lambda t: choice(tru(0), num(1), choice(opened(t), num(1), num(0))), 35),
+    ('open-sum', 9, lambda t: comp(SUM, [cond(opened(t))], num(1)), 60),
+    ('open-max', 7, lambda t: comp(MAX, [cond(no(opened(t)))], num(1)), 48),
+]
+for called, room, unit, size in OPENED:
+    bindings, term = deep(unit, num(1), size, room)
+    shape(called, size, NONE, comp(ALL, bindings, opened(term)), HOURS)
 
 # names, one bound to the other
 n = 126
@@ -253,5 +274,5 @@ shape('wide', 7, NONE, comp(BAG, EIGHT, record(*[name(1)] * 7, num(1))))
 shape('wide-rows', 7, TWO, comp(BAG, [*EIGHT, gen(5, table(0))], record(*[name(1)] * 7)))
 
 with open(sys.argv[1], 'w') as out:
-    for called, data, question in SHAPES:
-        out.write(f'{called} {data.hex() or "-"} {question.hex()}\n')
+    for called, data, calendars, question in SHAPES:
+        out.write(f'{called} {data.hex() or "-"} {calendars.hex() or "-"} {question.hex()}\n')

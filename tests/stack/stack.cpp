@@ -1,6 +1,6 @@
 // Every call on a stack that has the published number of bytes and a page behind it that may not
-// be touched: stack FILE. FILE has a line for each question: name, data and question in hex ("-"
-// for none). Prints the most that each call used; fails where a call used more, or where a question
+// be touched: stack FILE. FILE has a line for each question: name, data, calendars and question in hex
+// ("-" for none). Prints the most that each call used; fails where a call used more, or where a question
 // was not accepted. x86-64, Linux.
 #include "dislogha.h"
 
@@ -26,7 +26,7 @@ constexpr std::size_t published = dislogha::stack_bytes;
 static_assert(published % page == 0, "the guard page stands right behind the stack");
 constexpr unsigned char paint = 0xA5;
 
-std::vector<std::uint8_t> data, question;
+std::vector<std::uint8_t> data, calendars, question;
 std::vector<std::uint64_t> scratch(dislogha::scratch_words);
 std::vector<std::int64_t> answer(200000);
 std::vector<std::uint8_t> lines(200000);
@@ -54,31 +54,36 @@ std::vector<std::uint8_t> bytes(const std::string &hex) {
 }
 
 void check() {
-    number = dislogha_check(data.data(), data.size(), question.data(), question.size(),
-                            scratch.data(), scratch.size()).number;
+    number = dislogha_check(data.data(), data.size(), calendars.data(), calendars.size(),
+                            question.data(), question.size(), scratch.data(), scratch.size())
+                 .number;
 }
 
 void by_loops() {
-    number = dislogha_answer_by_loops(data.data(), data.size(), question.data(), question.size(),
+    number = dislogha_answer_by_loops(data.data(), data.size(), calendars.data(), calendars.size(),
+                                      question.data(), question.size(),
                                       scratch.data(), scratch.size(), answer.data(), answer.size())
                  .number;
 }
 
 void by_plan() {
-    number = dislogha_answer_by_plan(data.data(), data.size(), question.data(), question.size(),
+    number = dislogha_answer_by_plan(data.data(), data.size(), calendars.data(), calendars.size(),
+                                     question.data(), question.size(),
                                      scratch.data(), scratch.size(), answer.data(), answer.size())
                  .number;
 }
 
 void plan_lines() {
-    number = dislogha_plan_lines(data.data(), data.size(), question.data(), question.size(),
+    number = dislogha_plan_lines(data.data(), data.size(), calendars.data(), calendars.size(),
+                                 question.data(), question.size(),
                                  scratch.data(), scratch.size(), lines.data(), lines.size())
                  .number;
 }
 
 void begin() {
-    number = dislogha_begin(data.data(), data.size(), question.data(), question.size(),
-                            scratch.data(), scratch.size()).number;
+    number = dislogha_begin(data.data(), data.size(), calendars.data(), calendars.size(),
+                            question.data(), question.size(), scratch.data(), scratch.size())
+                 .number;
 }
 
 // Three rows at a time first, so that a question is also left unfinished; then all.
@@ -86,7 +91,8 @@ void portions() {
     begin();
     for (std::uint64_t rows = 3; number == 0; rows = 65535) {
         const dislogha_portioned said = dislogha_portion(
-            data.data(), data.size(), scratch.data(), scratch.size(), answer.data(), answer.size(), rows);
+            data.data(), data.size(), calendars.data(), calendars.size(), scratch.data(), scratch.size(),
+            answer.data(), answer.size(), rows);
         number = said.number;
         if (said.finished == 1) return;
     }
@@ -97,8 +103,9 @@ void rounds() {
     const std::uint64_t quota = 1000;
     while (number == 0) {
         const dislogha_round_result said = dislogha_round(
-            data.data(), data.size(), &quota, 1, scratch.data(), scratch.size(), answer.data(),
-            answer.size(), nullptr, 0, nullptr, 0, nullptr, 0, nullptr, 0, nullptr, 0, nullptr, 0);
+            data.data(), data.size(), calendars.data(), calendars.size(), &quota, 1, scratch.data(),
+            scratch.size(), answer.data(), answer.size(), nullptr, 0, nullptr, 0, nullptr, 0, nullptr, 0,
+            nullptr, 0, nullptr, 0);
         number = said.number != 0 ? said.number : said.seats[0].number;
         if (said.seats[0].finished == 1) return;
     }
@@ -110,6 +117,15 @@ void turned() {
     if (number == 0)
         number = dislogha_table_to_rows(by_column.data(), by_column.size(), back.data(), back.size()).number;
     if (number == 0 && back != by_row) number = 1;
+}
+
+// The first open minute of the last calendar, 42 where none is lent; then the last date there and back.
+void hours() {
+    const std::uint64_t wanted = calendars.empty() ? 42 : 0;
+    number = dislogha_first_open(calendars.data(), calendars.size(), 3, 1).number == wanted ? 0 : 1;
+    const dislogha_day_number_result last = dislogha_day_number(2399, 12, 31);
+    if (number == 0) number = last.number;
+    if (number == 0) number = dislogha_date(last.day).number;
 }
 
 struct Call {
@@ -164,15 +180,17 @@ int main(int argc, char **argv) {
     Call calls[] = {{"check", check, 0, ""},           {"answer_by_loops", by_loops, 0, ""},
                     {"answer_by_plan", by_plan, 0, ""}, {"plan_lines", plan_lines, 0, ""},
                     {"begin", begin, 0, ""},           {"portion", portions, 0, ""},
-                    {"round", rounds, 0, ""},           {"both directions", turned, 0, ""}};
+                    {"round", rounds, 0, ""},           {"both directions", turned, 0, ""},
+                    {"days and hours", hours, 0, ""}};
     std::ifstream file(argv[1]);
     std::string line;
     int questions = 0, refused = 0;
     while (std::getline(file, line)) {
         std::istringstream words(line);
-        std::string name, data_hex, question_hex;
-        words >> name >> data_hex >> question_hex;
+        std::string name, data_hex, calendars_hex, question_hex;
+        words >> name >> data_hex >> calendars_hex >> question_hex;
         data = bytes(data_hex);
+        calendars = bytes(calendars_hex);
         question = bytes(question_hex);
         questions++;
         for (Call &call : calls) {
