@@ -28,7 +28,7 @@ use Rattle.answer_types.specs.declared.ValueType.the-variants.{Words, Fields, E
 use Rattle.answer_types.specs.declared.Layout.{Layout}
 use Rattle.answer_types.specs.FlatTypes.{Flat, FlatEach, widthOf}
 use Rattle.answer_types.specs.Elements.{wordsOf}
-use Rattle.answer_types.specs.Shape.{typeAt, typesAt, collectionOf, Shaped, Laid}
+use Rattle.answer_types.specs.Shape.{typeAt, typesAt, collectionOf, Shaped, LayoutOf}
 use Rattle.answer_types.specs.TypedValues.{Of, a-record, a-collection, OfEach, no-field, field}
 use Rattle.answer_types.proofs.Types.{at-laid, by-words, by-fields, by-elements, by-none, by-more}
 use Rattle.answer_types.proofs.FlatSkip.{flat-words}
@@ -39,7 +39,7 @@ use Rattle.answer_sort.specs.declared.Kept.{Kept}
 use Rattle.answer_heap.specs.HeapSort.{Counted, capped}
 use Rattle.answer_heap.proofs.BufferHeapSort.{cap-both}
 use Rattle.answer_sort.specs.Ordering.{ordering}
-use Rattle.answer_sort.specs.OrderStep.{Held, OrderPost, OrderCount}
+use Rattle.answer_sort.specs.OrderStep.{GappedElements, OrderPost, OrderCountPost}
 use Rattle.answer_canonical.specs.Comparisons.{total, parts, own, inside, insideEach, steps}
 use Rattle.answer_canonical.specs.declared.Ends.{Ends}
 use Rattle.answer_canonical.specs.CompactingWalk.{Moved, CarryPost, unordered, WalkPost, ArrangePost, WalkFieldsPost, WalkElementsPost, FinishPost, FinishCount}
@@ -122,17 +122,17 @@ module _ {s : List ℕ} {i : ℕ} {e r : Ends} {o o′ : List ℤ} where
   walk-record H F = record { is = by-fields (λ t. WalksAs t (unordered t) (inside t) e o o′ r) H (λ g l. record-by (F .is g l)) }
 
 -- both steps
-pub record Written (s : List ℕ) (i : ℕ) (e : Ends) (o o′ : List ℤ) (r : Ends) : Type 0 where
+pub record WalkedArranged (s : List ℕ) (i : ℕ) (e : Ends) (o o′ : List ℤ) (r : Ends) : Type 0 where
   pub is : (f : ℕ) → left i < f → WalksAs (typeAt f s i) (typeAt f s i) (steps (typeAt f s i)) e o o′ r
 
-pub written : {s : List ℕ} {i p : ℕ} {e g r : Ends} {o o₁ o₂ : List ℤ} → p ≡ e .dst → WalkPost s i e o o₁ g → ArrangePost s i p g o₁ o₂ r → Written s i e o o₂ r
+pub written : {s : List ℕ} {i p : ℕ} {e g r : Ends} {o o₁ o₂ : List ℤ} → p ≡ e .dst → WalkPost s i e o o₁ g → ArrangePost s i p g o₁ o₂ r → WalkedArranged s i e o o₂ r
 written {s} {i} ep W A = record {
   is = λ f k D G R v h c ld ls m tm. recount (add-assoc m (inside (typeAt f s i) v) (own (typeAt f s i) v)) (A .is f k D R v h (ld ∙ sym ep) (m + inside (typeAt f s i) v) (W .is f k D G R v h c ld ls m tm));
 }
 
 -- by the layout of a place
-pub written-at : {s : List ℕ} {i : ℕ} {t : Layout} {e r : Ends} {o o′ : List ℤ} → Laid s i t → Written s (t .place) e o o′ r → Written s i e o o′ r
-written-at {s} {e = e} {r = r} {o = o} {o′ = o′} L W = at-laid L (λ i. Written s i e o o′ r) W
+pub written-at : {s : List ℕ} {i : ℕ} {t : Layout} {e r : Ends} {o o′ : List ℤ} → LayoutOf s i t → WalkedArranged s (t .place) e o o′ r → WalkedArranged s i e o o′ r
+written-at {s} {e = e} {r = r} {o = o} {o′ = o′} L W = at-laid L (λ i. WalkedArranged s i e o o′ r) W
 
 -- ---- fields
 none-by : {e : Ends} {o : List ℤ} → WalksEach ynil e o o e
@@ -153,7 +153,7 @@ module _ {s : List ℕ} {c end : ℕ} {e : Ends} {o : List ℤ} where
   fields-none : end ≤ c → WalkFieldsPost s c end e o o e
   fields-none q = record { is = by-none s (λ ts. WalksEach ts e o o e) q none-by }
 
-  fields-more : {d : ℕ} {g r : Ends} {o₁ o₂ : List ℤ} → c < end → end ≤ formWords → Written s c e o o₁ g → d ≡ next s c → WalkFieldsPost s d end g o₁ o₂ r → WalkFieldsPost s c end e o o₂ r
+  fields-more : {d : ℕ} {g r : Ends} {o₁ o₂ : List ℤ} → c < end → end ≤ formWords → WalkedArranged s c e o o₁ g → d ≡ next s c → WalkFieldsPost s d end g o₁ o₂ r → WalkFieldsPost s c end e o o₂ r
   fields-more {d} {g} {r} {o₁} {o₂} l m W ed F = record {
     is = by-more s (λ ts. WalksEach ts e o o₂ r) l m (λ f k j.
         more-by (W .is f k) (subst (λ (x : ℕ). WalksEach (typesAt f s x end) g o₁ o₂ r) ed (F .is f (omega (arith, ap left ed)))));
@@ -170,7 +170,7 @@ fields-first = record { long = refl; past = omega arith; rest = λ F. F }
 
 module _ {s : List ℕ} {c end d : ℕ} {e₀ e : Ends} {o₀ o : List ℤ} (I : WalkingFields s c end e₀ o₀ o d e) where
   module _ (l : d < end) (m : end ≤ formWords) {n : ℕ} (en : n ≡ next s d) where
-    pub fields-again : {g : Ends} {o′ : List ℤ} → length o′ ≡ length o → Written s d e o o′ g → WalkingFields s c end e₀ o₀ o′ n g
+    pub fields-again : {g : Ends} {o′ : List ℤ} → length o′ ≡ length o → WalkedArranged s d e o o′ g → WalkingFields s c end e₀ o₀ o′ n g
     fields-again el W = record { long = el ∙ I .long; past = omega (arith, I .past, en, next-past s d (omega (arith, l, m))); rest = λ F. I .rest (fields-more l m W en F) }
 
     pub fields-less : end - n < end - d
@@ -244,7 +244,7 @@ module _ {t : Ty} {e g : Ends} {o o′ : List ℤ} (W : WalksAs t t (steps t) e 
         sum = add-assoc made (steps t v) (total (map (steps t) todo)) ∙ sm;
       }
 
-pub walk-again : {s : List ℕ} {i count n : ℕ} {e₀ e g : Ends} {o₀ o o′ : List ℤ} → Walking s i count e₀ o₀ o n e → 0 < n → length o′ ≡ length o → Written s i e o o′ g → Walking s i count e₀ o₀ o′ (n - 1) g
+pub walk-again : {s : List ℕ} {i count n : ℕ} {e₀ e g : Ends} {o₀ o o′ : List ℤ} → Walking s i count e₀ o₀ o n e → 0 < n → length o′ ≡ length o → WalkedArranged s i e o o′ g → Walking s i count e₀ o₀ o′ (n - 1) g
 walk-again {n = n} I p el W = record {
   long = el ∙ I .long;
   by = λ f k D G R l h c q ld ls m tm.
@@ -317,7 +317,7 @@ module _ {t : Ty} {n : ℕ} {e b g : Ends} {o o₁ o₂ : List ℤ} (en : n ≡ 
       subst (λ (w : List ℤ). Moved D w R o₂ g (a + inside (coll c t) v)) (ap (λ (x : ℕ). pos x ∷ wordsOf m) (sym (length-map l (arrangeAs t) ∙ lk)) ∙ sym (list-words t vs)) Y
 
 -- u: the elements' layout
-pub walk-collection : {s : List ℕ} {i h : ℕ} {k : CollectionKind} {u : Layout} {n : ℕ} {e b g : Ends} {o o₁ o₂ : List ℤ} → Shaped s i (Elements k h) → Laid s h u → n ≡ countAt o (e .src) → CarryPost 1 e o o₁ b → WalkElementsPost s (u .place) n b o₁ o₂ g → WalkPost s i e o o₂ g
+pub walk-collection : {s : List ℕ} {i h : ℕ} {k : CollectionKind} {u : Layout} {n : ℕ} {e b g : Ends} {o o₁ o₂ : List ℤ} → Shaped s i (Elements k h) → LayoutOf s h u → n ≡ countAt o (e .src) → CarryPost 1 e o o₁ b → WalkElementsPost s (u .place) n b o₁ o₂ g → WalkPost s i e o o₂ g
 walk-collection {s} {i} {h} {k} {u} {n} {e} {b} {g} {o} {o₁} {o₂} H L en C W =
     let W₁ = at-laid L (λ x. WalkElementsPost s x n b o₁ o₂ g) W in
     record { is = by-elements (λ t. WalksAs t (unordered t) (inside t) e o o₂ g) H (λ f l. coll-by en C (W₁ .is f l) (collectionOf k)) }
@@ -327,7 +327,7 @@ abbrev ArrangesAs : Ty → ℕ → Ends → List ℤ → List ℤ → Ends → T
 ArrangesAs t p e o o′ r = (D R : List ℤ) (v : Value) → Of t v → length D ≡ p → (k : ℕ) → Moved D (words (arrangeAs (unordered t) v)) R o e k → Moved D (words (arrangeAs t v)) R o′ r (k + own t v)
 
 abbrev OrdersAs : Ty → Collection → ℕ → ℕ → ℕ → List ℤ → List ℤ → Kept → Type 0
-OrdersAs t c first n end o o′ r = (F R : List ℤ) (l : List Value) → All (Of t) l → length l ≡ n → o ≡ F ++ (wordsOf l ++ R) → length F ≡ first → length F + length (wordsOf l) ≡ end → Held F R (arranged c l) (length (wordsOf l)) o′ (r .count) (r .end)
+OrdersAs t c first n end o o′ r = (F R : List ℤ) (l : List Value) → All (Of t) l → length l ≡ n → o ≡ F ++ (wordsOf l ++ R) → length F ≡ first → length F + length (wordsOf l) ≡ end → GappedElements F R (arranged c l) (length (wordsOf l)) o′ (r .count) (r .end)
 
 abbrev CountsAs : Ty → Collection → ℕ → ℕ → List ℤ → Kept → Type 0
 CountsAs t c first n o r = (F R : List ℤ) (l : List Value) → All (Of t) l → length l ≡ n → o ≡ F ++ (wordsOf l ++ R) → length F ≡ first → r .comparisons ≡ capped (ordering c l .comparisons)
@@ -374,14 +374,14 @@ module _ {s : List ℕ} {i p : ℕ} {e : Ends} {o : List ℤ} where
   unfolding own
   arrange-record H = record { is = by-fields (λ t. ArrangesAs t p e o o e) H (λ g l D R v k ld m X. recount (sym (add-zero m)) X) }
 
-  pub arrange-collection : {h : ℕ} {k : CollectionKind} {u : Layout} {n q : ℕ} {r : Ends} {j : Kept} {o₁ o₂ : List ℤ} → Shaped s i (Elements k h) → Laid s h u → (n ≡ countAt o p) × (n < 2 ^ 63) → q ≡ behind o p → OrderPost s (u .place) k q n (e .dst) o o₁ j → OrderCount s (u .place) k q n o (j .comparisons) → MarkPost p (j .count) o₁ o₂ → r .src ≡ e .src → r .dst ≡ j .end → r .comparisons ≡ capped (e .comparisons + j .comparisons) → ArrangePost s i p e o o₂ r
+  pub arrange-collection : {h : ℕ} {k : CollectionKind} {u : Layout} {n q : ℕ} {r : Ends} {j : Kept} {o₁ o₂ : List ℤ} → Shaped s i (Elements k h) → LayoutOf s h u → (n ≡ countAt o p) × (n < 2 ^ 63) → q ≡ behind o p → OrderPost s (u .place) k q n (e .dst) o o₁ j → OrderCountPost s (u .place) k q n o (j .comparisons) → MarkPost p (j .count) o₁ o₂ → r .src ≡ e .src → r .dst ≡ j .end → r .comparisons ≡ capped (e .comparisons + j .comparisons) → ArrangePost s i p e o o₂ r
   arrange-collection {h} {k} {u} {n} {q} {r} {j} {o₁} {o₂} H L en eq S N K es ed ec =
       let S₁ = at-laid L (λ x. OrderPost s x k q n (e .dst) o o₁ j) S in
-      let N₁ = at-laid L (λ x. OrderCount s x k q n o (j .comparisons)) N in
+      let N₁ = at-laid L (λ x. OrderCountPost s x k q n o (j .comparisons)) N in
       record { is = by-elements (λ t. ArrangesAs t p e o o₂ r) H (λ f l. arrange-by j (collectionOf k) (en .0) (en .1) eq (S₁ .is f l) (N₁ .is f l) K es ed ec) }
 
 -- ---- finish
-pub finished : {s : List ℕ} {i : ℕ} {e r : Ends} {o o₁ o₂ : List ℤ} → e .src ≡ 0 → e .dst ≡ 0 → e .comparisons ≡ 0 → Written s i e o o₁ r → length o₁ ≡ length o → ClearPost (r .dst) (r .src) o₁ o₂ → FinishPost s i o o₂ (r .dst)
+pub finished : {s : List ℕ} {i : ℕ} {e r : Ends} {o o₁ o₂ : List ℤ} → e .src ≡ 0 → e .dst ≡ 0 → e .comparisons ≡ 0 → WalkedArranged s i e o o₁ r → length o₁ ≡ length o → ClearPost (r .dst) (r .src) o₁ o₂ → FinishPost s i o o₂ (r .dst)
 finished {s} {i} {e} {r} {o} {o₁} {o₂} es ed ec W el K = record {
   is = λ f k R v h q.
       let M : List ℤ = words (arrangeAs (typeAt f s i) v) in
@@ -390,5 +390,5 @@ finished {s} {i} {e} {r} {o} {o₁} {o₂} es ed ec W el K = record {
       (K .is M (Z .gap) R (Z .cut) (omega (arith, Z .at-dst)) (omega (arith, Z .at-dst, Z .at-src)) ∙ ap (λ (x : ℕ). M ++ (replicate x (pos 0) ++ R)) n, omega (arith, Z .at-dst));
 }
 
-pub finish-counted : {s : List ℕ} {i : ℕ} {e r : Ends} {o o₁ : List ℤ} → e .src ≡ 0 → e .dst ≡ 0 → e .comparisons ≡ 0 → Written s i e o o₁ r → FinishCount s i o (r .comparisons)
+pub finish-counted : {s : List ℕ} {i : ℕ} {e r : Ends} {o o₁ : List ℤ} → e .src ≡ 0 → e .dst ≡ 0 → e .comparisons ≡ 0 → WalkedArranged s i e o o₁ r → FinishCount s i o (r .comparisons)
 finish-counted {s} {i} es ed ec W = record { is = λ f k R v h q. W .is f k [] [] R v h q (sym ed) (sym es) 0 (ec ∙ omega arith) .told ∙ ap capped (zero-add (steps (typeAt f s i) v)) }

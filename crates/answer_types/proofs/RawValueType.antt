@@ -17,7 +17,7 @@ use Rattle.spec_calculus.specs.Monoid.{start, step, total, finish, foldBy, raw}
 use Rattle.spec_calculus.specs.Meaning.{Env}
 use Rattle.spec_calculus.proofs.Lists.{All, all-imp, all-bind}
 use Rattle.spec_calculus.proofs.Folds.{raw-of}
-use Rattle.spec_calculus.proofs.WellFormed.{Row, WellFormed, rows-well-formed, columns-at-least, absent-no-rows}
+use Rattle.spec_calculus.proofs.WellFormed.{WellFormedRow, WellFormed, rows-well-formed, columns-at-least, absent-no-rows}
 use Rattle.spec_checks.specs.Types.{Ty, Tys, number, truth, record′, coll, ynil, ycons, cells}
 use Rattle.spec_checks.proofs.Judgement.{result, Scalar, Takes}
 use Rattle.spec_checks.proofs.Refold.{gives, gathered}
@@ -47,12 +47,12 @@ unfolding cells
 some-cells zero l = absurd (omega arith)
 some-cells (suc n) l = tt
 
-row-of : {n : ℕ} {v : Value} → 1 ≤ n → Row n v → Of (record′ (cells n)) v
+row-of : {n : ℕ} {v : Value} → 1 ≤ n → WellFormedRow n v → Of (record′ (cells n)) v
 row-of {n} l r = subst (Of (record′ (cells n))) (sym (r .is)) (a-record (some-cells n l) (subst (λ (m : ℕ). OfEach (cells m) (fromList (map Va.num (r .cells)))) (r .width) (row-cells (r .cells))))
 
 rows-of : {D : Tables} → WellFormed D → (k : ℕ) → All (Of (record′ (cells (columnsOf D k)))) (rowsOf D k)
 rows-of {D} W k = by-test (isThere D k)
-    (λ e. all-imp (Row (columnsOf D k)) (Of (record′ (cells (columnsOf D k)))) (rowsOf D k) (rows-well-formed W k) (λ v r. row-of (columns-at-least W k e) r))
+    (λ e. all-imp (WellFormedRow (columnsOf D k)) (Of (record′ (cells (columnsOf D k)))) (rowsOf D k) (rows-well-formed W k) (λ v r. row-of (columns-at-least W k e) r))
     (λ e. rw (absent-no-rows W k e) tt)
 
 nth-of : (n i : ℕ) (vs : Values) → OfEach (cells n) vs → Of number (nth i vs)

@@ -30,7 +30,7 @@ use Rattle.answer_types.specs.declared.Layout.{Layout}
 use Rattle.answer_types.specs.declared.ValueType.{ValueType}
 use Rattle.answer_types.specs.declared.ValueType.the-variants as Sh
 use Rattle.answer_types.specs.Columns.{columns}
-use Rattle.answer_types.specs.Shape.{typeOf, typesOf, typeAt, typesAt, isSingle, collectionOf, HeadPost, endBy, ClauseEndPost, gatherOf, shapeBy, shapeIn, Shaped, ShapeAt, Laid, LaidBy}
+use Rattle.answer_types.specs.Shape.{typeOf, typesOf, typeAt, typesAt, isSingle, collectionOf, HeadPost, endBy, ClauseEndPost, gatherOf, shapeBy, shapeIn, Shaped, ShapeAt, LayoutOf, LaidBy}
 use Rattle.answer_types.specs.FlatTypes.{Flat, FlatEach, widthOf, widthEach}
 
 -- ---- columns
@@ -261,15 +261,15 @@ pub reshape : {s : List ℕ} {i : ℕ} {r n : ValueType} → Shaped s i r → r 
 reshape {s} {i} H e = subst (Shaped s i) e H
 
 -- a layout made of a place and the shape there
-pub laid : {s : List ℕ} {i : ℕ} {n : ValueType} {r : Layout} → r .place ≡ i → r .shape ≡ n → Shaped s i n → Laid s i r
+pub laid : {s : List ℕ} {i : ℕ} {n : ValueType} {r : Layout} → r .place ≡ i → r .shape ≡ n → Shaped s i n → LayoutOf s i r
 laid {s} {i} {r = r} ei es H = record { at-place = ei; shaped = subst (λ (j : ℕ). Shaped s j (r .shape)) (sym ei) (subst (Shaped s i) (sym es) H) }
 
 -- a layout by any definition of its shape
-pub laid-as : {S : ℕ → List ℕ → ℕ → ValueType} {s : List ℕ} {i : ℕ} {r : Layout} → LaidBy S s i r → Laid s i r
+pub laid-as : {S : ℕ → List ℕ → ℕ → ValueType} {s : List ℕ} {i : ℕ} {r : Layout} → LaidBy S s i r → LayoutOf s i r
 laid-as L = record { at-place = L .at-place; shaped = L .shaped }
 
 -- what holds of a layout's place holds of the place it was read at
-pub at-laid : {s : List ℕ} {i : ℕ} {r : Layout} → Laid s i r → (P : ℕ → Type 0) → P (r .place) → P i
+pub at-laid : {s : List ℕ} {i : ℕ} {r : Layout} → LayoutOf s i r → (P : ℕ → Type 0) → P (r .place) → P i
 at-laid L P p = subst P (L .at-place) p
 
 module _ {s : List ℕ} {i : ℕ} (P : Ty → Type 0) where

@@ -139,7 +139,7 @@ pub record ShapeAt (s : List ℕ) (i : ℕ) (r : ValueType) : Type 0 where
   pub shaped : Shaped s i r
 
 -- the type at place i, read once
-pub record Laid (s : List ℕ) (i : ℕ) (r : Layout) : Type 0 where
+pub record LayoutOf (s : List ℕ) (i : ℕ) (r : Layout) : Type 0 where
   pub at-place : r .place ≡ i
   pub shaped : Shaped s (r .place) (r .shape)
 

@@ -16,12 +16,12 @@ use Rattle.spec_calculus.specs.Monoid.{raw}
 use Rattle.spec_calculus.specs.Meaning.{Env}
 use Rattle.spec_calculus.proofs.Lists.{All, all-guard, all-bind}
 use Rattle.spec_calculus.proofs.Folds.{raw-of}
-use Rattle.spec_calculus.proofs.WellFormed.{Row, row-field}
+use Rattle.spec_calculus.proofs.WellFormed.{WellFormedRow, row-field}
 use Rattle.spec_calculus.proofs.Truths.{both}
 use Rattle.spec_encoding.specs.Record.{Bytes}
 use Rattle.spec_normal_form.specs.Form.{Form, Forms, Clauses, row, cell, bin, negate, app, comp, fnil, fcons, done, gen, cond, value, values, loops}
 use Rattle.spec_normal_form.specs.Form as Fo
-use Rattle.base_syntax.proofs.MergedWords.{Made, fold-made}
+use Rattle.base_syntax.proofs.MergedWords.{OfMonoid, fold-made}
 use Rattle.form_env.specs.Environment.{envOf, tablesIn, Held}
 use Rattle.form_env.proofs.BoundRows.{each-row, table-each}
 use Rattle.spec_outcome.specs.WrittenForm.{words, wordsL}
@@ -44,19 +44,19 @@ mutual
   cut-lengths (vcons v vs) = length-append (cutWords v) (cutWordsL vs) ∙ ap₂ _+_ (cut-length v) (cut-lengths vs) ∙ sym (length-append (words v) (wordsL vs))
 
 -- at least one word, and no count is cut where the words are at most 2^62
-pub record Whole (v : Value) : Type 0 where
+pub record ExactCounts (v : Value) : Type 0 where
   pub some : 1 ≤ length (words v)
   pub exact : length (words v) ≤ numberLimit → cutWords v ≡ words v
 
-whole-num : (z : ℤ) → Whole (num z)
+whole-num : (z : ℤ) → ExactCounts (num z)
 unfolding words cutWords
 whole-num z = record { some = omega arith; exact = λ l. refl }
 
-whole-truth : (b : Bool) → Whole (truth b)
+whole-truth : (b : Bool) → ExactCounts (truth b)
 unfolding words cutWords
 whole-truth b = record { some = omega arith; exact = λ l. refl }
 
-whole-bin : (o : Bin) (v w : Value) → Whole (binV o v w)
+whole-bin : (o : Bin) (v w : Value) → ExactCounts (binV o v w)
 unfolding binV
 whole-bin plus v w = whole-num _
 whole-bin minus v w = whole-num _
@@ -66,18 +66,18 @@ whole-bin less v w = whole-truth _
 whole-bin and v w = whole-truth _
 whole-bin or v w = whole-truth _
 
-whole-not : (v : Value) → Whole (notV v)
+whole-not : (v : Value) → ExactCounts (notV v)
 unfolding notV
 whole-not v = whole-truth _
 
-whole-scalar : (v : Value) → Whole (scalar v)
+whole-scalar : (v : Value) → ExactCounts (scalar v)
 unfolding scalar
 whole-scalar (num z) = whole-num z
 whole-scalar (truth b) = whole-truth b
 whole-scalar (rec vs) = whole-num _
 whole-scalar (coll vs) = whole-num _
 
-whole-app : (f : Fun) (vs : Values) → Whole (appV f vs)
+whole-app : (f : Fun) (vs : Values) → ExactCounts (appV f vs)
 unfolding appV choiceV
 whole-app choice vs = whole-scalar _
 whole-app (isOpen n c) vs = whole-truth _
@@ -87,7 +87,7 @@ both-exact : {a b c d : List ℤ} → (length b ≤ numberLimit → a ≡ b) →
 both-exact {a} {b} {c} {d} p q l = ap₂ _++_ (p (omega (arith, length-append b d))) (q (omega (arith, length-append b d)))
 
 -- ---- collections
-elements : (l : List Value) → All Whole l → (count (fromList l) ≤ length (wordsL (fromList l))) × (length (wordsL (fromList l)) ≤ numberLimit → cutWordsL (fromList l) ≡ wordsL (fromList l))
+elements : (l : List Value) → All ExactCounts l → (count (fromList l) ≤ length (wordsL (fromList l))) × (length (wordsL (fromList l)) ≤ numberLimit → cutWordsL (fromList l) ≡ wordsL (fromList l))
 unfolding words cutWords count
 elements [] h = (omega arith, λ l. refl)
 elements (v ∷ l) h = let r = elements l (h .1) in (
@@ -95,20 +95,20 @@ elements (v ∷ l) h = let r = elements l (h .1) in (
   both-exact {a = cutWords v} {b = words v} {c = cutWordsL (fromList l)} {d = wordsL (fromList l)} (h .0 .exact) (r .1),
 )
 
-whole-coll : (l : List Value) → All Whole l → Whole (coll (fromList l))
+whole-coll : (l : List Value) → All ExactCounts l → ExactCounts (coll (fromList l))
 unfolding words cutWords
 whole-coll l h = let r = elements l h in record { some = omega arith; exact = λ p. ap₂ _∷_ (ap pos (omega (arith, r .0))) (r .1 (omega arith)) }
 
-whole-fold : (m : Monoid) (l : List Value) → All Whole l → Whole (raw m l)
+whole-fold : (m : Monoid) (l : List Value) → All ExactCounts l → ExactCounts (raw m l)
 whole-fold m l h = go m (fold-made m l)
   where
-    go : (m : Monoid) → Made m (raw m l) → Whole (raw m l)
-    go (of c) e = subst Whole (sym (raw-of c l)) (whole-coll l h)
-    go sum e = subst Whole (sym e) (whole-num _)
-    go max e = subst Whole (sym e) (whole-num _)
-    go Sy.min e = subst Whole (sym e) (whole-num _)
-    go some e = subst Whole (sym e) (whole-truth _)
-    go all e = subst Whole (sym e) (whole-truth _)
+    go : (m : Monoid) → OfMonoid m (raw m l) → ExactCounts (raw m l)
+    go (of c) e = subst ExactCounts (sym (raw-of c l)) (whole-coll l h)
+    go sum e = subst ExactCounts (sym e) (whole-num _)
+    go max e = subst ExactCounts (sym e) (whole-num _)
+    go Sy.min e = subst ExactCounts (sym e) (whole-num _)
+    go some e = subst ExactCounts (sym e) (whole-truth _)
+    go all e = subst ExactCounts (sym e) (whole-truth _)
 
 -- ---- rows
 cells-are : (zs : List ℤ) → (cutWordsL (fromList (map num zs)) ≡ wordsL (fromList (map num zs))) × (length (wordsL (fromList (map num zs))) ≡ length zs)
@@ -118,13 +118,13 @@ cells-are (z ∷ zs) = (ap (λ (l : List ℤ). z ∷ l) (cells-are zs .0), ap su
 
 -- what a generator stands for
 pub record Standing (v : Value) : Type 0 where
-  pub whole : Whole v
-  pub fields : (c : ℕ) → Whole (fieldOf c v)
+  pub whole : ExactCounts v
+  pub fields : (c : ℕ) → ExactCounts (fieldOf c v)
 
-row-whole : (n : ℕ) (v : Value) → 1 ≤ n → Row n v → Standing v
-row-whole n v p r = record { whole = subst Whole (sym (r .is)) here; fields = λ c. subst Whole (sym (row-field r c)) (whole-num _) }
+row-whole : (n : ℕ) (v : Value) → 1 ≤ n → WellFormedRow n v → Standing v
+row-whole n v p r = record { whole = subst ExactCounts (sym (r .is)) here; fields = λ c. subst ExactCounts (sym (row-field r c)) (whole-num _) }
   where
-    here : Whole (rec (fromList (map num (r .cells))))
+    here : ExactCounts (rec (fromList (map num (r .cells))))
     here = unfold words cutWords in record { some = omega (arith, cells-are (r .cells) .1, r .width); exact = λ l. cells-are (r .cells) .0 }
 
 none-whole : Standing junk
@@ -147,17 +147,17 @@ abbrev valueOf : Bytes → Form → Env → Value
 valueOf d t ρ = value raw (tablesIn d) t ρ
 
 module _ {d : Bytes} {s : List ℕ} (H : Held d s) where
-  loops-whole : (k : Env → List Value) → ((σ : Env) → Rows σ → All Whole (k σ)) → (q : Clauses) (ρ : Env) → Rows ρ → All Whole (loops raw (tablesIn d) q k ρ)
+  loops-whole : (k : Env → List Value) → ((σ : Env) → Rows σ → All ExactCounts (k σ)) → (q : Clauses) (ρ : Env) → Rows ρ → All ExactCounts (loops raw (tablesIn d) q k ρ)
   unfolding loops
   loops-whole k h done ρ R = h ρ R
-  loops-whole k h (gen g t q) ρ R = all-bind Standing Whole (λ v. loops raw (tablesIn d) q k (upd g v ρ)) (rowsOf (tablesIn d) t) (table-each H Standing row-whole t)
+  loops-whole k h (gen g t q) ρ R = all-bind Standing ExactCounts (λ v. loops raw (tablesIn d) q k (upd g v ρ)) (rowsOf (tablesIn d) t) (table-each H Standing row-whole t)
       (λ v r. loops-whole k h q (upd g v ρ) (rows-upd g ρ r R))
-  loops-whole k h (cond t q) ρ R = all-guard Whole _ (loops raw (tablesIn d) q k ρ) (loops-whole k h q ρ R)
+  loops-whole k h (cond t q) ρ R = all-guard ExactCounts _ (loops raw (tablesIn d) q k ρ) (loops-whole k h q ρ R)
 
   mutual
     unfolding value filled words cutWords
 
-    form-whole : (t : Form) → filled t ≡ true → (ρ : Env) → Rows ρ → Whole (valueOf d t ρ)
+    form-whole : (t : Form) → filled t ≡ true → (ρ : Env) → Rows ρ → ExactCounts (valueOf d t ρ)
     form-whole (Fo.num z) w ρ R = whole-num z
     form-whole (Fo.truth b) w ρ R = whole-truth b
     form-whole (row g) w ρ R = R g .whole

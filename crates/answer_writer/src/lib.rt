@@ -5,8 +5,8 @@ ghost use Rattle.answer_writer.specs.Shapes.{comprehensionShape, ShapeAt
 ghost use Rattle.answer_writer.specs.Contract.{RowPost};
 use base_scratch::FORM_WORDS;
 use base_signed::COUNT_LIMIT;
+use base_syntax::BinOp;
 use base_syntax::Monoid;
-use base_syntax::Op;
 use base_tables::cell;
 use base_tables::columns;
 use base_tables::description;
@@ -83,7 +83,7 @@ pub fn shape_at(s: &[u64], i: usize) -> WriteForm
         form_words::TRUTH => WriteForm::Word(Sort::Truth),
         form_words::ROW => WriteForm::Row(low(a)),
         form_words::RECORD => WriteForm::Record(next(s, i)),
-        form_words::BINARY => WriteForm::Word(result(Op::from_number(a))),
+        form_words::BINARY => WriteForm::Word(result(BinOp::from_number(a))),
         form_words::NEGATION => WriteForm::Word(Sort::Truth),
         form_words::OPERATOR => WriteForm::Word(Sort::Either),
         form_words::COMPREHENSION => comprehension_shape(Monoid::from_bits(a)),

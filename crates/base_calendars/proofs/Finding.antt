@@ -13,8 +13,8 @@ use Rattle.spec_calendar.specs.Hours.{Calendar, calendarOf}
 use Rattle.spec_encoding.specs.Record.{Bytes, two, lengthOf, contentOf, behind}
 use Rattle.spec_hours.specs.CalendarBytes.{windowsOf, calendarsFrom, calendarsOf}
 use Rattle.base_calendars.specs.Contract.{Stands, FoundAs, FindPost}
-use Rattle.base_calendars.specs.declared.Lent.{Lent}
-use Rattle.base_calendars.specs.declared.Lent.the-variants.{Content, Missing}
+use Rattle.base_calendars.specs.declared.LentCalendar.{LentCalendar}
+use Rattle.base_calendars.specs.declared.LentCalendar.the-variants.{Content, Missing}
 use Rattle.base_calendars.proofs.Records.{length-at}
 
 -- what stands behind so many records
@@ -118,7 +118,7 @@ module _ (l : Bytes) (p n : ℕ) (inv : drop p l ≡ skip n l) where
         ∙ sym (drop-drop (4 + lengthOf (drop p l)) p l) ∙ ap behind inv ∙ skip-next n l ∙ ap (λ (j : ℕ). skip j l) (sym (add-one n))
 
 -- ---- is_lent
-module _ {l : Bytes} {k : ℕ} {r : Lent} (f : FindPost l k r) where
+module _ {l : Bytes} {k : ℕ} {r : LentCalendar} (f : FindPost l k r) where
   pub found : {a b : ℕ} → r ≡ Content a b → Stands l k a b
   found e = subst (FindPost l k) e f .is
 

@@ -7,8 +7,8 @@ use Rattle.spec_calendar.specs.Hours.{calendarOf}
 use Rattle.spec_encoding.specs.Record.{Bytes}
 use Rattle.spec_hours.specs.CalendarBytes.{windowsOf, calendarsOf}
 use Rattle.base_calendars.specs.declared.Window.{Window}
-use Rattle.base_calendars.specs.declared.Lent.{Lent}
-use Rattle.base_calendars.specs.declared.Lent.the-variants.{Content, Missing}
+use Rattle.base_calendars.specs.declared.LentCalendar.{LentCalendar}
+use Rattle.base_calendars.specs.declared.LentCalendar.the-variants.{Content, Missing}
 
 -- a window that was read
 abbrev pub windowIn : Window → Hours.Window
@@ -21,9 +21,9 @@ pub record Stands (l : Bytes) (k a b : ℕ) : Type 0 where
   pub lent : k < length (calendarsOf l)
   pub windows : calendarOf (calendarsOf l) k ≡ windowsOf (take (b - a) (drop a l))
 
-abbrev pub FoundAs : Bytes → ℕ → Lent → Type 0
+abbrev pub FoundAs : Bytes → ℕ → LentCalendar → Type 0
 FoundAs l k (Content a b) = Stands l k a b
 FoundAs l k Missing = length (calendarsOf l) ≤ k
 
-pub record FindPost (l : Bytes) (k : ℕ) (r : Lent) : Type 0 where
+pub record FindPost (l : Bytes) (k : ℕ) (r : LentCalendar) : Type 0 where
   pub is : FoundAs l k r

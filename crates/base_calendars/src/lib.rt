@@ -38,7 +38,7 @@ pub struct Window {
 }
 
 // Where the content of a calendar begins and ends.
-pub enum Lent {
+pub enum LentCalendar {
     Content(usize, usize),
     Missing,
 }
@@ -156,11 +156,11 @@ fn at_most(p: usize, end: usize) -> usize
 }
 
 // Calendar k, "numbered by position from 0"; of a record that is cut short, what is there.
-pub fn find(s: &[u8], k: u64) -> Lent
+pub fn find(s: &[u8], k: u64) -> LentCalendar
     ensures { λ r. ⌜ FindPost (now (s .entry)) k r ⌝ }
 {
     if MOST_CALENDARS <= k {
-        return Lent::Missing;
+        return LentCalendar::Missing;
     }
     let mut p = 0;
     let mut n = 0;
@@ -168,19 +168,19 @@ pub fn find(s: &[u8], k: u64) -> Lent
         let from = at_most(p + HEADER, s.len());
         let next = at_most(p + HEADER + two_at(s, p), s.len());
         if n == k {
-            return Lent::Content(from, next);
+            return LentCalendar::Content(from, next);
         }
         p = next;
         n += 1;
     }
-    Lent::Missing
+    LentCalendar::Missing
 }
 
 // Not "a calendar not lent", which is 42.
 pub fn is_lent(s: &[u8], k: u64) -> bool
     ensures { λ r. ⌜ r ≡ ltb k (length (calendarsOf (now (s .entry)))) ⌝ }
 {
-    let Lent::Content(from, next) = find(s, k) else {
+    let LentCalendar::Content(from, next) = find(s, k) else {
         return false;
     };
     from <= next

@@ -29,6 +29,11 @@ const KIND_AT: usize = 2;
 
 const CONTENT_AT: usize = 4;
 
+// Of differences wrapped at 32 bits: the first that stands for one below 0, and the last.
+const FIRST_BELOW_0: u32 = 2147483648;
+
+const LAST: u32 = 4294967295;
+
 // A refusal's number and length 0, or 0 and the record's length.
 pub struct Turned {
     pub number: u64,
@@ -40,10 +45,10 @@ fn fold(x: u32, above: u32) -> u32
     ensures { λ r. ⌜ r ≡ folded (signed (minus x above)) ⌝ }
 {
     let d = std::num::wrapping_sub_u32(x, above);
-    if d < 2147483648 {
+    if d < FIRST_BELOW_0 {
         return 2 * d;
     }
-    2 * (4294967295 - d) + 1
+    2 * (LAST - d) + 1
 }
 
 fn low(x: u32) -> u8

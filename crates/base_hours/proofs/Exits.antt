@@ -15,8 +15,8 @@ use Rattle.spec_encoding.specs.Record.{Bytes, byte, refused, got, andThen, requ
 use Rattle.spec_hours.specs.CalendarBytes.{windowAt, windowsFrom, windowsOf, calendarsFit, mostCalendars, calendarsOf, readCalendars}
 use Rattle.spec_hours.specs.Calls.{OpenOutcome, openTold, firstOpened}
 use Rattle.base_calendars.specs.Contract.{Stands, FindPost}
-use Rattle.base_calendars.specs.declared.Lent.{Lent}
-use Rattle.base_calendars.specs.declared.Lent.the-variants.{Content, Missing}
+use Rattle.base_calendars.specs.declared.LentCalendar.{LentCalendar}
+use Rattle.base_calendars.specs.declared.LentCalendar.the-variants.{Content, Missing}
 use Rattle.base_calendars.proofs.Windows.{windows-next}
 use Rattle.base_calendars.proofs.Finding.{found, not-found}
 use Rattle.base_hours.specs.Contract.{allMinutes, minuteIn, NextPost, LeastPost}
@@ -59,7 +59,7 @@ module _ (l : Bytes) (k : ℕ) (z : ℤ) {b : Bool} (eb : b ≡ calendarsFit mos
   unfolding firstOpened readCalendars andThen require openTold
   broken h = rw (sym eb ∙ not-true b h)
 
-  module _ (h : not b ≡ false) {r : Lent} (F : FindPost l k r) where
+  module _ (h : not b ≡ false) {r : LentCalendar} (F : FindPost l k r) where
     pub not-lent : r ≡ Missing → _≡_ {A = OpenOutcome} (record { number = 42; found = 0; minute = 0 }) (firstOpened l k z)
     unfolding firstOpened readCalendars andThen require openTold
     not-lent e = rw (sym eb ∙ not-false b h, le-ltb k (length (calendarsOf l)) (not-found F e))

@@ -7,7 +7,7 @@ ghost use Rattle.spec_hours.specs.Calls.{firstOpened};
 ghost use Rattle.base_calendars.specs.Contract.{windowIn};
 ghost use Rattle.base_hours.specs.Contract.{openIn, minuteIn, NextPost, LeastPost};
 use base_calendars::DAY_MINUTES;
-use base_calendars::Lent;
+use base_calendars::LentCalendar;
 use base_calendars::Window;
 use base_calendars::calendars_fit;
 use base_calendars::find;
@@ -123,7 +123,7 @@ pub fn first_open(calendars: &[u8], k: u64, minute: i64) -> OpenTold
             minute: 0,
         };
     }
-    let Lent::Content(from, next) = find(calendars, k) else {
+    let LentCalendar::Content(from, next) = find(calendars, k) else {
         return OpenTold {
             number: CALENDAR_NOT_LENT,
             found: 0,

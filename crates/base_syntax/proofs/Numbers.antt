@@ -6,7 +6,7 @@ use lib.ListN.{List·getD-eq-default}
 use Rattle.spec_calendar.specs.Hours.{Calendar}
 use Rattle.spec_calculus.specs.Syntax.{list, bag, set, of, sum, max, min, some, all, Bin, plus, minus, times, equal, less, and, or, choice, isOpen}
 use Rattle.spec_calculus.specs.Syntax as Sy
-use Rattle.base_syntax.specs.declared.Op.the-variants.{Plus}
+use Rattle.base_syntax.specs.declared.BinOp.the-variants.{Plus}
 use Rattle.base_syntax.specs.declared.Fun.{Fun}
 use Rattle.base_syntax.specs.declared.Fun.the-variants.{Choice, Open}
 use Rattle.base_syntax.specs.declared.Monoid.the-variants as Mo

@@ -11,8 +11,8 @@ use Rattle.spec_calendar.specs.Hours.{Calendar}
 use Rattle.spec_calculus.specs.Lending.{unlent}
 use Rattle.spec_calculus.specs.Syntax.{list, bag, set, of, sum, max, min, some, all, Bin, plus, minus, times, equal, less, and, or, choice, isOpen}
 use Rattle.spec_calculus.specs.Syntax as Sy
-use Rattle.base_syntax.specs.declared.Op.{Op}
-use Rattle.base_syntax.specs.declared.Op.the-variants.{Plus, Minus, Times, Equal, Less, And, Or}
+use Rattle.base_syntax.specs.declared.BinOp.{BinOp}
+use Rattle.base_syntax.specs.declared.BinOp.the-variants.{Plus, Minus, Times, Equal, Less, And, Or}
 use Rattle.base_syntax.specs.declared.Fun.{Fun}
 use Rattle.base_syntax.specs.declared.Fun.the-variants.{Choice, Open}
 use Rattle.base_syntax.specs.declared.Monoid.{Monoid}
@@ -20,7 +20,7 @@ use Rattle.base_syntax.specs.declared.Monoid.the-variants as Mo
 use Rattle.base_syntax.specs.MonoidWord.{monoidOf}
 
 -- the operator that each case of the enum is
-abbrev pub binOf : Op → Bin
+abbrev pub binOf : BinOp → Bin
 binOf Plus = plus
 binOf Minus = minus
 binOf Times = times
@@ -38,10 +38,10 @@ opArg less = 4
 opArg and = 5
 opArg or = 6
 
-abbrev pub operators : List Op
+abbrev pub operators : List BinOp
 operators = Plus ∷ Minus ∷ Times ∷ Equal ∷ Less ∷ And ∷ Or ∷ []
 
-abbrev pub opAt : ℕ → Op
+abbrev pub opAt : ℕ → BinOp
 opAt a = getD operators a Plus
 
 -- A number is kept, in a question's words and in a form's, as its distance from -2^31 (OFFSET in the code).
@@ -86,8 +86,8 @@ monoidNumber some = 6
 monoidNumber all = 7
 monoidNumber min = 8
 
-abbrev pub numberOf : Monoid → ℕ
-numberOf m = monoidNumber (monoidOf m)
+abbrev pub monoidCode : Monoid → ℕ
+monoidCode m = monoidNumber (monoidOf m)
 
 abbrev pub monoids : List Monoid
 monoids = Mo.List ∷ Mo.List ∷ Mo.Bag ∷ Mo.Set ∷ Mo.Sum ∷ Mo.Max ∷ Mo.Some ∷ Mo.All ∷ Mo.Min ∷ []

@@ -4,7 +4,7 @@ ghost use mathlib.Core.Path.{_≡_};
 ghost use Prim.Native.Nat.{_<_, _%_, _^_};
 ghost use lib.Signed.{mag};
 ghost use Rattle.base_syntax.specs.MonoidWord.{monoidOf, zeroWord, chosen, mergeWord, finishWord, oneMore};
-ghost use Rattle.base_syntax.specs.Numbers.{binOf, opArg, opAt, funOf, funArg, funAt, numberOf, monoidNumbered, monoidArg, monoidAt};
+ghost use Rattle.base_syntax.specs.Numbers.{binOf, opArg, opAt, funOf, funArg, funAt, monoidCode, monoidNumbered, monoidArg, monoidAt};
 use base_signed::COUNT_LIMIT;
 use base_signed::NUMBER_MOST;
 
@@ -70,7 +70,7 @@ const NUMBERS: usize = 256;
 // Monoids have the numbers 1 to 8.
 pub const MONOIDS: u64 = 8;
 
-pub enum Op {
+pub enum BinOp {
     Plus,
     Minus,
     Times,
@@ -176,7 +176,7 @@ impl Monoid {
 
     // Document 01's number; min's is document 02's.
     pub fn number(self) -> u64
-        ensures { λ r. ⌜ r ≡ numberOf self ⌝ }
+        ensures { λ r. ⌜ r ≡ monoidCode self ⌝ }
     {
         match self {
             Monoid::List => 1,
@@ -224,33 +224,33 @@ impl Monoid {
     }
 }
 
-impl Op {
+impl BinOp {
     // The number in a form word.
     pub fn number(self) -> u64
         ensures { λ r. ⌜ (r ≡ opArg (binOf self)) × (r < 8) ⌝ }
     {
         match self {
-            Op::Plus => 0,
-            Op::Minus => 1,
-            Op::Times => 2,
-            Op::Equal => 3,
-            Op::Less => 4,
-            Op::And => 5,
-            Op::Or => 6,
+            BinOp::Plus => 0,
+            BinOp::Minus => 1,
+            BinOp::Times => 2,
+            BinOp::Equal => 3,
+            BinOp::Less => 4,
+            BinOp::And => 5,
+            BinOp::Or => 6,
         }
     }
 
-    pub fn from_number(n: u64) -> Op
+    pub fn from_number(n: u64) -> BinOp
         ensures { λ r. ⌜ r ≡ opAt n ⌝ }
     {
         match n {
-            1 => Op::Minus,
-            2 => Op::Times,
-            3 => Op::Equal,
-            4 => Op::Less,
-            5 => Op::And,
-            6 => Op::Or,
-            _ => Op::Plus,
+            1 => BinOp::Minus,
+            2 => BinOp::Times,
+            3 => BinOp::Equal,
+            4 => BinOp::Less,
+            5 => BinOp::And,
+            6 => BinOp::Or,
+            _ => BinOp::Plus,
         }
     }
 }

@@ -25,7 +25,7 @@ use Rattle.spec_encoding.proofs.Folding.{unfold-even, unfold-odd}
 use Rattle.spec_encoding.proofs.Data.{Fit, fit}
 use Rattle.base_tables.specs.Description.{oneColumn, oneRow, oneKind, onePosition, kindBit, descriptionOf, columnsIn, rowsIn, kindIn, subsetIn, positionIn, presentIn, wordIn, cellIn, boundIn, placeIn, columnPlaceIn, placedIn, Placed, PlacedPost, CellPost, BoundPost}
 use Rattle.base_tables.specs.DataReader.{headerGives, headerAt, numberedTable, tableAt}
-use Rattle.base_tables.proofs.DataRecords.{passes, Whole, whole, whole-is, fit-is}
+use Rattle.base_tables.proofs.DataRecords.{passes, TableRecord, whole, whole-is, fit-is}
 use Rattle.base_tables.specs.declared.TableHeader.{TableHeader}
 use Rattle.base_tables.specs.declared.TableHeader.the-variants.{Record, Bad}
 use Rattle.base_tables.specs.declared.TableRead.{TableRead}
@@ -72,11 +72,11 @@ kind-rows {k} e = rw (eq-eqb k 20 e) refl
 pub kind-columns : {k : ℕ} → (k ≡ 20 → ⊥) → eqb k 23 ≡ isKind k
 kind-columns {k} e = rw (ne-eqb k 20 e) refl
 
-pub header-bad : (s : Bytes) → (Whole s → ⊥) → headerGives Bad ≡ headerAt s
+pub header-bad : (s : Bytes) → (TableRecord s → ⊥) → headerGives Bad ≡ headerAt s
 unfolding headerGives headerAt require
 header-bad s h = rw (passes (isTable s) (whole s) h)
 
-pub header-good : (s : Bytes) {n : ℕ} → n ≡ lengthOf s → Whole s → headerGives (Record n) ≡ headerAt s
+pub header-good : (s : Bytes) {n : ℕ} → n ≡ lengthOf s → TableRecord s → headerGives (Record n) ≡ headerAt s
 unfolding headerGives headerAt require
 header-good s e w = rw (whole-is s w, e)
 

@@ -26,26 +26,26 @@ passes true h k = absurd (k (h refl))
 passes false h k = refl
 
 -- what 11 leaves
-pub record Whole (l : Bytes) : Type 0 where
+pub record TableRecord (l : Bytes) : Type 0 where
   pub within : 4 + lengthOf l ≤ length l
   pub kind : isKind (kindOf l) ≡ true
 
-pub whole : (l : Bytes) → isTable l ≡ true → Whole l
+pub whole : (l : Bytes) → isTable l ≡ true → TableRecord l
 unfolding isWhole pick
 whole l e = go (leb 4 (length l)) e
   where
-    go : (t : Bool) → (pick t (leb (4 + lengthOf l) (length l)) false && isKind (kindOf l)) ≡ true → Whole l
+    go : (t : Bool) → (pick t (leb (4 + lengthOf l) (length l)) false && isKind (kindOf l)) ≡ true → TableRecord l
     go true h =
         let f = and-eq-true-iff (leb (4 + lengthOf l) (length l)) (isKind (kindOf l)) .0 h in
         record { within = leb-true (4 + lengthOf l) (length l) (f .0); kind = f .1 }
     go false h = no (cc)
 
-pub whole-is : (l : Bytes) → Whole l → isTable l ≡ true
+pub whole-is : (l : Bytes) → TableRecord l → isTable l ≡ true
 unfolding isWhole pick
 whole-is l w =
     rw (le-leb 4 (length l) (omega arith), le-leb (4 + lengthOf l) (length l) (w .within), w .kind)
 
-pub content-length : (l : Bytes) → Whole l → length (contentOf l) ≡ lengthOf l
+pub content-length : (l : Bytes) → TableRecord l → length (contentOf l) ≡ lengthOf l
 content-length l w = length-take-le (lengthOf l) (drop 4 l) (rw length-drop (omega (arith, w .within)))
 
 -- ---- what 12 leaves
@@ -146,7 +146,7 @@ read-at d s p {k} {w} {e} h = go _ _ _ _ _ refl refl refl refl refl h
     go false b′ m′ u′ f′ a b m u f h = no (cc)
 
 module _ {d : Bytes} {p k w e : ℕ} (R : ReadAt d p k w e) where
-  pub read-whole : Whole (drop p d)
+  pub read-whole : TableRecord (drop p d)
   read-whole = whole (drop p d) (R .good)
 
   pub read-fit : Fit (contentOf (drop p d))

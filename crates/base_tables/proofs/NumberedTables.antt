@@ -11,10 +11,11 @@ use lib.Dec.{eqb, ltb, leb}
 use lib.ListN.{length, getD, drop, set, replicate, length-set, List·getD-eq-default}
 use lib.Seq.{getD-set-same, getD-set-other}
 use Rattle.spec_calculus.specs.Lists.{pick}
-use Rattle.spec_calculus.specs.Value.{Table, Tables, noTable, columnsOf, isThere}
+use Rattle.spec_calculus.specs.Value.{Table, Tables, noTable, columnsOf, isThere, noTables}
 use Rattle.spec_encoding.specs.Record.{Bytes, got, lengthOf, kindOf, contentOf}
-use Rattle.spec_encoding.specs.Data.{isTable, tableNumber, boundsAt, fits, tableBy, bounded, tablesFrom, noTables, readData}
+use Rattle.spec_encoding.specs.Data.{isTable, tableNumber, boundsAt, fits, tableBy, bounded, tablesFrom, readData}
 use Rattle.spec_encoding.proofs.Data.{table-by-read, require-got}
+use Rattle.spec_calculus.proofs.Truths.{not-true}
 use Rattle.base_signed.proofs.SignedWords.{by-test, no}
 use Rattle.base_tables.specs.Description.{mostTables, descriptionOf, columnsIn, tableIn, presentIn, Describes}
 use Rattle.base_tables.specs.DataReader.{descriptionsFrom, descriptions}
@@ -100,10 +101,6 @@ module _ {d : Bytes} {S : Tables} {D : List ℕ} (N : Numbered d S D) {p k w e :
 some-or-none : (l : Bytes) → (l ≡ []) ⊎ (0 < length l)
 some-or-none [] = inl refl
 some-or-none (b ∷ l) = inr (omega arith)
-
-not-true : (b : Bool) → not b ≡ true → b ≡ false
-not-true true h = no (sym h)
-not-true false h = refl
 
 module _ (d : Bytes) where
   abbrev Reads : ℕ → ℕ → Type 0

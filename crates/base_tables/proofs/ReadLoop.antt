@@ -9,19 +9,19 @@ use borrow.Author.Tests.{eqb-true, eqb-false}
 use lib.Dec.{eqb}
 use lib.ListN.{length, getD, drop, set, replicate, length-drop, length-set, getD-replicate, drop-of-length-le}
 use lib.Seq.{getD-set-same, getD-set-other}
-use Rattle.spec_calculus.specs.Value.{Tables, isThere}
+use Rattle.spec_calculus.specs.Value.{Tables, isThere, noTables}
 use Rattle.spec_encoding.specs.Record.{Bytes, refused, got, contentOf}
-use Rattle.spec_encoding.specs.Data.{tableBy, tablesFrom, noTables, readData}
+use Rattle.spec_encoding.specs.Data.{tableBy, tablesFrom, readData}
 use Rattle.base_scratch.specs.ZeroedWords.{WipePost}
 use Rattle.base_signed.proofs.SignedWords.{by-test, no}
 use Rattle.base_tables.specs.Description.{mostTables}
-use Rattle.base_tables.specs.DataReader.{tableAt, descriptionsFrom, descriptions, numberOf, Stored, ReadDataPost}
+use Rattle.base_tables.specs.DataReader.{tableAt, descriptionsFrom, descriptions, refusalNumber, Stored, ReadDataPost}
 use Rattle.base_tables.specs.declared.TableRead.the-variants.{Is, Refused}
 use Rattle.base_tables.proofs.DataRecords.{kindAt, contentAt, tables-ninth, tables-none, descriptions-none, refused-at, ReadAt, read-at, number-few, next-far, next-within, next-near, read-tables, read-descriptions}
 use Rattle.base_tables.proofs.NumberedTables.{Numbered, numbered-first, numbered-next, present-word}
 
 -- n records have been read, those that follow begin at p; s₀ is scratch with no descriptions
-pub record Going (d : Bytes) (s₀ s : List ℕ) (p n : ℕ) : Type 0 where
+pub record ReadLoop (d : Bytes) (s₀ s : List ℕ) (p n : ℕ) : Type 0 where
   pub room : 9 ≤ length s₀
   pub upto : n ≤ 8
   pub within : p ≤ length d
@@ -36,7 +36,7 @@ pub record Going (d : Bytes) (s₀ s : List ℕ) (p n : ℕ) : Type 0 where
   pub each : (k : ℕ) → k < mostTables → getD s (1 + k) 0 ≡ getD words k 0
 
 module _ (d : Bytes) {lent s : List ℕ} (W : WipePost 1 9 lent s) where
-  pub going-first : 9 ≤ length lent → Going d s s 0 0
+  pub going-first : 9 ≤ length lent → ReadLoop d s s 0 0
   unfolding readData descriptions
   going-first r =
       record {
@@ -58,13 +58,13 @@ module _ (d : Bytes) {lent s : List ℕ} (W : WipePost 1 9 lent s) where
   pub from-lent : {s′ : List ℕ} {r : ℕ} → ReadDataPost d s s′ r → ReadDataPost d lent s′ r
   from-lent R = record { number = R .number; long = R .long ∙ W .long; kept = λ j h. R .kept j h ∙ W .outside j (inr h); stored = R .stored }
 
-module _ {d : Bytes} {s₀ s : List ℕ} {p n : ℕ} (g : Going d s₀ s p n) where
+module _ {d : Bytes} {s₀ s : List ℕ} {p n : ℕ} (g : ReadLoop d s₀ s p n) where
   module _ (l : p < length d) where
     some : 0 < length (drop p d)
     some = rw length-drop (omega arith)
 
     no-more : {x : ℕ} → readData d ≡ refused x → ReadDataPost d s₀ s x
-    unfolding numberOf
+    unfolding refusalNumber
     no-more e =
         record {
           number = rw e;
@@ -105,7 +105,7 @@ module _ {d : Bytes} {s₀ s : List ℕ} {p n : ℕ} (g : Going d s₀ s p n) wh
             (λ t. let i = eqb-false j k t in
             rw z (getD-set-other s (1 + k) (1 + j) w 0 (λ x. i (omega arith))) ∙ g .each j q ∙ sym (getD-set-other (g .words) k j w 0 i))
 
-        pub going-next : Going d s₀ s′ e (n + 1)
+        pub going-next : ReadLoop d s₀ s′ e (n + 1)
         going-next =
             record {
               room = g .room;
@@ -130,7 +130,7 @@ module _ {d : Bytes} {s₀ s : List ℕ} {p n : ℕ} (g : Going d s₀ s p n) wh
     words-are = g .told ∙ rw (drop-of-length-le d l, descriptions-none (8 - n) p (g .words))
 
     pub going-ended : ReadDataPost d s₀ s 0
-    unfolding numberOf
+    unfolding refusalNumber
     going-ended =
         record {
           number = rw all;

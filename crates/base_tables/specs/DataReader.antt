@@ -52,9 +52,9 @@ unfoldable pub descriptions : Bytes → List ℕ
 descriptions d = descriptionsFrom 8 0 (replicate mostTables 0) d
 
 -- a refusal's number, 0 where nothing is refused
-unfoldable pub numberOf : {A : Type 0} → Result A → ℕ
-numberOf (refused n) = n
-numberOf (got a) = 0
+unfoldable pub refusalNumber : {A : Type 0} → Result A → ℕ
+refusalNumber (refused n) = n
+refusalNumber (got a) = 0
 
 -- scratch word 1 + k is the description of table k, 0 where there is none
 pub record Stored (d : Bytes) (s : List ℕ) : Type 0 where
@@ -62,7 +62,7 @@ pub record Stored (d : Bytes) (s : List ℕ) : Type 0 where
 
 -- what `read_data` does with scratch s: it leaves s′ and answers r. Behind the last description every word is as before
 pub record ReadDataPost (d : Bytes) (s s′ : List ℕ) (r : ℕ) : Type 0 where
-  pub number : r ≡ numberOf (readData d)
+  pub number : r ≡ refusalNumber (readData d)
   pub long : length s′ ≡ length s
   pub kept : (j : ℕ) → 9 ≤ j → getD s′ j 0 ≡ getD s j 0
   pub stored : (T : Tables) → readData d ≡ got T → Stored d s′

@@ -24,6 +24,13 @@ const MOST_COLUMNS: usize = 8;
 
 pub const TABLE_ROWS: usize = 1024;
 
+// Four bytes are so many numbers, half of them below 0: no cell is of greater magnitude, and no bound may be.
+const CELLS: usize = 4294967296;
+
+const MOST_BOUND: usize = 2147483648;
+
+pub const MOST_MAGNITUDE: i64 = 2147483648;
+
 // Where a table's number, collection, columns and rows stand in its content, and behind them its bounds (spec_encoding/specs/Data.antt).
 pub const NUMBER_AT: usize = 0;
 
@@ -236,7 +243,7 @@ fn cell_within(x: usize, b: usize) -> bool
     requires { ⌜ (x < 2 ^ 32) × (b < 2 ^ 31) ⌝ }
     ensures { λ r. ⌜ r ≡ leb (natAbs (signed x)) b ⌝ }
 {
-    (x + b) % 4294967296 <= 2 * b
+    (x + b) % CELLS <= 2 * b
 }
 
 // Whether every cell in column i is. On each row one load, one sum, one test: every call that reads the data looks at every cell.
@@ -286,13 +293,13 @@ fn column_bounded(c: &[u8], kind: usize, i: usize) -> bool
     ensures { λ r. ⌜ ColumnBoundedPost (contentBy kind (now (c .entry))) i r ⌝ }
 {
     let b = four_in(c, BOUNDS_AT + 4 * i);
-    if b < 2147483648 {
+    if b < MOST_BOUND {
         if kind == base_syntax::KIND_COLUMNS {
             return sums_within(c, i, b);
         }
         return column_within(c, i, b);
     }
-    b == 2147483648
+    b == MOST_BOUND
 }
 
 // "43, a bound over 2^31 or a cell beyond its column's"
@@ -385,7 +392,7 @@ pub fn signed_of(n: usize) -> i64
     requires { ⌜ n < 2 ^ 32 ⌝ }
     ensures { λ z. ⌜ (z ≡ signed n) × (natAbs z ≤ 2 ^ 31) ⌝ }
 {
-    ((n + 2147483648) % 4294967296) as i64 - 2147483648
+    ((n + MOST_BOUND) % CELLS) as i64 - MOST_MAGNITUDE
 }
 
 // Whether w describes a table by columns.

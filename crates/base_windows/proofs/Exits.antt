@@ -12,8 +12,8 @@ use Rattle.spec_calendar.specs.Hours.{Window, Calendar, calendarOf, holds, inWi
 use Rattle.spec_encoding.specs.Record.{Bytes, byte}
 use Rattle.spec_hours.specs.CalendarBytes.{windowAt, windowsFrom, windowsOf, calendarsOf}
 use Rattle.base_calendars.specs.Contract.{Stands, FindPost}
-use Rattle.base_calendars.specs.declared.Lent.{Lent}
-use Rattle.base_calendars.specs.declared.Lent.the-variants.{Content, Missing}
+use Rattle.base_calendars.specs.declared.LentCalendar.{LentCalendar}
+use Rattle.base_calendars.specs.declared.LentCalendar.the-variants.{Content, Missing}
 use Rattle.base_calendars.proofs.Windows.{windows-next}
 use Rattle.base_calendars.proofs.Finding.{found, not-found}
 use Rattle.base_hours.proofs.Exits.{leftFrom, all-windows, no-windows}
@@ -61,7 +61,7 @@ module _ (c : Bytes) (a : ℕ) (s₀ : List ℕ) where
       sym (L .rest ∙ ap (λ (d : Calendar). laidFrom (a + 1 + k) d s) (no-windows c n k h)) ∙ ap (laidFrom (a + 1) (windowsOf c)) (p ∙ ap (set r a) (counted c e))
 
 -- ---- keep_one
-module _ {l : Bytes} {k : ℕ} {r : Lent} (F : FindPost l k r) (s : List ℕ) where
+module _ {l : Bytes} {k : ℕ} {r : LentCalendar} (F : FindPost l k r) (s : List ℕ) where
   pub keep-found : {a b : ℕ} → r ≡ Content a b → {t : List ℕ} → let c = windowsOf (take (b - a) (drop a l)) in
       t ≡ laidFrom (countAt k + 1) c (set s (countAt k) (length c)) → t ≡ laid k (calendarOf (calendarsOf l) k) s
   keep-found e q = q ∙ ap (λ (c : Calendar). laid k c s) (sym (found F e .windows))

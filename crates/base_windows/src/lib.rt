@@ -7,7 +7,7 @@ ghost use Rattle.spec_hours.specs.CalendarBytes.{windowsOf, calendarsOf};
 ghost use Rattle.base_calendars.specs.Contract.{windowIn};
 ghost use Rattle.base_windows.specs.KeptCalendars.{packed, windowOf, calendarIn, laidFrom, laid, keptIn};
 use base_calendars::DAY_MINUTES;
-use base_calendars::Lent;
+use base_calendars::LentCalendar;
 use base_calendars::Window;
 use base_calendars::find;
 use base_calendars::read_window;
@@ -72,8 +72,8 @@ fn keep_one(s: &mut [u64], calendars: &[u8], n: usize)
 {
     let a = CALENDARS + CALENDAR_WORDS * n;
     match find(calendars, n as u64) {
-        Lent::Content(from, next) => lay(s, a, &calendars[from..next]),
-        Lent::Missing => store(s, a, 0),
+        LentCalendar::Content(from, next) => lay(s, a, &calendars[from..next]),
+        LentCalendar::Missing => store(s, a, 0),
     }
 }
 

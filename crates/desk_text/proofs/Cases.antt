@@ -32,7 +32,7 @@ use Rattle.spec_desk.specs.Desk as Desk
 
 -- all the definitions that the cases compute with
 unfoldable definitions : Unit {0}
-unfolding Lists.bindL Lists.guard Lists.pick Lists.upd Value.count Value.asInt Value.asBool Value.elems Value.nth Value.fieldOf Value.eqZ Value.binV Value.notV Value.kindOf Value.columnsOf Value.isThere Value.boundOf Value.rowsOf Order.then Order.compareZ Order.compareB Order.compareV Order.leV Order.insert Order.put Monoid.start Monoid.greater Monoid.against Monoid.step Monoid.total Monoid.finish Monoid.foldBy Monoid.ordered Monoid.canonical Monoid.raw Meaning.eval Meaning.meaning Record.andThen Record.require Record.signed Record.isWhole Data.boundsFrom Data.cells Data.rowsFrom Data.fits Data.tableOf Data.tableBy Data.boundsFit Data.cellsWithin Data.rowsWithin Data.bounded Data.tablesFrom Data.readData Reader.noMore Reader.asTerm Reader.oneTerm Reader.filled Reader.terms Reader.inFront Reader.onPart Reader.parts Reader.comprehends Reader.named Reader.content Reader.atRecord Reader.readPart Reader.readQuestion Lending.lendOp Lending.lendT Lending.lend CalendarBytes.calendarsFit CalendarBytes.calendarsFrom CalendarBytes.calendarsOf CalendarBytes.readCalendars Calendars.lentOp Calendars.lentT Calendars.calendarsLent Scope.inScope Scope.binders Scope.member Scope.distinct Scope.namesHold Types.cells Types.typeAt Types.fieldType Types.ofNumber Types.ofTruth Types.binType Types.gathers Types.compType Types.ranges Types.typedAs Types.record″ Types.allTyped Types.ofOne Types.appType Types.consType Types.typeOf Types.mayStand Types.isTyped Types.typesFit Types.generatorsFit Form._⊕_ Form.gens Form.value Form.normalValue Normal.quote Normal.idempotent Normal.givesWay Normal.condition Normal.ranges Normal.nth Normal.part Normal.binary Normal.before Normal.norm Normal.normal Size.nodes Size.sizeFits Bound.ownGens Bound.binBound Bound.compBound Bound.bound Bound.within Bound.tablesOf Bound.declared Bound.numbersFit Planner.free Planner.mentions Planner.next Planner.term Planner.nextL Planner.termL Planner.joined Planner.conj Planner.source Planner.gensOf Planner.condsOf Planner.orUnit Planner.planGens Planner.sift Planner.early Planner.late Planner.slot Planner.slots Planner.after Planner.mentioned Planner.lastOf Planner.home Planner.growsAt Planner.grows Planner.ops Planner.planOf Lines.ascii Lines.digits Lines.decimal Lines.signedDecimal Lines.monoidName Lines.binName Lines.truthName Lines.showTerm Lines.showSource Lines.showLast Lines.showOp Lines.showOps Lines.lines Written.truthWord Written.words Accepted.judge Accepted.readLent Accepted.examine Outcome.settled Outcome.withScratch Outcome.G Outcome.written Outcome.answered Outcome.checked Outcome.byLoops Outcome.byPlan Outcome.printed Outcome.planLines Split.tableBytes Split.tablesEnd Desk.spaced Desk.answerLine Desk.refusalLine Desk.planAndAnswer Desk.orRefusal Desk.asked Desk.desk
+unfolding Lists.bindL Lists.guard Lists.pick Lists.upd Value.count Value.asInt Value.asBool Value.elems Value.nth Value.fieldOf Value.eqZ Value.binV Value.notV Value.kindOf Value.columnsOf Value.isThere Value.boundOf Value.rowsOf Order.then Order.compareZ Order.compareB Order.compareV Order.leV Order.insert Order.put Monoid.start Monoid.greater Monoid.against Monoid.step Monoid.total Monoid.finish Monoid.foldBy Monoid.ordered Monoid.canonical Monoid.raw Meaning.eval Meaning.meaning Record.andThen Record.require Record.signed Record.isWhole Data.boundsFrom Data.cells Data.rowsFrom Data.fits Data.tableOf Data.tableBy Data.boundsFit Data.cellsWithin Data.rowsWithin Data.bounded Data.tablesFrom Data.readData Reader.noMore Reader.asTerm Reader.oneTerm Reader.filled Reader.terms Reader.inFront Reader.onPart Reader.parts Reader.comprehends Reader.named Reader.content Reader.atRecord Reader.readPart Reader.readQuestion Lending.lendOp Lending.lendT Lending.lend CalendarBytes.calendarsFit CalendarBytes.calendarsFrom CalendarBytes.calendarsOf CalendarBytes.readCalendars Calendars.namedLentOp Calendars.namedLentT Calendars.calendarsLent Scope.inScope Scope.binders Scope.member Scope.distinct Scope.namesHold Types.cells Types.typeAt Types.fieldType Types.ofNumber Types.ofTruth Types.binType Types.gathers Types.compType Types.ranges Types.typedAs Types.record″ Types.allTyped Types.ofOne Types.appType Types.consType Types.typeOf Types.mayStand Types.isTyped Types.typesFit Types.generatorsFit Form._⊕_ Form.gens Form.value Form.normalValue Normal.quote Normal.idempotent Normal.givesWay Normal.condition Normal.ranges Normal.nth Normal.part Normal.binary Normal.before Normal.norm Normal.normal Size.nodes Size.sizeFits Bound.ownGens Bound.binBound Bound.compBound Bound.bound Bound.within Bound.tablesOf Bound.declared Bound.numbersFit Planner.free Planner.mentions Planner.next Planner.term Planner.nextL Planner.termL Planner.joined Planner.conj Planner.source Planner.gensOf Planner.condsOf Planner.orUnit Planner.planGens Planner.sift Planner.early Planner.late Planner.slot Planner.slots Planner.after Planner.mentioned Planner.lastOf Planner.home Planner.growsAt Planner.grows Planner.ops Planner.planOf Lines.ascii Lines.digits Lines.decimal Lines.signedDecimal Lines.monoidName Lines.binName Lines.truthName Lines.showTerm Lines.showSource Lines.showLast Lines.showOp Lines.showOps Lines.lines Written.truthWord Written.words Accepted.judge Accepted.readLent Accepted.examine Outcome.settled Outcome.withScratch Outcome.G Outcome.written Outcome.answered Outcome.checked Outcome.byLoops Outcome.byPlan Outcome.printed Outcome.planLines Split.tableBytes Split.tablesEnd Desk.spaced Desk.answerLine Desk.refusalLine Desk.planAndAnswer Desk.orRefusal Desk.asked Desk.desk
 definitions = tt
 
 -- the berths (table 0), the bollards (table 1), the question

@@ -10,12 +10,12 @@ use lib.Dec.{ltb, leb, eqb}
 use lib.ListN.{length, take, drop, length-append}
 use lib.Seq.{length-take-le, getD-take, take-add, drop-at}
 use Rattle.base_signed.proofs.SignedWords.{by-test}
-use Rattle.spec_calculus.specs.Value.{Tables, isThere}
+use Rattle.spec_calculus.specs.Value.{Tables, isThere, noTables}
 use Rattle.spec_calculus.proofs.Lists.{All}
 use Rattle.spec_encoding.specs.Record.{Bytes, Result, refused, got, require, lengthOf, kindOf, contentOf, behind}
-use Rattle.spec_encoding.specs.Data.{isKind, isTable, fits, tableNumber, tableBy, bounded, tablesFrom, noTables, readData}
+use Rattle.spec_encoding.specs.Data.{isKind, isTable, fits, tableNumber, tableBy, bounded, tablesFrom, readData}
 use Rattle.spec_encoding.proofs.Refusals.{Only, only-then, only-require}
-use Rattle.base_tables.proofs.DataRecords.{Whole, whole, whole-is, tables-one, tables-none}
+use Rattle.base_tables.proofs.DataRecords.{TableRecord, whole, whole-is, tables-one, tables-none}
 use Rattle.spec_hours.specs.CalendarBytes.{calendarsFit, readCalendars}
 use Rattle.spec_outcome.specs.Acceptance.{examine}
 use Rattle.spec_outcome.specs.Outcome.{Outcome, Answer, scratchWords, settled, withScratch, checked}
@@ -26,7 +26,7 @@ use Rattle.spec_desk.specs.TablesEnd.{tablesEnd}
 use Rattle.desk_text.proofs.TablesEnd.{end-more, end-none}
 
 -- ---- a table record at the front, and k bytes behind it
-module _ (l : Bytes) (w : Whole l) (k : ℕ) where
+module _ (l : Bytes) (w : TableRecord l) (k : ℕ) where
   abbrev kept : Bytes
   kept = take (4 + lengthOf l + k) l
 
@@ -39,7 +39,7 @@ module _ (l : Bytes) (w : Whole l) (k : ℕ) where
   long : length (take (4 + lengthOf l) l) ≡ 4 + lengthOf l
   long = length-take-le (4 + lengthOf l) l (w .within)
 
-  kept-whole : Whole kept
+  kept-whole : TableRecord kept
   kept-whole = record {
     within = omega (arith, same-length, long, ap length (take-add (4 + lengthOf l) k l), length-append (take (4 + lengthOf l) l) (take k (behind l)));
     kind = ap isKind same-kind ∙ w .kind;
@@ -60,7 +60,7 @@ module _ (P : ℕ → Type 0) (p12 : P 12) (p13 : P 13) (p43 : P 43) (p50 : P 50
   ninth T [] = tt
   ninth T (b ∷ l) = p13
 
-  one-more : (n : ℕ) (T : Tables) (l : Bytes) → Whole l → ((U : Tables) → Only P (tablesFrom n U (behind l))) → Only P (tablesFrom (suc n) T l)
+  one-more : (n : ℕ) (T : Tables) (l : Bytes) → TableRecord l → ((U : Tables) → Only P (tablesFrom n U (behind l))) → Only P (tablesFrom (suc n) T l)
   one-more n T l w h =
       let c = contentOf l in
       subst (Only P) (sym (tables-one n T l (omega (arith, w .within))))

@@ -12,14 +12,14 @@ use Rattle.spec_outcome.specs.Acceptance.{Lent, Accepted, examine}
 use Rattle.spec_outcome.specs.Outcome.{Outcome, Answer, scratchWords, cleared, withScratch, written, answered, checked, printed, planLines}
 use Rattle.spec_outcome.proofs.Agreement.{scratch-short, scratch-long}
 use Rattle.spec_outcome.specs.Gives.{Gives, Settles, Spares}
-use Rattle.form_prepared.specs.AnswerContract.{Asked, numberOf, lengthOf}
+use Rattle.form_prepared.specs.AnswerContract.{Asked, answerNumber, answerLength}
 use Rattle.form_prepared.specs.AnswerContract as An
 use Rattle.form_prepared.specs.declared.Answer.{Answer as Ended}
 use Rattle.form_prepared.proofs.SettledOutcome.{settles-refused, settles-got}
 use Rattle.plan_lines.specs.PlanCall.{PlanLinesPost}
 use Rattle.plan_lines.specs.PlanCall as Pr
 use Rattle.plan_lines.specs.declared.Printed.{Printed}
-use Rattle.front_end.specs.LoadedQuestion.{Apart}
+use Rattle.front_end.specs.LoadedQuestion.{BehindKept}
 use Rattle.front_end.specs.PrepareContract.{Accepts, PreparePost}
 use Rattle.front_end.specs.declared.Checked.the-variants as Checked
 use Rattle.exec_portions.proofs.PortionStep.{spares-then}
@@ -32,7 +32,7 @@ use Rattle.engine.specs.declared.Reply.{Reply}
 pub spares-all : (s : List ℕ) → Spares scratchWords s s
 spares-all s = record { long = refl; above = λ j h. refl }
 
-pub apart-spares : {s t : List ℕ} → Apart s t → Spares scratchWords s t
+pub apart-spares : {s t : List ℕ} → BehindKept s t → Spares scratchWords s t
 apart-spares A = record { long = A .long; above = λ j h. A .above j (omega arith) }
 
 pub cleared-same : {s t : List ℕ} → Spares scratchWords s t → cleared scratchWords t ≡ cleared scratchWords s
@@ -126,13 +126,13 @@ module _ {d : Bytes} {l : Lent} {s t : List ℕ} {x : Admitted} (B : AdmitPost d
     unfolding answered
     answer-refused e R = refused-by (written value b) b e R
 
-    pub room-answered : x ≡ Admitted.Accepted → {b′ : List ℤ} {u : List ℕ} {y : Ended} → An.Answers value d t b u b′ y → scratchWords ≤ length u
+    pub room-answered : x ≡ Admitted.Accepted → {b′ : List ℤ} {u : List ℕ} {y : Ended} → An.AnswerPost value d t b u b′ y → scratchWords ≤ length u
     room-answered e A = omega (arith, room-accepted e, A .long)
 
-    pub answer-given : x ≡ Admitted.Accepted → {b′ : List ℤ} {u v : List ℕ} {y z : Ended} {r : Reply} → An.Answers value d t b u b′ y → y ≡ z → Replies u v (numberOf z) (lengthOf z) r → Gives (answered scratchWords value d l s b) (r .number) (r .length) b′ v
+    pub answer-given : x ≡ Admitted.Accepted → {b′ : List ℤ} {u v : List ℕ} {y z : Ended} {r : Reply} → An.AnswerPost value d t b u b′ y → y ≡ z → Replies u v (answerNumber z) (answerLength z) r → Gives (answered scratchWords value d l s b) (r .number) (r .length) b′ v
     unfolding answered
     answer-given e {b′} {u} A₀ q R =
-        let A = subst (An.Answers value d t b u b′) q A₀ in
+        let A = subst (An.AnswerPost value d t b u b′) q A₀ in
         settled-by (written value b) b e (record { long = A .long; above = λ j h. A .above j (omega arith) })
         (λ Y. A .is l (Y .accepted) (Y .read) (Y .prepared)) R
 
@@ -146,7 +146,7 @@ module _ {d : Bytes} {l : Lent} {s t : List ℕ} {x : Admitted} (B : AdmitPost d
     unfolding planLines
     lines-refused e R = refused-by (printed b) b e R
 
-    pub lines-given : x ≡ Admitted.Accepted → {b′ : List ℕ} {u v : List ℕ} {y z : Printed} {r : Reply} → length u ≡ length t → PlanLinesPost t b u b′ y → y ≡ z → Replies u v (Pr.numberOf z) (Pr.lengthOf z) r → Gives (planLines d l s b) (r .number) (r .length) b′ v
+    pub lines-given : x ≡ Admitted.Accepted → {b′ : List ℕ} {u v : List ℕ} {y z : Printed} {r : Reply} → length u ≡ length t → PlanLinesPost t b u b′ y → y ≡ z → Replies u v (Pr.printedNumber z) (Pr.printedLength z) r → Gives (planLines d l s b) (r .number) (r .length) b′ v
     unfolding planLines
     lines-given e {b′} {u} m A₀ q R =
         let A = subst (PlanLinesPost t b u b′) q A₀ in

@@ -62,7 +62,7 @@ given (c ∷ cs) = counted (c .rows) + given cs
 -- Those before the last offer fewer rows than are due, and each says that it is unfinished and offered what it was given; the last
 -- offers the rest, and says so, with number and length of the outcome; for those behind it no question is unfinished. A portion of 0 or
 -- above 65,535 is refused, wherever it stands. Buffer and scratch are the outcome's in the end.
-pub record Whole (due : ℕ) (cs : List Call) (x : Outcome ℤ) (s′ : List ℕ) (o′ : List ℤ) : Type 0 where
+pub record EndsAsOne (due : ℕ) (cs : List Call) (x : Outcome ℤ) (s′ : List ℕ) (o′ : List ℤ) : Type 0 where
   pub before : List Call
   pub last : Call
   pub after : List Call
@@ -154,7 +154,7 @@ fewer-given : (due n m : ℕ) → n < due → (0 < m → m < due - n) → n + m 
 fewer-given due n m l h = by-test (ltb 0 m) (λ e. omega (arith, l, h (ltb-true 0 m e))) (λ e. omega (arith, l, ltb-false 0 m e))
 
 -- one that is refused
-ends-past : (c : Call) (cs : List Call) {due : ℕ} {x : Outcome ℤ} {s′ : List ℕ} {o′ : List ℤ} → outside (c .rows) ≡ true → Says (c .said) 0 0 47 0 → Whole due cs x s′ o′ → Whole due (c ∷ cs) x s′ o′
+ends-past : (c : Call) (cs : List Call) {due : ℕ} {x : Outcome ℤ} {s′ : List ℕ} {o′ : List ℤ} → outside (c .rows) ≡ true → Says (c .said) 0 0 47 0 → EndsAsOne due cs x s′ o′ → EndsAsOne due (c ∷ cs) x s′ o′
 unfolding pick
 ends-past c cs h Y W =
     let g : given (c ∷ W .before) ≡ given (W .before) = given-none c (W .before) h in
@@ -185,7 +185,7 @@ module _ (d : Bytes) (q : Pending) where
 
   module _ (c : Call) (cs : List Call) {s t s′ : List ℕ} {o p o′ : List ℤ} {R : Run} (U : Unfinished d q s o R) where
     -- the last
-    ends-here : outside (c .rows) ≡ false → Due R ≤ c .rows → Ended scratchWords d q R s t p (c .said) → Portions scratchWords d cs t p s′ o′ → Whole (Due R) (c ∷ cs) (Result′ s) s′ o′
+    ends-here : outside (c .rows) ≡ false → Due R ≤ c .rows → Ended scratchWords d q R s t p (c .said) → Portions scratchWords d cs t p s′ o′ → EndsAsOne (Due R) (c ∷ cs) (Result′ s) s′ o′
     unfolding given byPlan
     ends-here sized h E P =
         let z : t ≡ cleared scratchWords s = E .gives .scratch ∙ outcome-scratch d (q .asked) s (q .lent) (long-unfinished U) in
@@ -206,7 +206,7 @@ module _ (d : Bytes) (q : Pending) where
         }
 
     -- one before the last
-    ends-later : outside (c .rows) ≡ false → c .rows < Due R → Unended scratchWords d (c .rows) q R s t p (c .said) → Whole (Due R - c .rows) cs (Result′ t) s′ o′ → Whole (Due R) (c ∷ cs) (Result′ s) s′ o′
+    ends-later : outside (c .rows) ≡ false → c .rows < Due R → Unended scratchWords d (c .rows) q R s t p (c .said) → EndsAsOne (Due R - c .rows) cs (Result′ t) s′ o′ → EndsAsOne (Due R) (c ∷ cs) (Result′ s) s′ o′
     unfolding pick
     ends-later sized h Y W =
         let e : Result′ t ≡ Result′ s = same-outcome d (q .asked) (q .lent) (long-unfinished U) (Y .spares) in
@@ -231,20 +231,20 @@ module _ (d : Bytes) (q : Pending) where
           scratch = W .scratch ∙ ap (λ (y : Outcome ℤ). y .scratch) e;
         }
 
-  ends : (cs : List Call) {s s′ : List ℕ} {o o′ : List ℤ} {R : Run} → Unfinished d q s o R → Due R ≤ given cs → 0 < given cs → Portions scratchWords d cs s o s′ o′ → Whole (Due R) cs (Result′ s) s′ o′
+  ends : (cs : List Call) {s s′ : List ℕ} {o o′ : List ℤ} {R : Run} → Unfinished d q s o R → Due R ≤ given cs → 0 < given cs → Portions scratchWords d cs s o s′ o′ → EndsAsOne (Due R) cs (Result′ s) s′ o′
   ends [] U e l P = unfold given in absurd (omega (arith, l))
   ends (c ∷ cs) {s} {s′} {o} {o′} {R} U e l (t, (p, (F, P))) = sorted (outside (c .rows)) refl (λ m n N. ends cs U m n N) (λ Y m n. ends cs Y m n P)
     where
-      go : outside (c .rows) ≡ false → (b : Bool) → leb (Due R) (c .rows) ≡ b → (Unfinished d q t p (Next (c .rows) R) → Due (Next (c .rows) R) ≤ given cs → 0 < given cs → Whole (Due (Next (c .rows) R)) cs (Result′ t) s′ o′) → Whole (Due R) (c ∷ cs) (Result′ s) s′ o′
+      go : outside (c .rows) ≡ false → (b : Bool) → leb (Due R) (c .rows) ≡ b → (Unfinished d q t p (Next (c .rows) R) → Due (Next (c .rows) R) ≤ given cs → 0 < given cs → EndsAsOne (Due (Next (c .rows) R)) cs (Result′ t) s′ o′) → EndsAsOne (Due R) (c ∷ cs) (Result′ s) s′ o′
       go h true k f = let m = leb-true (Due R) (c .rows) k in ends-here c cs U h m (F .ended (unrefused U (c .rows) h) q R U m) P
       go h false k f =
           let m = leb-false (Due R) (c .rows) k in
           let Y = F .unended (unrefused U (c .rows) h) q R U m in
           let z : Due (Next (c .rows) R) ≡ Due R - c .rows = portion-due (task d q) (c .rows) R (unfinished-live U) in
           let g : given (c ∷ cs) ≡ c .rows + given cs = given-some c cs h in
-          ends-later c cs U h m Y (subst (λ (n : ℕ). Whole n cs (Result′ t) s′ o′) z (f (Y .unfinished) (omega (arith, z, e, g)) (omega (arith, z, e, m, g))))
+          ends-later c cs U h m Y (subst (λ (n : ℕ). EndsAsOne n cs (Result′ t) s′ o′) z (f (Y .unfinished) (omega (arith, z, e, g)) (omega (arith, z, e, m, g))))
 
-      sorted : (b : Bool) → outside (c .rows) ≡ b → (Due R ≤ given cs → 0 < given cs → Portions scratchWords d cs s o s′ o′ → Whole (Due R) cs (Result′ s) s′ o′) → (Unfinished d q t p (Next (c .rows) R) → Due (Next (c .rows) R) ≤ given cs → 0 < given cs → Whole (Due (Next (c .rows) R)) cs (Result′ t) s′ o′) → Whole (Due R) (c ∷ cs) (Result′ s) s′ o′
+      sorted : (b : Bool) → outside (c .rows) ≡ b → (Due R ≤ given cs → 0 < given cs → Portions scratchWords d cs s o s′ o′ → EndsAsOne (Due R) cs (Result′ s) s′ o′) → (Unfinished d q t p (Next (c .rows) R) → Due (Next (c .rows) R) ≤ given cs → 0 < given cs → EndsAsOne (Due (Next (c .rows) R)) cs (Result′ t) s′ o′) → EndsAsOne (Due R) (c ∷ cs) (Result′ s) s′ o′
       sorted true h f k =
           let r : refusal scratchWords (c .rows) s ≡ 47 = outside-refused scratchWords (c .rows) s h in
           let N = F .refused (λ y. omega (arith, r, y)) in
@@ -305,7 +305,7 @@ module _ (least : ℕ) (d : Bytes) (l : Lent) (s : List ℕ) (e : checkedWith le
 pub record InPortions (d : Bytes) (l : Lent) (s₀ : List ℕ) (lent : List ℤ) (cs : List Call) (s′ : List ℕ) (o′ : List ℤ) : Type 0 where
   pub accepted : Accepted
   pub is : examine d l ≡ got accepted
-  pub whole : rowsInAll accepted lent ≤ given cs → Whole (rowsInAll accepted lent) cs (byPlan d l s₀ lent) s′ o′
+  pub whole : rowsInAll accepted lent ≤ given cs → EndsAsOne (rowsInAll accepted lent) cs (byPlan d l s₀ lent) s′ o′
 
 pub in-portions : (d : Bytes) (l : Lent) {s₀ s : List ℕ} {b : Reply} → BeginPost scratchWords d l s₀ s b → b .number ≡ 0 → (lent : List ℤ) → length lent < numberLimit → (cs : List Call) → 0 < given cs → {s′ : List ℕ} {o′ : List ℤ} → Portions scratchWords d cs s lent s′ o′
     → InPortions d l s₀ lent cs s′ o′
@@ -319,8 +319,8 @@ in-portions d l {s₀} {s} {b} B z lent short cs some {s′} {o′} P =
       accepted = A .0;
       is = A .1;
       whole = λ m.
-          subst (λ (x : Outcome ℤ). Whole (rowsInAll (A .0) lent) cs x s′ o′) (same-outcome d l lent (long-begun scratchWords d l s₀ n) (B .spares z))
-          (subst (λ (k : ℕ). Whole k cs (byPlan d l s lent) s′ o′) e (ends d q cs U (omega (arith, e, m)) some P));
+          subst (λ (x : Outcome ℤ). EndsAsOne (rowsInAll (A .0) lent) cs x s′ o′) (same-outcome d l lent (long-begun scratchWords d l s₀ n) (B .spares z))
+          (subst (λ (k : ℕ). EndsAsOne k cs (byPlan d l s lent) s′ o′) e (ends d q cs U (omega (arith, e, m)) some P));
     }
 
 -- ---- several questions, each at a seat with its own scratch and buffer, over the same tables

@@ -20,7 +20,7 @@ use Rattle.engine.specs.Portions.{outside, BeginPost}
 use Rattle.engine.specs.Rota.{Seat, SeatPost}
 use Rattle.engine.specs.declared.Reply.{Reply}
 use Rattle.engine.specs.declared.Portioned.{Portioned}
-use Rattle.engine.proofs.Portions.{Call, Portions, counted, given, Whole, InPortions, in-portions}
+use Rattle.engine.proofs.Portions.{Call, Portions, counted, given, EndsAsOne, InPortions, in-portions}
 
 times : (k q : ℕ) → suc k * q ≡ k * q + q
 times k q = omega arith
@@ -86,7 +86,7 @@ module _ (qs : List ℕ) (i : ℕ) (f : rotaFits qs ≡ true) (l : i < length qs
     pub fewer : 2 ≤ rounds → (rounds - 1) * quota < n
     pub enough : n ≤ rounds * quota
 
-  pub ends-within : (rs : List Portioned) {n : ℕ} {x : Outcome ℤ} {s : List ℕ} {o : List ℤ} (W : Whole n (calls rs) x s o) → Within n (suc (length (W .before)))
+  pub ends-within : (rs : List Portioned) {n : ℕ} {x : Outcome ℤ} {s : List ℕ} {o : List ℤ} (W : EndsAsOne n (calls rs) x s o) → Within n (suc (length (W .before)))
   ends-within rs {n} W = record {
     some = omega arith;
     fewer = λ h. subst (λ k. k < n) (given-quota (W .before) quotas ∙ ap (λ k. k * quota) (less (length (W .before)))) (W .fewer (subst (λ k. 0 < k) (sym (given-quota (W .before) quotas)) (positive (length (W .before)) quota (omega (arith, h)) (quota-within qs i f l .0))));
@@ -103,7 +103,7 @@ module _ (qs : List ℕ) (i : ℕ) (f : rotaFits qs ≡ true) (l : i < length qs
       less k = omega arith
 
   -- A question that was begun at this seat, and rounds of which there are enough for its rows: it is told unfinished with its quota in
-  -- each round before the last, and ends in the last of them as a single call does (`Whole`); `ends-within` has which round that is.
+  -- each round before the last, and ends in the last of them as a single call does (`EndsAsOne`); `ends-within` has which round that is.
   pub seat-ends : (d : Bytes) (m : Lent) {s₀ s : List ℕ} {b : Reply} → BeginPost scratchWords d m s₀ s b → b .number ≡ 0 → (lent : List ℤ) → length lent < numberLimit → (rs : List Portioned) → 1 ≤ length rs → (y : Seat)
       → Visits d qs i rs (record { scratch = s; answer = lent }) y → InPortions d m s₀ lent (calls rs) (y .scratch) (y .answer)
   seat-ends d m {s₀} {s} B z lent short rs h y N =

@@ -39,7 +39,7 @@ use Rattle.exec_terms.proofs.PartsBefore.{PartAt, PartAtF, parts-within}
 use Rattle.exec_terms.proofs.PartsSettled.{Between, add-parts, into-parts}
 use Rattle.exec_simulation.specs.RowReads.{headAt}
 use Rattle.exec_simulation.specs.PathPlaces.{behindFirst, spotsAt, backAt}
-use Rattle.exec_simulation.specs.SimulationRelation.{Question}
+use Rattle.exec_simulation.specs.SimulationRelation.{LinkedPlan}
 use Rattle.exec_simulation.proofs.PathWords.{as-loop, as-end, as-inner, wired-at}
 use Rattle.exec_initial.specs.WrittenHeads.{Collected, headForm, Later, LaterOf, Based, basis}
 use Rattle.exec_initial.proofs.TopComprehensions.{part-top, parts-top, top-range, tops-range}
@@ -163,7 +163,7 @@ module _ (s : List ℕ) where
       term-based (asForm f) 0 0 (behind (f .clauses) 0) (λ g. 0) (end 0) L w (λ g. omega arith) (omega (arith, n)) own own .1 .0
 
 -- ---- along a path
-module _ {d : Bytes} (Q : Question d) (s : List ℕ) (B : Based s 0 0 (Q .spots)) where
+module _ {d : Bytes} (Q : LinkedPlan d) (s : List ℕ) (B : Based s 0 0 (Q .spots)) where
   abbrev sp : Spots
   sp = Q .spots
 

@@ -25,7 +25,7 @@ slot-part zero n e = no (sym e)
 slot-part (suc k) n e = ap suc (sym (eqb-true n k (sym (or-false (eqb n k)) ∙ e)))
 
 -- the part with mark n + 1
-pub record Found (s : List ℕ) (n : ℕ) (A B : ℕ → Type 0) : Type 0 where
+pub record MarkedPart (s : List ℕ) (n : ℕ) (A B : ℕ → Type 0) : Type 0 where
   pub node : ℕ
   pub part : A node
   pub top : B node
@@ -35,7 +35,7 @@ module _ (s : List ℕ) (c : ℕ → ℕ) (n : ℕ) (low : (g : ℕ) → c g ≤
   mutual
     unfolding P.term parts among isPlace
 
-    pub found : (t : Form) (i k : ℕ) → Marked s i t c k → among n (parts (P.term t (slotsBy c) k)) ≡ true → Found s n (PartAt i t) (TopAt i t)
+    pub found : (t : Form) (i k : ℕ) → Marked s i t c k → among n (parts (P.term t (slotsBy c) k)) ≡ true → MarkedPart s n (PartAt i t) (TopAt i t)
     found (num z) i k w e = no (sym e)
     found (truth z) i k w e = no (sym e)
     found (row g) i k w e = absurd (omega (arith, low g, slot-part (c g) n e))
@@ -46,7 +46,7 @@ module _ (s : List ℕ) (c : ℕ → ℕ) (n : ℕ) (low : (g : ℕ) → c g ≤
     found (negate t) i k w e = no (sym e)
     found (comp m q u) i k w e = record { node = i; part = refl; top = refl; mark = w .0 ∙ ap suc (sym (eqb-true n k (sym (or-false (eqb n k)) ∙ e))) }
 
-    founds : (ts : Forms) (i k : ℕ) → MarkedF s i ts c k → among n (partsL (P.terms ts (slotsBy c) k)) ≡ true → Found s n (PartAtF i ts) (TopAtF i ts)
+    founds : (ts : Forms) (i k : ℕ) → MarkedF s i ts c k → among n (partsL (P.terms ts (slotsBy c) k)) ≡ true → MarkedPart s n (PartAtF i ts) (TopAtF i ts)
     founds fnil i k w e = no (sym e)
     founds (fcons t ts) i k w e =
         let first = parts (P.term t (slotsBy c) k) in

@@ -37,8 +37,8 @@ use Rattle.exec_terms.proofs.FormAgreement.{tree-is, agrees-on, agrees-clauses}
 use Rattle.exec_terms.proofs.PartsPre.{agrees-upto}
 use Rattle.exec_simulation.specs.PathPlaces.{inside, loopNode, spotsAt}
 use Rattle.exec_simulation.specs.RowReads.{headAt, LoopReads, EndReads}
-use Rattle.exec_simulation.specs.AccumulatorRoom.{takesOf, Room}
-use Rattle.exec_simulation.specs.SimulationRelation.{Question, Stands}
+use Rattle.exec_simulation.specs.AccumulatorRoom.{takesOf, AccumulatorRoom}
+use Rattle.exec_simulation.specs.SimulationRelation.{LinkedPlan, Stands}
 use Rattle.exec_simulation.specs.WiredProgram.{Id}
 use Rattle.exec_simulation.proofs.PathWords.{comp-node}
 use Rattle.exec_simulation.proofs.OperatorWrites.{declared-kept}
@@ -86,7 +86,7 @@ module _ (d : Bytes) (p : Spots) (b s : List ℕ) (same : (i : ℕ) → wordAt s
       (agrees-named-upto d p b s same w F r H (A .head) e (headOf A) (A .lies .1 .1 .1) n (head-fits (collects (A .monoid)) (A .head) (A .fitting)) h) (omega arith) l)
 
 -- ---- along a path
-module _ {d : Bytes} (Q : Question d) (small : (π : Path) (x : Program) → Valid (Q .program) π x → Smalls (planDeclared d (Q .base)) (Q .base) (compOf (spotsAt (Q .spots) π))) (filled : Fills (Q .base) [] (Q .spots))
+module _ {d : Bytes} (Q : LinkedPlan d) (small : (π : Path) (x : Program) → Valid (Q .program) π x → Smalls (planDeclared d (Q .base)) (Q .base) (compOf (spotsAt (Q .spots) π))) (filled : Fills (Q .base) [] (Q .spots))
     (own : (π : Path) (i p : Program) → Valid (Q .program) π (Pr.inner i p)
     → mergeBound (endOf i .monoid) (takesOf (tablesIn d) i) (Q .bound (pos π + before i)) ≤ wordBound (planDeclared d (Q .base)) (sortOf (endOf i .monoid)) (formTree fuel (Q .base) (compOf (inside (spotsAt (Q .spots) π)))))
     (s : List ℕ) (w : Words) (r : Spans) where
@@ -100,7 +100,7 @@ module _ {d : Bytes} (Q : Question d) (small : (π : Path) (x : Program) → Val
   rowAt π = row (tablesIn d) w π
 
   pub loops-read : (π : Path) (a : Source) (t : PTerm) (p : Program) (k : ℕ) → Valid (Q .program) π (Pr.loop a t p) → Begun w (loopP π a t p) → Stands Q s w r
-      → Room (tablesIn d) (Q .bound) (Q .program) w (loopP π a t p) k → LoopReads d s (rowAt (loopP π a t p)) (compOf (spotsAt sp π)) (loopNode (spotsAt sp π)) t
+      → AccumulatorRoom (tablesIn d) (Q .bound) (Q .program) w (loopP π a t p) k → LoopReads d s (rowAt (loopP π a t p)) (compOf (spotsAt sp π)) (loopNode (spotsAt sp π)) t
   loops-read π a t p k v g S R =
       let H = holding Q s w r S own (loopP π a t p) p k (refl, v) g R in
       let L = loop-filled-at Q filled π a t p v in
@@ -116,7 +116,7 @@ module _ {d : Bytes} (Q : Question d) (small : (π : Path) (x : Program) → Val
   head-small π x v S A = ap (λ (C : Declared). within C (A .head)) (declared-kept Q (S .kept)) ∙ sym (ap (within (planDeclared d b)) (ap (formTree fuel b) (head-place A) ∙ tree-is b (A .head) (headOf A) fuel (A .lies .1 .1 .1) (omega (arith, A .few)) (omega arith))) ∙ small π x v .head
 
   pub ends-read : (π : Path) (e : End) (k : ℕ) → wordBound (planDeclared d b) (sortOf (e .monoid)) (formTree fuel b (headAt b (compOf (spotsAt sp π)))) ≡ Q .bound (last (Q .program) π) → Valid (Q .program) π (Pr.end e) → Begun w π → Stands Q s w r
-      → Room (tablesIn d) (Q .bound) (Q .program) w π k → EndReads d s (rowAt π) (compOf (spotsAt sp π)) (Q .bound (last (Q .program) π)) e
+      → AccumulatorRoom (tablesIn d) (Q .bound) (Q .program) w π k → EndReads d s (rowAt π) (compOf (spotsAt sp π)) (Q .bound (last (Q .program) π)) e
   unfolding endOf
   ends-read π e k x v g S R =
       let H = holding Q s w r S own π (Pr.end e) k v g R in
@@ -126,7 +126,7 @@ module _ {d : Bytes} (Q : Question d) (small : (π : Path) (x : Program) → Val
 
   -- ---- what is written of a head
   -- all of it, when its collection takes a row
-  pub element-agrees : (π : Path) (e : End) (k : ℕ) → Valid (Q .program) π (Pr.end e) → Begun w π → Stands Q s w r → Room (tablesIn d) (Q .bound) (Q .program) w π k
+  pub element-agrees : (π : Path) (e : End) (k : ℕ) → Valid (Q .program) π (Pr.end e) → Begun w π → Stands Q s w r → AccumulatorRoom (tablesIn d) (Q .bound) (Q .program) w π k
       → AgreesP fuel d s (rowAt π) (headAt s (compOf (spotsAt sp π))) (next s (compOf (spotsAt sp π)))
   unfolding size
   element-agrees π e k v g S R =
@@ -137,7 +137,7 @@ module _ {d : Bytes} (Q : Question d) (small : (π : Path) (x : Program) → Val
       parts-agree d sp b s (S .kept .form) w (fillers sp π) (rowAt π) H A (next s c) (head-small π (Pr.end e) v S A) (upto-whole b (fillers sp π) (next s c) (A .head) (headOf A) (E .head)) (omega (arith, next-same s b (S .kept .form) c, A .past))
 
   -- that before an inner collection, when this is opened
-  pub opening-agrees : (π : Path) (i p : Program) (k : ℕ) → Valid (Q .program) π (Pr.inner i p) → writes (Q .program) (inP π i p) ≡ true → Begun w π → Stands Q s w r → Room (tablesIn d) (Q .bound) (Q .program) w π k
+  pub opening-agrees : (π : Path) (i p : Program) (k : ℕ) → Valid (Q .program) π (Pr.inner i p) → writes (Q .program) (inP π i p) ≡ true → Begun w π → Stands Q s w r → AccumulatorRoom (tablesIn d) (Q .bound) (Q .program) w π k
       → AgreesP fuel d s (rowAt π) (headAt s (compOf (spotsAt sp π))) (compOf (inside (spotsAt sp π)))
   unfolding spotsAt
   opening-agrees π i p k v z g S R =

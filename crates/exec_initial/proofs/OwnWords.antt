@@ -25,7 +25,7 @@ use Rattle.plan_links.proofs.DistinctSpots.{Distinct}
 use Rattle.plan_links.proofs.DistinctSpots as St
 use Rattle.plan_links.proofs.GeneratorRanks.{numbers-apart, numbers-within}
 use Rattle.exec_state.specs.StateWords.{cursorBy, cursorAt}
-use Rattle.exec_simulation.specs.WiredProgram.{Id, loopI, endI, ids, idAt, wordOf, Apart, Named}
+use Rattle.exec_simulation.specs.WiredProgram.{Id, loopI, endI, ids, idAt, wordOf, OwnWords, Named}
 use Rattle.form_env.specs.NamedTables.{tableOf}
 use Rattle.form_env.specs.NamedTables as Na
 use Rattle.form_env.proofs.BoundRows.{slot-in}
@@ -113,7 +113,7 @@ module _ (f : NormalForm) (s : List ℕ) (n : size (asForm f) ≤ formWords) (L 
   cursor-apart i j a b Cl.Head Cl.Head c e v = omega (arith, v)
 
   -- ---- all operators
-  module _ (A : St.Apart (spotsOf (f .clauses) (f .head) 0) (size (asForm f))) where
+  module _ (A : St.DistinctSpots (spotsOf (f .clauses) (f .head) 0) (size (asForm f))) where
     abbrev p : Spots
     p = spotsOf (f .clauses) (f .head) 0
 
@@ -145,7 +145,7 @@ module _ (f : NormalForm) (s : List ℕ) (n : size (asForm f) ≤ formWords) (L 
         by-test (ltb o (length (ids p))) (ltb-true o (length (ids p)))
         (λ t. absurd (omega (arith, ap (λ x. length (loopPlace x)) (sym (List·getD-eq-default (ids p) (endI 0) (ltb-false o (length (ids p)) t)) ∙ e))))
 
-    pub words-apart : Apart s p
+    pub words-apart : OwnWords s p
     words-apart = record {
       differ = λ o u l k v. differ o u l k (idAt p o) (idAt p u) refl refl v;
       low = λ o l. zone o l (idAt p o) refl .0;

@@ -39,7 +39,7 @@ use Rattle.base_signed.specs.Limit.{numberLimit}
 use Rattle.exec_state.specs.StateWords.{endIn}
 use Rattle.exec_simulation.specs.WiredProgram.{endI, ids, idAt}
 use Rattle.exec_simulation.specs.PathPlaces.{spotsAt}
-use Rattle.exec_simulation.specs.SimulationRelation.{Question, Stands}
+use Rattle.exec_simulation.specs.SimulationRelation.{LinkedPlan, Stands}
 use Rattle.exec_simulation.proofs.PathWords.{number-low, end-id, comp-node}
 use Rattle.exec_simulation.proofs.AccumulatorWrites.{says-end}
 use Rattle.exec_initial.specs.PassedComprehensions.{passes}
@@ -49,10 +49,10 @@ use Rattle.exec_initial.proofs.RepeatedWrites.{lays-there, lays-from}
 use Rattle.exec_initial.proofs.PassedText.{uptoWith, told-pass}
 
 -- the word of a collection says where it ends
-ends-at : {d : Bytes} (Q : Question d) {s : List ℕ} {w : Words} {r : Spans} → Stands Q s w r → (o j : ℕ) → o < length (ids (Q .spots)) → idAt (Q .spots) o ≡ endI j → Collected s j → endIn s j ≡ min (r .upto o) numberLimit
+ends-at : {d : Bytes} (Q : LinkedPlan d) {s : List ℕ} {w : Words} {r : Spans} → Stands Q s w r → (o j : ℕ) → o < length (ids (Q .spots)) → idAt (Q .spots) o ≡ endI j → Collected s j → endIn s j ≡ min (r .upto o) numberLimit
 ends-at Q {s} S o j l e c = says-end Q S o j l e (monoidBy (nodeAt s j)) refl .1 (collection-at (nodeAt s j) c .collects) .0
 
-module _ {d : Bytes} (Q : Question d) {s : List ℕ} {o : List ℤ} {limit : ℕ} {w : Words} {r : Spans} (π : Path) (x : Program) (v : Valid (Q .program) π x) (wr : writes (Q .program) π ≡ true)
+module _ {d : Bytes} (Q : LinkedPlan d) {s : List ℕ} {o : List ℤ} {limit : ℕ} {w : Words} {r : Spans} (π : Path) (x : Program) (v : Valid (Q .program) π x) (wr : writes (Q .program) π ≡ true)
     (W : Written limit (Q .lent) o (textInto numberLimit (tablesIn d) (Q .program) w π)) (K : Keeps numberLimit (tablesIn d) (Q .program) true w r π) (S : Stands Q s w r) where
   abbrev q : Program
   q = Q .program

@@ -26,7 +26,7 @@ use Rattle.form_env.specs.Environment.{tablesIn}
 use Rattle.base_signed.specs.Limit.{numberLimit}
 use Rattle.exec_simulation.specs.WiredProgram.{endI, ids, idAt}
 use Rattle.exec_simulation.specs.PathPlaces.{inside, spotsAt}
-use Rattle.exec_simulation.specs.SimulationRelation.{Question}
+use Rattle.exec_simulation.specs.SimulationRelation.{LinkedPlan}
 use Rattle.exec_simulation.proofs.PathWords.{number-low, end-id, comp-node}
 use Rattle.exec_initial.specs.PassedComprehensions.{passes, Has}
 use Rattle.exec_initial.proofs.CollectionNodes.{shape-collects}
@@ -39,14 +39,14 @@ abbrev pub uptoWith : ℕ → Program → List PTerm
 uptoWith n x = upto n (headParts x) ++ place n ∷ []
 
 -- the collection at j, in place n, is told, and ends with the text of what is told up to it
-pub record ToldAt {d : Bytes} (Q : Question d) (w : Words) (r : Spans) (π : Path) (x : Program) (n j : ℕ) : Type 0 where
+pub record ToldAt {d : Bytes} (Q : LinkedPlan d) (w : Words) (r : Spans) (π : Path) (x : Program) (n j : ℕ) : Type 0 where
   pub begins : Begins (uptoWith n x) (told (Q .program) π)
   pub operator : ℕ
   pub low : operator < length (ids (Q .spots))
   pub id : idAt (Q .spots) operator ≡ endI j
   pub ends : r .upto operator ≡ length (textBack numberLimit (tablesIn d) (Q .program) w π ++ said numberLimit (row (tablesIn d) w π) (uptoWith n x))
 
-module _ {d : Bytes} (Q : Question d) (w : Words) (r : Spans) where
+module _ {d : Bytes} (Q : LinkedPlan d) (w : Words) (r : Spans) where
   abbrev q : Program
   q = Q .program
 

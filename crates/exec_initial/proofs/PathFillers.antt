@@ -22,7 +22,7 @@ use Rattle.exec_terms.proofs.PartsBefore.{PartAt}
 use Rattle.exec_terms.proofs.FormAgreement.{head-node}
 use Rattle.exec_simulation.specs.PathPlaces.{behindFirst, inside, loopNode, spotsAt, backAt}
 use Rattle.exec_simulation.specs.RowReads.{headAt}
-use Rattle.exec_simulation.specs.SimulationRelation.{Question}
+use Rattle.exec_simulation.specs.SimulationRelation.{LinkedPlan}
 use Rattle.exec_simulation.specs.WiredProgram.{Wired, loopI, endI}
 use Rattle.exec_simulation.proofs.PathWords.{as-loop, as-end, as-inner, wired-at}
 use Rattle.exec_initial.specs.PlaceFillers.{fillers, CompAt, headOf, LoopFilled, EndFilled, InnerFilled, Fills}
@@ -53,7 +53,7 @@ end-at s b (Pr.inner i q) (end c) h = absurd h
 end-at s b (Pr.inner i q) (loop j p) h = absurd h
 end-at s b (Pr.inner i q) (inner a p) h = end-at s b q p (h .1 .1 .1)
 
-module _ {d : Bytes} (Q : Question d) (H : Fills (Q .base) [] (Q .spots)) where
+module _ {d : Bytes} (Q : LinkedPlan d) (H : Fills (Q .base) [] (Q .spots)) where
   abbrev s : List ℕ
   s = Q .base
 

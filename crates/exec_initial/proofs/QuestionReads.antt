@@ -25,7 +25,7 @@ use Rattle.plan_machine.proofs.CollectionSpans.{Spans}
 use Rattle.plan_machine.proofs.CollectionsInHeads.{Fitting, normal-fitting}
 use Rattle.plan_links.specs.Spots.{Spots, compOf, spotsOf}
 use Rattle.plan_links.specs.SpotWords.{fuel}
-use Rattle.plan_links.specs.Contract.{Term}
+use Rattle.plan_links.specs.Contract.{TermPost}
 use Rattle.form_env.specs.Environment.{tablesIn}
 use Rattle.form_arith.specs.WordSorts.{sortOf, wordBound, mergeBound}
 use Rattle.exec_terms.specs.PlanColumns.{planDeclared}
@@ -33,8 +33,8 @@ use Rattle.exec_terms.specs.PartsWalk.{AgreesP}
 use Rattle.base_signed.specs.Limit.{numberLimit}
 use Rattle.exec_simulation.specs.PathPlaces.{inside, loopNode, spotsAt}
 use Rattle.exec_simulation.specs.RowReads.{headAt, LoopReads, EndReads}
-use Rattle.exec_simulation.specs.AccumulatorRoom.{takesOf, Room}
-use Rattle.exec_simulation.specs.SimulationRelation.{Question, Stands}
+use Rattle.exec_simulation.specs.AccumulatorRoom.{takesOf, AccumulatorRoom}
+use Rattle.exec_simulation.specs.SimulationRelation.{LinkedPlan, Stands}
 use Rattle.exec_initial.specs.HeadBounds.{boundAt}
 use Rattle.exec_initial.specs.PlaceFillers.{Fills}
 use Rattle.exec_initial.proofs.PathNumbers.{own-at}
@@ -44,7 +44,7 @@ use Rattle.exec_initial.proofs.RunnableQuestion.{passed, laid, linked-p
 use Rattle.exec_initial.proofs.OperatorReads.{loops-read, ends-read, element-agrees, opening-agrees}
 
 -- s holds the question, s₁ its plan too, s₂ also its links
-module _ {d : Bytes} (a : Accepted) (s s₁ s₂ : List ℕ) (r : ℕ) (A : Prepared d a s) (Q : MakePlanPost s s₁) (L : Term s₁ 0 1 s₂ r) where
+module _ {d : Bytes} (a : Accepted) (s s₁ s₂ : List ℕ) (r : ℕ) (A : Prepared d a s) (Q : MakePlanPost s s₁) (L : TermPost s₁ 0 1 s₂ r) where
   abbrev f : NormalForm
   f = a .form
 
@@ -67,27 +67,27 @@ module _ {d : Bytes} (a : Accepted) (s s₁ s₂ : List ℕ) (r : ℕ) (A : Prep
   question-own = own-at (planDeclared d s₂) s₂ (tablesIn d) (programOf f) sp (wired a s s₁ s₂ r A Q L) (fit a s s₁ s₂ r A Q L)
 
   module _ (lent : List ℤ) (short : length lent ≤ numberLimit) where
-    abbrev asked : Question d
+    abbrev asked : LinkedPlan d
     asked = question a s s₁ s₂ r A Q L lent short
 
     pub reads-loops : (t : List ℕ) (w : Words) (y : Spans) (π : Path) (b : Source) (c : PTerm) (p : Program) (k : ℕ) → Valid (asked .program) π (Pr.loop b c p) → Begun w (loopP π b c p) → Stands asked t w y
-        → Room (tablesIn d) (asked .bound) (asked .program) w (loopP π b c p) k
+        → AccumulatorRoom (tablesIn d) (asked .bound) (asked .program) w (loopP π b c p) k
         → LoopReads d t (row (tablesIn d) w (loopP π b c p)) (compOf (spotsAt (asked .spots) π)) (loopNode (spotsAt (asked .spots) π)) c
     unfolding question
     reads-loops t w y = loops-read asked (question-smalls a s s₁ s₂ r A Q L) question-fills question-own t w y
 
-    pub reads-ends : (t : List ℕ) (w : Words) (y : Spans) (π : Path) (e : End) (k : ℕ) → Valid (asked .program) π (Pr.end e) → Begun w π → Stands asked t w y → Room (tablesIn d) (asked .bound) (asked .program) w π k
+    pub reads-ends : (t : List ℕ) (w : Words) (y : Spans) (π : Path) (e : End) (k : ℕ) → Valid (asked .program) π (Pr.end e) → Begun w π → Stands asked t w y → AccumulatorRoom (tablesIn d) (asked .bound) (asked .program) w π k
         → EndReads d t (row (tablesIn d) w π) (compOf (spotsAt (asked .spots) π)) (asked .bound (last (asked .program) π)) e
     unfolding question endOf
     reads-ends t w y π e k v = ends-read asked (question-smalls a s s₁ s₂ r A Q L) question-fills question-own t w y π e k (question-bounds a s s₁ s₂ r A Q L π (Pr.end e) v) v
 
     -- the parts of a head that are written when a collection takes a row, and when an inner one is opened
-    pub agrees-element : (t : List ℕ) (w : Words) (y : Spans) (π : Path) (e : End) (k : ℕ) → Valid (asked .program) π (Pr.end e) → Begun w π → Stands asked t w y → Room (tablesIn d) (asked .bound) (asked .program) w π k
+    pub agrees-element : (t : List ℕ) (w : Words) (y : Spans) (π : Path) (e : End) (k : ℕ) → Valid (asked .program) π (Pr.end e) → Begun w π → Stands asked t w y → AccumulatorRoom (tablesIn d) (asked .bound) (asked .program) w π k
         → AgreesP fuel d t (row (tablesIn d) w π) (headAt t (compOf (spotsAt (asked .spots) π))) (next t (compOf (spotsAt (asked .spots) π)))
     unfolding question
     agrees-element t w y = element-agrees asked (question-smalls a s s₁ s₂ r A Q L) question-fills question-own t w y
 
     pub agrees-opening : (t : List ℕ) (w : Words) (y : Spans) (π : Path) (i p : Program) (k : ℕ) → Valid (asked .program) π (Pr.inner i p) → writes (asked .program) (inP π i p) ≡ true → Begun w π → Stands asked t w y
-        → Room (tablesIn d) (asked .bound) (asked .program) w π k → AgreesP fuel d t (row (tablesIn d) w π) (headAt t (compOf (spotsAt (asked .spots) π))) (compOf (inside (spotsAt (asked .spots) π)))
+        → AccumulatorRoom (tablesIn d) (asked .bound) (asked .program) w π k → AgreesP fuel d t (row (tablesIn d) w π) (headAt t (compOf (spotsAt (asked .spots) π))) (compOf (inside (spotsAt (asked .spots) π)))
     unfolding question
     agrees-opening t w y = opening-agrees asked (question-smalls a s s₁ s₂ r A Q L) question-fills question-own t w y

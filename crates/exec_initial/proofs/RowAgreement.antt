@@ -25,7 +25,7 @@ use Rattle.plan_links.specs.Spots.{Spots}
 use Rattle.plan_links.specs.SpotWords.{fuel}
 use Rattle.form_env.specs.Environment.{envOf, tablesIn}
 use Rattle.form_env.proofs.SameForm.{node-same, form-same}
-use Rattle.exec_terms.specs.Agreement.{heldAt, Kept}
+use Rattle.exec_terms.specs.Agreement.{heldAt, KeptTotal}
 use Rattle.exec_terms.proofs.FormAgreement.{tree-is, AgreesOn, AgreesOnF, AgreesOnC}
 use Rattle.exec_terms.proofs.PartsPre.{AgreesUpto, AgreesUptoF}
 use Rattle.exec_simulation.specs.WiredProgram.{Id}
@@ -52,7 +52,7 @@ module _ (d : Bytes) (p : Spots) (b s : List ℕ) (same : (i : ℕ) → wordAt s
       let v : Value = heldAt (markAt s i) r in
       let x : monoidBy (nodeAt s i) ≡ m = ap monoidBy (node-same s b same i ∙ L .0) ∙ monoid-back m in
       let t : formTree fuel s i ≡ comp m q u = form-same s b same fuel i ∙ tree-is b (comp m q u) i fuel L n (omega arith) in
-      subst (λ (y : Form). Kept d s i m y v) t (subst (λ (y : Monoid). Kept d s i y (formTree fuel s i) v) x (end-held i N .kept (ap collects x ∙ e)))
+      subst (λ (y : Form). KeptTotal d s i m y v) t (subst (λ (y : Monoid). KeptTotal d s i y (formTree fuel s i) v) x (end-held i N .kept (ap collects x ∙ e)))
 
   -- ---- terms of one word
   mutual

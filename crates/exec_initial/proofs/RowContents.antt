@@ -49,8 +49,8 @@ use Rattle.exec_terms.specs.Agreement as Ag
 use Rattle.base_signed.specs.Limit.{numberLimit}
 use Rattle.exec_state.specs.StateWords.{Total, offeredAt, totalIn}
 use Rattle.exec_simulation.specs.PathPlaces.{inside, loopNode, spotsAt, backAt}
-use Rattle.exec_simulation.specs.AccumulatorRoom.{takesOf, Room, compAt}
-use Rattle.exec_simulation.specs.SimulationRelation.{Question, SaysEnd, SaysRow, SaysAt, Stands}
+use Rattle.exec_simulation.specs.AccumulatorRoom.{takesOf, AccumulatorRoom, compAt}
+use Rattle.exec_simulation.specs.SimulationRelation.{LinkedPlan, SaysEnd, SaysRow, SaysAt, Stands}
 use Rattle.exec_simulation.specs.WiredProgram.{Id, loopI, endI, ids, idAt}
 use Rattle.exec_simulation.proofs.TakeMoves.{kept-total}
 use Rattle.exec_simulation.proofs.OperatorWrites.{declared-kept}
@@ -106,7 +106,7 @@ total-is Sy.min s c e = refl
 total-is some s c e = refl
 total-is all s c e = refl
 
-module _ {d : Bytes} (Q : Question d) (s : List ℕ) (w : Words) (r : Spans) (S : Stands Q s w r) where
+module _ {d : Bytes} (Q : LinkedPlan d) (s : List ℕ) (w : Words) (r : Spans) (S : Stands Q s w r) where
   abbrev sp : Spots
   sp = Q .spots
 
@@ -168,7 +168,7 @@ module _ {d : Bytes} (Q : Question d) (s : List ℕ) (w : Words) (r : Spans) (S 
       unfolding compAt last
       nest-small = subst (λ (m : Monoid). natAbs (asWord (sortOf m) (w .acc o)) ≤ numberLimit) (sym monoid-is) (le-trans room (Q .fits (inP π i p) i (refl, v)))
 
-      nest-kept : collects (monoidBy (nodeAt s c)) ≡ false → Ag.Kept d s c (monoidBy (nodeAt s c)) (formTree fuel s c) (finish (monoidBy (nodeAt s c)) (w .acc o))
+      nest-kept : collects (monoidBy (nodeAt s c)) ≡ false → Ag.KeptTotal d s c (monoidBy (nodeAt s c)) (formTree fuel s c) (finish (monoidBy (nodeAt s c)) (w .acc o))
       nest-kept e =
           let m = monoidBy (nodeAt s c) in
           let z = nest-says .0 e .1 ∙ total-is m s c e in
@@ -184,7 +184,7 @@ module _ {d : Bytes} (Q : Question d) (s : List ℕ) (w : Words) (r : Spans) (S 
       nest-holds = subst (HoldsBy d sp s w (endI c)) (ap (λ (m : Monoid). finish m (w .acc o)) monoid-is) (record { number = o; low = nest-low; id = nest-id; is = refl; kept = nest-kept })
 
     -- Every place of the row at a path.
-    pub holding : (π : Path) (x : Program) (k : ℕ) → Valid (Q .program) π x → Begun w π → Room T (Q .bound) (Q .program) w π k → Holding d sp s w (fillers sp π) (row T w π)
+    pub holding : (π : Path) (x : Program) (k : ℕ) → Valid (Q .program) π x → Begun w π → AccumulatorRoom T (Q .bound) (Q .program) w π k → Holding d sp s w (fillers sp π) (row T w π)
     unfolding fillers row here
     holding start x k v b R = λ n l. absurd (omega (arith, l))
     holding (loopP π a t p) x k v b R = one-more d sp s w (fillers sp π) (row T w π) (loopI (loopNode (spotsAt sp π))) (at (w .cur (pos π) - 1) (rowsFor T a)) (fillers-width sp π ∙ sym (row-width T w π))

@@ -30,7 +30,7 @@ use Rattle.exec_terms.specs.PlanColumns.{planDeclared}
 use Rattle.exec_terms.specs.Agreement.{Agrees, AgreesC}
 use Rattle.exec_simulation.specs.PathPlaces.{loopNode, spotsAt, backAt}
 use Rattle.exec_simulation.specs.RowReads.{headAt, LoopReads, EndReads}
-use Rattle.exec_simulation.specs.SimulationRelation.{Question, Kept}
+use Rattle.exec_simulation.specs.SimulationRelation.{LinkedPlan, ProgramKept}
 use Rattle.exec_simulation.proofs.PathWords.{as-loop, as-end, wired-at}
 use Rattle.exec_simulation.proofs.OperatorWrites.{declared-kept}
 use Rattle.exec_initial.proofs.AccumulatorBounds.{Smalls}
@@ -61,7 +61,7 @@ module _ (s t : List ℕ) (w : (i : ℕ) → wordAt s i ≡ wordAt t i) where
   conds-same : (m m′ i : ℕ) → m ≡ m′ → condsIn fuel s m i ≡ condsIn fuel t m′ i
   conds-same m m′ i e = conds-again t s (node-same s t w) (next-same s t w) (hours-same s t w) mark-same fuel m i ∙ ap (λ k. condsIn fuel t k i) e
 
-module _ {d : Bytes} (Q : Question d) (small : (π : Path) (x : Program) → Valid (Q .program) π x → Smalls (planDeclared d (Q .base)) (Q .base) (compOf (spotsAt (Q .spots) π))) {s : List ℕ} (K : Kept (Q .base) s) (r : Row) where
+module _ {d : Bytes} (Q : LinkedPlan d) (small : (π : Path) (x : Program) → Valid (Q .program) π x → Smalls (planDeclared d (Q .base)) (Q .base) (compOf (spotsAt (Q .spots) π))) {s : List ℕ} (K : ProgramKept (Q .base) s) (r : Row) where
   small-now : (π : Path) (x : Program) → Valid (Q .program) π x → Smalls (planDeclared d s) s (compOf (spotsAt (Q .spots) π))
   small-now π x v =
       let c : ℕ = compOf (spotsAt (Q .spots) π) in

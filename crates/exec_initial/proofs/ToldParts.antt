@@ -38,7 +38,7 @@ use Rattle.base_signed.specs.Limit.{numberLimit}
 use Rattle.exec_state.specs.StateWords.{endIn}
 use Rattle.exec_simulation.specs.PathPlaces.{inside, spotsAt}
 use Rattle.exec_simulation.specs.RowReads.{headAt}
-use Rattle.exec_simulation.specs.SimulationRelation.{Question, Stands}
+use Rattle.exec_simulation.specs.SimulationRelation.{LinkedPlan, Stands}
 use Rattle.exec_simulation.proofs.PathWords.{comp-node}
 use Rattle.exec_initial.specs.PlaceFillers.{fillers, NamedUpto, CompAt, headOf, Fills}
 use Rattle.exec_initial.specs.PassedComprehensions.{passes}
@@ -54,14 +54,14 @@ use Rattle.exec_initial.proofs.CollectionPlaces.{later-end, later-inner
 use Rattle.exec_initial.proofs.LatePlaces.{passed-since, part-named}
 
 -- the walk from the head of the comprehension at π up to node b, with these words of its own
-abbrev pub Tells : {d : Bytes} → Question d → List ℕ → List ℤ → ℕ → Words → Path → ℕ → List PTerm → Type 0
+abbrev pub Tells : {d : Bytes} → LinkedPlan d → List ℕ → List ℤ → ℕ → Words → Path → ℕ → List PTerm → Type 0
 Tells {d} Q s o limit w π b more =
     let c = compOf (spotsAt (Q .spots) π) in
     let r = row (tablesIn d) w π in
     let n = length (textInto numberLimit (tablesIn d) (Q .program) w π) in
     walk fuel limit s r (headAt s c) b (pt o (endIn s c)) ≡ pt (puts limit n (said numberLimit r more) o) (min (n + length (said numberLimit r more)) numberLimit)
 
-module _ {d : Bytes} (Q : Question d) (H : Fills (Q .base) [] (Q .spots)) (small : (π : Path) (x : Program) → Valid (Q .program) π x → Smalls (planDeclared d (Q .base)) (Q .base) (compOf (spotsAt (Q .spots) π)))
+module _ {d : Bytes} (Q : LinkedPlan d) (H : Fills (Q .base) [] (Q .spots)) (small : (π : Path) (x : Program) → Valid (Q .program) π x → Smalls (planDeclared d (Q .base)) (Q .base) (compOf (spotsAt (Q .spots) π)))
     {s : List ℕ} {o : List ℤ} {limit : ℕ} {w : Words} {r : Spans} (B : Based s 0 0 (Q .spots)) (S : Stands Q s w r) where
   -- at a path, in a comprehension that is written
   module _ (π : Path) (x : Program) (v : Valid (Q .program) π x) (wr : writes (Q .program) π ≡ true) (W : Written limit (Q .lent) o (textInto numberLimit (tablesIn d) (Q .program) w π))

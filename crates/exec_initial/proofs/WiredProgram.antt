@@ -13,11 +13,11 @@ use Rattle.plan_links.specs.Spots.{Spots, end, loop, inner, loopCode, endCode, 
 use Rattle.plan_links.specs.Links.{Linked}
 use Rattle.plan_links.proofs.FormLinks.{comp-loops, comp-inners, comp-innersC}
 use Rattle.plan_links.proofs.ExecutorReady.{Planned}
-use Rattle.plan_links.specs.SpotWords.{Alike}
+use Rattle.plan_links.specs.SpotWords.{SpotsAre}
 use Rattle.exec_simulation.specs.WiredProgram.{Starts, Wired}
 use Rattle.exec_initial.specs.ProgramShape.{Shaped, Within}
 
-pub wired-of : (s : List ℕ) (b : ℕ) (x : Program) (y : Spots) → Linked s b y → Alike s y x → Shaped y → Within y → Wired s b x y
+pub wired-of : (s : List ℕ) (b : ℕ) (x : Program) (y : Spots) → Linked s b y → SpotsAre s y x → Shaped y → Within y → Wired s b x y
 wired-of s b (Pr.end e) (end c) l a h w = (l, (w, a))
 wired-of s b (Pr.end e) (loop i p) l a h w = absurd a
 wired-of s b (Pr.end e) (inner z p) l a h w = absurd a

@@ -18,7 +18,7 @@ use Rattle.plan_machine.specs.AnswerText.{collects}
 use Rattle.plan_links.specs.Spots.{Spots}
 use Rattle.plan_links.specs.SpotWords.{fuel}
 use Rattle.form_env.specs.Environment.{envOf, tablesIn}
-use Rattle.exec_terms.specs.Agreement.{Kept}
+use Rattle.exec_terms.specs.Agreement.{KeptTotal}
 use Rattle.exec_simulation.specs.WiredProgram.{Id, loopI, endI, ids, idAt}
 use Rattle.exec_initial.specs.PlaceFillers.{fillerAt}
 
@@ -29,7 +29,7 @@ module _ (d : Bytes) (p : Spots) (s : List ℕ) (w : Words) where
     pub low : number < length (ids p)
     pub id : idAt p number ≡ endI c
     pub is : v ≡ finish (monoidBy (nodeAt s c)) (w .acc number)
-    pub kept : collects (monoidBy (nodeAt s c)) ≡ false → Kept d s c (monoidBy (nodeAt s c)) (formTree fuel s c) v
+    pub kept : collects (monoidBy (nodeAt s c)) ≡ false → KeptTotal d s c (monoidBy (nodeAt s c)) (formTree fuel s c) v
 
   abbrev pub HoldsBy : Id → Value → Type 0
   HoldsBy (loopI j) v = (g k : ℕ) → nodeAt s j ≡ Generator g k → v ≡ envOf (tablesIn d) s g

@@ -26,7 +26,7 @@ use Rattle.plan_marks.proofs.FormInWords.{Lies, LiesF}
 use Rattle.exec_terms.specs.PlanColumns.{planDeclared}
 use Rattle.exec_terms.specs.PartsWalk.{agreesPart, Sound, AgreesP}
 use Rattle.exec_terms.proofs.FormAgreement.{tree-is, AgreesOn, agrees-on}
-use Rattle.exec_terms.proofs.PartsExits.{Written}
+use Rattle.exec_terms.proofs.PartsExits.{WrittenPart}
 
 -- a collection's words are not written by `parts`
 abbrev unlessCollection : Monoid → Type 0 → Type 0
@@ -67,13 +67,13 @@ module _ (d : Bytes) (s : List ℕ) (r : Row) (b : ℕ) where
     behind : AgreesP (pred f) d s r (next s i) b
     behind = subst (λ j. AgreesP (pred f) d s r j b) (sym n) (k (pred f) (omega (arith, size-some t)))
 
-    written : (x : WriteForm) → Written x → within (planDeclared d s) t ≡ true → (i < b → AgreesOn d s r i t) → shapeOf (nodeAt s i) ≡ x → AgreesP f d s r i b
+    written : (x : WriteForm) → WrittenPart x → within (planDeclared d s) t ≡ true → (i < b → AgreesOn d s r i t) → shapeOf (nodeAt s i) ≡ x → AgreesP f d s r i b
     written x w v a e = agreesP-at f i e (λ z. go x w z)
       where
         sound : i < b → Sound (pred f) d s r i
         sound z = (ap (within (planDeclared d s)) (tree-is s t i (pred f) h l (omega arith)) ∙ v, agrees-on d s r t i (pred f) h l (omega arith) (a z))
 
-        go : (x : WriteForm) → Written x → i < b → agreesPart (λ j. AgreesP (pred f) d s r j b) (Sound (pred f) d s r i) s i x
+        go : (x : WriteForm) → WrittenPart x → i < b → agreesPart (λ j. AgreesP (pred f) d s r j b) (Sound (pred f) d s r i) s i x
         go (Sh.Word c) w z = (sound z, behind)
         go (Sh.Row c) w z = (sound z, behind)
         go (Sh.Record c) w z = absurd w

@@ -5,8 +5,8 @@ ghost use lib.IntN.{natAbs};
 ghost use Rattle.base_syntax.specs.MonoidWord.{monoidOf};
 ghost use Rattle.base_syntax.specs.Numbers.{binOf};
 ghost use Rattle.form_arith.specs.WordSorts.{codeOf, isSame, readWord, sortOf, operandSort, resultSort, truthWord, negateWord, operateWord, operateBound};
+use base_syntax::BinOp;
 use base_syntax::Monoid;
-use base_syntax::Op;
 
 // How a value is read as a word: as a number, as a truth, as what it is of the two, or not at all.
 pub enum Sort {
@@ -62,31 +62,31 @@ pub fn sort_of(m: Monoid) -> Sort
     }
 }
 
-pub fn operands(o: Op) -> Sort
+pub fn operands(o: BinOp) -> Sort
     ensures { λ r. ⌜ r ≡ operandSort (binOf o) ⌝ }
 {
     match o {
-        Op::Plus => Sort::Number,
-        Op::Minus => Sort::Number,
-        Op::Times => Sort::Number,
-        Op::Equal => Sort::Number,
-        Op::Less => Sort::Number,
-        Op::And => Sort::Truth,
-        Op::Or => Sort::Truth,
+        BinOp::Plus => Sort::Number,
+        BinOp::Minus => Sort::Number,
+        BinOp::Times => Sort::Number,
+        BinOp::Equal => Sort::Number,
+        BinOp::Less => Sort::Number,
+        BinOp::And => Sort::Truth,
+        BinOp::Or => Sort::Truth,
     }
 }
 
-pub fn result(o: Op) -> Sort
+pub fn result(o: BinOp) -> Sort
     ensures { λ r. ⌜ r ≡ resultSort (binOf o) ⌝ }
 {
     match o {
-        Op::Plus => Sort::Number,
-        Op::Minus => Sort::Number,
-        Op::Times => Sort::Number,
-        Op::Equal => Sort::Truth,
-        Op::Less => Sort::Truth,
-        Op::And => Sort::Truth,
-        Op::Or => Sort::Truth,
+        BinOp::Plus => Sort::Number,
+        BinOp::Minus => Sort::Number,
+        BinOp::Times => Sort::Number,
+        BinOp::Equal => Sort::Truth,
+        BinOp::Less => Sort::Truth,
+        BinOp::And => Sort::Truth,
+        BinOp::Or => Sort::Truth,
     }
 }
 
@@ -103,17 +103,17 @@ pub fn negated(a: i64) -> i64
 }
 
 // The result must be a word: what refusal 28 is for.
-pub fn operate(o: Op, a: i64, b: i64) -> i64
+pub fn operate(o: BinOp, a: i64, b: i64) -> i64
     requires { ⌜ operateBound (binOf o) (natAbs a) (natAbs b) ≤ 2 ^ 62 ⌝ }
     ensures { λ r. ⌜ r ≡ operateWord (binOf o) a b ⌝ }
 {
     match o {
-        Op::Plus => a + b,
-        Op::Minus => a - b,
-        Op::Times => a * b,
-        Op::Equal => truth_word(a == b),
-        Op::Less => truth_word(a < b),
-        Op::And => { if a == 0 { a } else { b } }
-        Op::Or => { if a == 0 { b } else { a } }
+        BinOp::Plus => a + b,
+        BinOp::Minus => a - b,
+        BinOp::Times => a * b,
+        BinOp::Equal => truth_word(a == b),
+        BinOp::Less => truth_word(a < b),
+        BinOp::And => { if a == 0 { a } else { b } }
+        BinOp::Or => { if a == 0 { b } else { a } }
     }
 }

@@ -10,8 +10,8 @@ ghost use Rattle.form_guarded.specs.GuardedWords.{mergeRoom, OperatePost
 use base_signed::CELL_LIMIT;
 use base_signed::NUMBER_LIMIT;
 use base_signed::magnitude;
+use base_syntax::BinOp;
 use base_syntax::Monoid;
-use base_syntax::Op;
 
 fn sum_fits(x: u64, y: u64) -> bool
     ensures { λ r. ⌜ r ≡ leb (x + y) (2 ^ 62) ⌝ }
@@ -37,21 +37,21 @@ fn product_fits(x: u64, y: u64) -> bool
     x <= NUMBER_LIMIT / y
 }
 
-fn bounded(o: Op, x: u64, y: u64) -> bool
+fn bounded(o: BinOp, x: u64, y: u64) -> bool
     ensures { λ r. ⌜ r ≡ leb (operateBound (binOf o) x y) (2 ^ 62) ⌝ }
 {
     match o {
-        Op::Plus => sum_fits(x, y),
-        Op::Minus => sum_fits(x, y),
-        Op::Times => product_fits(x, y),
-        Op::Equal => true,
-        Op::Less => true,
-        Op::And => true,
-        Op::Or => true,
+        BinOp::Plus => sum_fits(x, y),
+        BinOp::Minus => sum_fits(x, y),
+        BinOp::Times => product_fits(x, y),
+        BinOp::Equal => true,
+        BinOp::Less => true,
+        BinOp::And => true,
+        BinOp::Or => true,
     }
 }
 
-pub fn operate(o: Op, a: i64, b: i64) -> i64
+pub fn operate(o: BinOp, a: i64, b: i64) -> i64
     ensures { λ r. ⌜ OperatePost o a b r ⌝ }
 {
     if bounded(o, magnitude(a), magnitude(b)) {

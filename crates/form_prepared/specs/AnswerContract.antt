@@ -22,16 +22,16 @@ pub record Asked (d : Bytes) (s : List ℕ) : Type 0 where
   pub prepared : Prepared d accepted s
 
 -- "An answer is 0 and its length ..; a refusal its number and length 0": "32: the answer buffer has fewer than G words"
-abbrev pub numberOf : Answer → ℕ
-numberOf Short = 32
-numberOf (Length n) = 0
+abbrev pub answerNumber : Answer → ℕ
+answerNumber Short = 32
+answerNumber (Length n) = 0
 
-abbrev pub lengthOf : Answer → ℕ
-lengthOf Short = 0
-lengthOf (Length n) = n
+abbrev pub answerLength : Answer → ℕ
+answerLength Short = 0
+answerLength (Length n) = n
 
 -- With whatever question stands in scratch: number, length and buffer are those that its value has. Words from 2,048 on stay.
-pub record Answers (value : Accepted → Value) (d : Bytes) (s : List ℕ) (o : List ℤ) (s′ : List ℕ) (o′ : List ℤ) (r : Answer) : Type 0 where
-  pub is : (l : Lent) (a : Accepted) → readLent l ≡ got (posedOf a) → Prepared d a s → Settles (written value o a) o (numberOf r) (lengthOf r) o′
+pub record AnswerPost (value : Accepted → Value) (d : Bytes) (s : List ℕ) (o : List ℤ) (s′ : List ℕ) (o′ : List ℤ) (r : Answer) : Type 0 where
+  pub is : (l : Lent) (a : Accepted) → readLent l ≡ got (posedOf a) → Prepared d a s → Settles (written value o a) o (answerNumber r) (answerLength r) o′
   pub long : length s′ ≡ length s
   pub above : (j : ℕ) → scratchSize ≤ j → getD s′ j 0 ≡ getD s j 0

@@ -12,7 +12,7 @@ use Rattle.base_tables.specs.DataReader.{Stored}
 use Rattle.base_checkpoints.specs.Checkpoints.{Checkpointed}
 use Rattle.base_scratch.specs.Map.{formAt, formWords, totalsAt, scratchSize}
 use Rattle.base_windows.specs.KeptCalendars.{calendarIn}
-use Rattle.form_words.specs.FormWords.{Fits, Lent, Holds, flat}
+use Rattle.form_words.specs.FormWords.{Fits, CalendarsIn, Holds, flat}
 use Rattle.form_env.specs.Environment.{slotOf}
 use Rattle.form_env.specs.NamedTables.{Rowless, tableOf, Named}
 
@@ -23,7 +23,7 @@ pub record Prepared (d : Bytes) (a : Accepted) (s : List ℕ) : Type 0 where
   pub stored : Stored d s
   pub checkpointed : Checkpointed d s
   pub fits : Fits (asForm (a .form))
-  pub lent : Lent (calendarIn s) (asForm (a .form))
+  pub lent : CalendarsIn (calendarIn s) (asForm (a .form))
   pub few : length (flat (asForm (a .form))) ≤ formWords
   pub held : Holds s 0 (flat (asForm (a .form)))
   pub named : Named (tableOf s) (asForm (a .form))

@@ -16,7 +16,7 @@ use Rattle.spec_calculus.specs.Lists.{pick}
 use Rattle.spec_normal_form.specs.Form.{Form, Clauses, fnil, fcons}
 use Rattle.base_syntax.specs.declared.Monoid.{Monoid}
 use Rattle.base_signed.proofs.SignedWords.{fits, up, mag-sub}
-use Rattle.base_syntax.specs.declared.Op.{Op}
+use Rattle.base_syntax.specs.declared.BinOp.{BinOp}
 use Rattle.base_syntax.specs.declared.Fun.{Fun}
 use Rattle.base_syntax.specs.Numbers.{opAt, funAt, monoidAt, constantOf}
 use Rattle.form_words.specs.declared.FormNode.{FormNode}
@@ -26,7 +26,7 @@ use Rattle.form_words.specs.declared.Leaf.the-variants as Le
 use Rattle.form_words.specs.declared.MonoidRead.the-variants as Mr
 use Rattle.form_words.specs.declared.Clause.{Clause}
 use Rattle.form_words.specs.declared.Clause.the-variants as Cl
-use Rattle.form_words.specs.NodeWord.{wordAt, kindOf, belowOf, argOf, pack, next, kinds, nodeOf, nodeAt}
+use Rattle.form_words.specs.NodeWord.{wordAt, formKindOf, belowOf, argOf, pack, next, kinds, nodeOf, nodeAt}
 use Rattle.base_scratch.specs.Map.{formWords}
 use Rattle.base_windows.specs.KeptCalendars.{calendarIn}
 use Rattle.form_words.specs.FormTree.{formBy, clauseOf, clausesBy, headBy, formTree, formsTree, clausesTree, headTree}
@@ -35,7 +35,7 @@ use Rattle.form_words.specs.Look.{Inside, Looks, leafOf, LeafAtPost, mon
 
 -- ---- packing
 module _ (k b a : ℕ) (hk : k < 16) (hb : b < 1024) where
-  pub kind-pack : kindOf (pack k b a) ≡ k
+  pub kind-pack : formKindOf (pack k b a) ≡ k
   kind-pack = omega arith
 
   pub below-pack : belowOf (pack k b a) ≡ b
@@ -102,27 +102,27 @@ each-at P (n ∷ l) k (suc i) j e z h = each-at P l k i (suc j) (omega arith) z 
 
 -- what holds of nothing, and of the node of each of the eleven kinds that the word w at a place may have
 pub node-by : (P : FormNode → Type 0) (s : List ℕ) (i : ℕ) {w : ℕ} → w ≡ wordAt s i → P Nothing →
-    (kindOf w ≡ 1 → P (Number (constantOf (argOf w)))) → (kindOf w ≡ 2 → P (Truth (eqb (argOf w) 1))) → (kindOf w ≡ 3 → P (Row (argOf w % 1024))) →
-    (kindOf w ≡ 4 → P (Cell (argOf w / 1024 % 1024) (argOf w % 1024))) → (kindOf w ≡ 5 → P (Record (next s i))) →
-    (kindOf w ≡ 6 → P (Binary (opAt (argOf w)) (next s (i + 1)))) → (kindOf w ≡ 7 → P Negation) →
-    (kindOf w ≡ 8 → P (Comprehension (monoidAt (argOf w % 8)))) → (kindOf w ≡ 9 → P (Generator (argOf w / 1024 % 1024) (argOf w % 1024))) →
-    (kindOf w ≡ 10 → P (Condition (next s i))) → (kindOf w ≡ 11 → P (Operator (funAt (argOf w)) (next s i))) → P (nodeAt s i)
+    (formKindOf w ≡ 1 → P (Number (constantOf (argOf w)))) → (formKindOf w ≡ 2 → P (Truth (eqb (argOf w) 1))) → (formKindOf w ≡ 3 → P (Row (argOf w % 1024))) →
+    (formKindOf w ≡ 4 → P (Cell (argOf w / 1024 % 1024) (argOf w % 1024))) → (formKindOf w ≡ 5 → P (Record (next s i))) →
+    (formKindOf w ≡ 6 → P (Binary (opAt (argOf w)) (next s (i + 1)))) → (formKindOf w ≡ 7 → P Negation) →
+    (formKindOf w ≡ 8 → P (Comprehension (monoidAt (argOf w % 8)))) → (formKindOf w ≡ 9 → P (Generator (argOf w / 1024 % 1024) (argOf w % 1024))) →
+    (formKindOf w ≡ 10 → P (Condition (next s i))) → (formKindOf w ≡ 11 → P (Operator (funAt (argOf w)) (next s i))) → P (nodeAt s i)
 unfolding nodeAt nodeOf pick
-node-by P s i {w} e z h1 h2 h3 h4 h5 h6 h7 h8 h9 h10 h11 = subst (λ x. P (pick (leb formWords i) Nothing (nodeOf s i (kindOf x) (argOf x)))) e (go (leb formWords i))
+node-by P s i {w} e z h1 h2 h3 h4 h5 h6 h7 h8 h9 h10 h11 = subst (λ x. P (pick (leb formWords i) Nothing (nodeOf s i (formKindOf x) (argOf x)))) e (go (leb formWords i))
   where
-    go : (b : Bool) → P (pick b Nothing (nodeOf s i (kindOf w) (argOf w)))
+    go : (b : Bool) → P (pick b Nothing (nodeOf s i (formKindOf w) (argOf w)))
     go true = z
-    go false = each-at P (kinds s i (argOf w)) (kindOf w) (kindOf w) 0 (omega arith) z ((λ q. z), (h1, (h2, (h3, (h4, (h5, (h6, (h7, (h8, (h9, (h10, (h11, tt))))))))))))
+    go false = each-at P (kinds s i (argOf w)) (formKindOf w) (formKindOf w) 0 (omega arith) z ((λ q. z), (h1, (h2, (h3, (h4, (h5, (h6, (h7, (h8, (h9, (h10, (h11, tt))))))))))))
 
 pub look-out : {s : List ℕ} {i : ℕ} → formWords ≤ i → Looks s i Nothing
 unfolding nodeAt pick
 look-out {s} {i} p = record { is = rw (le-leb formWords i p); inside = tt }
 
 -- w: the word; a and k: its argument and its kind, as they were read
-module _ {s : List ℕ} {i w a k : ℕ} (p : i < formWords) (e : w ≡ wordAt s i) (A : (a ≡ argOf w) × (a < 2 ^ 50)) (K : k ≡ kindOf w) where
+module _ {s : List ℕ} {i w a k : ℕ} (p : i < formWords) (e : w ≡ wordAt s i) (A : (a ≡ argOf w) × (a < 2 ^ 50)) (K : k ≡ formKindOf w) where
   look-by : {n : FormNode} → Inside i n → n ≡ nodeOf s i k a → Looks s i n
   unfolding nodeAt pick
-  look-by q h = record { is = rw (lt-leb formWords i p) (h ∙ ap₂ (nodeOf s i) K (A .0) ∙ ap (λ x. nodeOf s i (kindOf x) (argOf x)) e); inside = q }
+  look-by q h = record { is = rw (lt-leb formWords i p) (h ∙ ap₂ (nodeOf s i) K (A .0) ∙ ap (λ x. nodeOf s i (formKindOf x) (argOf x)) e); inside = q }
 
   pub look-number : {z : ℤ} → k ≡ 1 → z ≡ constantOf (a) → Looks s i (Number z)
   unfolding nodeOf
@@ -144,7 +144,7 @@ module _ {s : List ℕ} {i w a k : ℕ} (p : i < formWords) (e : w ≡ wordAt s 
   unfolding nodeOf
   look-record l q = look-by (rw q (next-past s i p), rw q (next-most s i)) (rw (l, q))
 
-  pub look-binary : {o : Op} {j : ℕ} → k ≡ 6 → o ≡ opAt (a) → j ≡ next s (i + 1) → Looks s i (Binary o j)
+  pub look-binary : {o : BinOp} {j : ℕ} → k ≡ 6 → o ≡ opAt (a) → j ≡ next s (i + 1) → Looks s i (Binary o j)
   unfolding nodeOf next
   look-binary l q r = look-by (omega arith, omega arith) (rw (l, q, r))
 
@@ -169,7 +169,7 @@ module _ {s : List ℕ} {i w a k : ℕ} (p : i < formWords) (e : w ≡ wordAt s 
   look-operator l q r = look-by (rw r (next-past s i p), rw r (next-most s i)) (rw (l, q, r))
 
 -- a kind that is none of the eleven
-pub look-rest : {s : List ℕ} {i w k : ℕ} → w ≡ wordAt s i → k ≡ kindOf w →
+pub look-rest : {s : List ℕ} {i w k : ℕ} → w ≡ wordAt s i → k ≡ formKindOf w →
     (k ≡ 1 → ⊥) → (k ≡ 2 → ⊥) → (k ≡ 3 → ⊥) → (k ≡ 4 → ⊥) → (k ≡ 5 → ⊥) → (k ≡ 6 → ⊥) →
     (k ≡ 7 → ⊥) → (k ≡ 8 → ⊥) → (k ≡ 9 → ⊥) → (k ≡ 10 → ⊥) → (k ≡ 11 → ⊥) → Looks s i Nothing
 look-rest {s} {i} e K n1 n2 n3 n4 n5 n6 n7 n8 n9 n10 n11 = record {
@@ -185,7 +185,7 @@ monoid-word s i {w} {m} e = node-by (λ n. n ≡ Comprehension m → monoidAt (a
 pub leaf-out : {s : List ℕ} {i : ℕ} → formWords ≤ i → LeafAtPost s i Le.Other
 leaf-out p = record { is = ap leafOf (look-out p .is) }
 
-module _ {s : List ℕ} {i w a k : ℕ} (p : i < formWords) (e : w ≡ wordAt s i) (A : (a ≡ argOf w) × (a < 2 ^ 50)) (K : k ≡ kindOf w) where
+module _ {s : List ℕ} {i w a k : ℕ} (p : i < formWords) (e : w ≡ wordAt s i) (A : (a ≡ argOf w) × (a < 2 ^ 50)) (K : k ≡ formKindOf w) where
   pub leaf-number : {z : ℤ} → k ≡ 1 → z ≡ constantOf a → LeafAtPost s i (Le.Number z)
   leaf-number l q = record { is = ap leafOf (look-number p e A K l q .is) }
 
@@ -193,7 +193,7 @@ module _ {s : List ℕ} {i w a k : ℕ} (p : i < formWords) (e : w ≡ wordAt s 
   leaf-cell l q r = record { is = ap leafOf (look-cell p e A K l q r .is) }
 
 -- a kind that is neither a number's nor a cell's
-pub leaf-rest : {s : List ℕ} {i w k : ℕ} → w ≡ wordAt s i → k ≡ kindOf w → (k ≡ 1 → ⊥) → (k ≡ 4 → ⊥) → LeafAtPost s i Le.Other
+pub leaf-rest : {s : List ℕ} {i w k : ℕ} → w ≡ wordAt s i → k ≡ formKindOf w → (k ≡ 1 → ⊥) → (k ≡ 4 → ⊥) → LeafAtPost s i Le.Other
 leaf-rest {s} {i} e K n1 n4 = record {
   is = node-by (λ n. Le.Other ≡ leafOf n) s i e refl (λ q. absurd (n1 (K ∙ q))) (λ q. refl) (λ q. refl) (λ q. absurd (n4 (K ∙ q))) (λ q. refl) (λ q. refl) (λ q. refl) (λ q. refl) (λ q. refl) (λ q. refl) (λ q. refl);
 }
@@ -228,10 +228,10 @@ leaf-recast {s} {i} H e = record { is = subst (LeafIs (nodeAt s i)) (sym (H .is)
 pub monoid-out : {s : List ℕ} {i : ℕ} → formWords ≤ i → MonoidOfPost s i Mr.Other
 monoid-out p = record { is = ap monoidIn (look-out p .is) }
 
-pub monoid-is : {s : List ℕ} {i w a k : ℕ} {m : Monoid} → i < formWords → w ≡ wordAt s i → (a ≡ argOf w) × (a < 2 ^ 50) → k ≡ kindOf w → k ≡ 8 → m ≡ monoidAt (a % 8) → MonoidOfPost s i (Mr.Is m)
+pub monoid-is : {s : List ℕ} {i w a k : ℕ} {m : Monoid} → i < formWords → w ≡ wordAt s i → (a ≡ argOf w) × (a < 2 ^ 50) → k ≡ formKindOf w → k ≡ 8 → m ≡ monoidAt (a % 8) → MonoidOfPost s i (Mr.Is m)
 monoid-is p e A K l q = record { is = ap monoidIn (look-comprehension p e A K l q .is) }
 
-pub monoid-rest : {s : List ℕ} {i w k : ℕ} → w ≡ wordAt s i → k ≡ kindOf w → (k ≡ 8 → ⊥) → MonoidOfPost s i Mr.Other
+pub monoid-rest : {s : List ℕ} {i w k : ℕ} → w ≡ wordAt s i → k ≡ formKindOf w → (k ≡ 8 → ⊥) → MonoidOfPost s i Mr.Other
 monoid-rest {s} {i} e K n8 = record {
   is = node-by (λ n. Mr.Other ≡ monoidIn n) s i e refl (λ q. refl) (λ q. refl) (λ q. refl) (λ q. refl) (λ q. refl) (λ q. refl) (λ q. refl) (λ q. absurd (n8 (K ∙ q))) (λ q. refl) (λ q. refl) (λ q. refl);
 }
@@ -241,7 +241,7 @@ pub clause-out : {s : List ℕ} {i : ℕ} → formWords ≤ i → LooksC s i Cl.
 unfolding nodeAt pick
 clause-out {s} {i} p = record { is = rw (le-leb formWords i p); inside = tt }
 
-module _ {s : List ℕ} {i w a k : ℕ} (p : i < formWords) (e : w ≡ wordAt s i) (A : (a ≡ argOf w) × (a < 2 ^ 50)) (K : k ≡ kindOf w) where
+module _ {s : List ℕ} {i w a k : ℕ} (p : i < formWords) (e : w ≡ wordAt s i) (A : (a ≡ argOf w) × (a < 2 ^ 50)) (K : k ≡ formKindOf w) where
   pub clause-generator : {g t : ℕ} → k ≡ 9 → (g ≡ a / 1024 % 1024) × (g < 1024) → (t ≡ a % 1024) × (t < 1024) → LooksC s i (Cl.Generator g t)
   clause-generator l q r = let L = look-generator p e A K l q r in record { is = ap clauseOf (L .is); inside = L .inside }
 
@@ -249,7 +249,7 @@ module _ {s : List ℕ} {i w a k : ℕ} (p : i < formWords) (e : w ≡ wordAt s 
   clause-condition l q = let L = look-condition p e A K l q in record { is = ap clauseOf (L .is); inside = L .inside }
 
 -- a kind that is neither a generator's nor a condition's
-pub clause-head : {s : List ℕ} {i w k : ℕ} → w ≡ wordAt s i → k ≡ kindOf w → (k ≡ 9 → ⊥) → (k ≡ 10 → ⊥) → LooksC s i Cl.Head
+pub clause-head : {s : List ℕ} {i w k : ℕ} → w ≡ wordAt s i → k ≡ formKindOf w → (k ≡ 9 → ⊥) → (k ≡ 10 → ⊥) → LooksC s i Cl.Head
 clause-head {s} {i} e K n9 n10 = record {
   is = node-by (λ n. Cl.Head ≡ clauseOf n) s i e refl (λ q. refl) (λ q. refl) (λ q. refl) (λ q. refl) (λ q. refl) (λ q. refl) (λ q. refl) (λ q. refl) (λ q. absurd (n9 (K ∙ q))) (λ q. absurd (n10 (K ∙ q))) (λ q. refl);
   inside = tt;

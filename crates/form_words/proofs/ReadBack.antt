@@ -19,10 +19,10 @@ use Rattle.base_syntax.specs.Numbers.{opArg, opAt, funArg, funAt, monoidArg, mo
 use Rattle.form_words.specs.declared.FormNode.{FormNode}
 use Rattle.form_words.specs.declared.FormNode.the-variants.{Number, Truth, Row, Cell, Record, Binary, Negation, Operator, Comprehension, Generator, Condition}
 use Rattle.form_words.specs.declared.Clause.the-variants as Cl
-use Rattle.form_words.specs.NodeWord.{wordAt, kindOf, belowOf, argOf, pack, next, nodeOf, nodeAt}
+use Rattle.form_words.specs.NodeWord.{wordAt, formKindOf, belowOf, argOf, pack, next, nodeOf, nodeAt}
 use Rattle.form_words.specs.FormTree.{clauseOf, formTree, formsTree, clausesTree, headTree, left}
 use Rattle.base_windows.specs.KeptCalendars.{calendarIn}
-use Rattle.form_words.specs.FormWords.{Lent, LentF, LentC, size, sizeF, sizeC, numberArg, flat, flatF, flatC, Fits, FitsF, FitsC, Holds}
+use Rattle.form_words.specs.FormWords.{CalendarsIn, CalendarsInAll, CalendarsInClauses, size, sizeF, sizeC, numberArg, flat, flatF, flatC, Fits, FitsF, FitsC, Holds}
 use Rattle.base_scratch.specs.Map.{formWords}
 use Rattle.form_words.proofs.NodeWords.{kind-pack, below-pack, arg-pack, formNode, clausesNode, headNode}
 
@@ -134,7 +134,7 @@ module _ (s : List ℕ) where
   module _ (i k b a : ℕ) (h : wordAt s i ≡ pack k b a) (hk : k < 16) (hi : i + b < formWords) where
     node-found : nodeAt s i ≡ nodeOf s i k a
     unfolding nodeAt pick
-    node-found = rw (lt-leb formWords i (omega arith)) (ap₂ (nodeOf s i) (ap kindOf h ∙ kind-pack k b a hk (omega arith)) (ap argOf h ∙ arg-pack k b a hk (omega arith)))
+    node-found = rw (lt-leb formWords i (omega arith)) (ap₂ (nodeOf s i) (ap formKindOf h ∙ kind-pack k b a hk (omega arith)) (ap argOf h ∙ arg-pack k b a hk (omega arith)))
 
     next-found : next s i ≡ i + suc b
     unfolding next
@@ -233,7 +233,7 @@ module _ (s : List ℕ) where
   mutual
     unfolding flat size pick nodeOf
 
-    pub read : (t : Form) (f i : ℕ) → Fits t → Lent (calendarIn s) t → i + size t ≤ formWords → Holds s i (flat t) → 2 * size t ≤ f → formTree f s i ≡ t
+    pub read : (t : Form) (f i : ℕ) → Fits t → CalendarsIn (calendarIn s) t → i + size t ≤ formWords → Holds s i (flat t) → 2 * size t ≤ f → formTree f s i ≡ t
     read (num z) f i w y l h m = opened (num z) f i w l h (omega arith)
     read (truth b) f i w y l h m = opened (truth b) f i w l h (omega arith)
     read (row g) f i w y l h m = opened (row g) f i w l h (omega arith)
@@ -261,7 +261,7 @@ module _ (s : List ℕ) where
         ∙ ap₂ (comp m) (readC q u (pred f) (i + 1) (i + 1 + sizeC q) (w .0) (y .0) (w .1) (omega arith) h₁ h₂ refl (omega arith))
         (readH u (i + 1 + sizeC q) (w .1) (omega arith) h₂ (λ g x. read u g (i + 1 + sizeC q) (w .1) (y .1) (omega arith) h₂ x) q (pred f) (i + 1) (w .0) h₁ refl (omega arith))
 
-    pub readF : (ts : Forms) (f i e : ℕ) → FitsF ts → LentF (calendarIn s) ts → i + sizeF ts ≤ formWords → Holds s i (flatF ts) → 2 * sizeF ts < f → e ≡ i + sizeF ts → formsTree f s i e ≡ ts
+    pub readF : (ts : Forms) (f i e : ℕ) → FitsF ts → CalendarsInAll (calendarIn s) ts → i + sizeF ts ≤ formWords → Holds s i (flatF ts) → 2 * sizeF ts < f → e ≡ i + sizeF ts → formsTree f s i e ≡ ts
     readF fnil f i e w y l h m p = forms-at f i e (omega arith) ∙ rw (le-leb e i (omega arith))
     readF (fcons t ts) f i e w y l h m p =
         let h₁ = holds-first s (flat t) (flatF ts) i h in
@@ -271,7 +271,7 @@ module _ (s : List ℕ) where
         (readF ts (pred f) (next s i) e (w .1) (y .1) (omega arith) (holds-second s (flat t) (flatF ts) i (next s i) (omega (arith, length-flat t)) h) (omega (arith, size-some t)) (omega arith)))
 
     -- clauses, with the words of a form at e behind them
-    pub readC : (q : Clauses) (u : Form) (f i e : ℕ) → FitsC q → LentC (calendarIn s) q → Fits u → e + size u ≤ formWords → Holds s i (flatC q) → Holds s e (flat u) → e ≡ i + sizeC q → 2 * sizeC q < f → clausesTree f s i ≡ q
+    pub readC : (q : Clauses) (u : Form) (f i e : ℕ) → FitsC q → CalendarsInClauses (calendarIn s) q → Fits u → e + size u ≤ formWords → Holds s i (flatC q) → Holds s e (flat u) → e ≡ i + sizeC q → 2 * sizeC q < f → clausesTree f s i ≡ q
     readC done u f i e w y v l h k p m =
         clauses-at f i (omega arith)
         ∙ ap (clausesNode (pred f) s i) (subst (λ x. clauseOf (nodeAt s x) ≡ Cl.Head) (omega arith) (ap clauseOf (node-is u e v l k) ∙ head-node u e))
@@ -286,5 +286,5 @@ module _ (s : List ℕ) where
         (readC q u (pred f) (next s i) e (w .1) (y .1) v l (holds-second s (flat t) (flatC q) (i + 1) (next s i) (omega (arith, length-flat t)) (h .1)) k (omega arith) (omega arith))
 
 -- Where scratch holds the words of a form from place i on, and the calendars that it was lent, the form is read there, at every fuel that is enough.
-pub read-back : (t : Form) (s : List ℕ) (i : ℕ) → Fits t → Lent (calendarIn s) t → i + length (flat t) ≤ formWords → Holds s i (flat t) → (f : ℕ) → left i < f → formTree f s i ≡ t
+pub read-back : (t : Form) (s : List ℕ) (i : ℕ) → Fits t → CalendarsIn (calendarIn s) t → i + length (flat t) ≤ formWords → Holds s i (flat t) → (f : ℕ) → left i < f → formTree f s i ≡ t
 read-back t s i w y l h f m = read s t f i w y (omega (arith, length-flat t)) h (omega (arith, length-flat t))

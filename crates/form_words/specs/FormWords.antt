@@ -85,25 +85,25 @@ abbrev mutual
 
 -- each calendar is that of its number
 abbrev mutual
-  pub Lent : (ℕ → Calendar) → Form → Type 0
-  Lent K (num z) = Unit {0}
-  Lent K (truth b) = Unit {0}
-  Lent K (row g) = Unit {0}
-  Lent K (cell c g) = Unit {0}
-  Lent K (rec ts) = LentF K ts
-  Lent K (bin o s t) = Lent K s × Lent K t
-  Lent K (negate t) = Lent K t
-  Lent K (app f ts) = LentOp K f × LentF K ts
-  Lent K (comp m q h) = LentC K q × Lent K h
+  pub CalendarsIn : (ℕ → Calendar) → Form → Type 0
+  CalendarsIn K (num z) = Unit {0}
+  CalendarsIn K (truth b) = Unit {0}
+  CalendarsIn K (row g) = Unit {0}
+  CalendarsIn K (cell c g) = Unit {0}
+  CalendarsIn K (rec ts) = CalendarsInAll K ts
+  CalendarsIn K (bin o s t) = CalendarsIn K s × CalendarsIn K t
+  CalendarsIn K (negate t) = CalendarsIn K t
+  CalendarsIn K (app f ts) = LentOp K f × CalendarsInAll K ts
+  CalendarsIn K (comp m q h) = CalendarsInClauses K q × CalendarsIn K h
 
-  pub LentF : (ℕ → Calendar) → Forms → Type 0
-  LentF K fnil = Unit {0}
-  LentF K (fcons t ts) = Lent K t × LentF K ts
+  pub CalendarsInAll : (ℕ → Calendar) → Forms → Type 0
+  CalendarsInAll K fnil = Unit {0}
+  CalendarsInAll K (fcons t ts) = CalendarsIn K t × CalendarsInAll K ts
 
-  pub LentC : (ℕ → Calendar) → Clauses → Type 0
-  LentC K done = Unit {0}
-  LentC K (gen g k q) = LentC K q
-  LentC K (cond t q) = Lent K t × LentC K q
+  pub CalendarsInClauses : (ℕ → Calendar) → Clauses → Type 0
+  CalendarsInClauses K done = Unit {0}
+  CalendarsInClauses K (gen g k q) = CalendarsInClauses K q
+  CalendarsInClauses K (cond t q) = CalendarsIn K t × CalendarsInClauses K q
 
 abbrev pub Holds : List ℕ → ℕ → List ℕ → Type 0
 Holds s i [] = Unit {0}

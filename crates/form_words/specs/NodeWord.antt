@@ -15,8 +15,8 @@ use Rattle.form_words.specs.declared.FormNode.the-variants.{Number, Trut
 abbrev pub wordAt : List ℕ → ℕ → ℕ
 wordAt s i = getD s (formAt + i) 0
 
-abbrev pub kindOf : ℕ → ℕ
-kindOf w = w % 16
+abbrev pub formKindOf : ℕ → ℕ
+formKindOf w = w % 16
 
 abbrev pub belowOf : ℕ → ℕ
 belowOf w = w / 16 % 1024
@@ -51,4 +51,4 @@ unfoldable pub nodeOf : List ℕ → ℕ → ℕ → ℕ → FormNode
 nodeOf s i k a = getD (kinds s i a) k Nothing
 
 unfoldable pub nodeAt : List ℕ → ℕ → FormNode
-nodeAt s i = pick (leb formWords i) Nothing (nodeOf s i (kindOf (wordAt s i)) (argOf (wordAt s i)))
+nodeAt s i = pick (leb formWords i) Nothing (nodeOf s i (formKindOf (wordAt s i)) (argOf (wordAt s i)))

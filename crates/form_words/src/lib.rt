@@ -3,7 +3,7 @@
 ghost use mathlib.Core.Path.{_≡_};
 ghost use Prim.Native.Nat.{_+_, _%_, _<_, _^_};
 ghost use lib.ListN.{set};
-ghost use Rattle.form_words.specs.NodeWord.{wordAt, kindOf, belowOf, argOf, pack, next, uptoPlace, branchPlace};
+ghost use Rattle.form_words.specs.NodeWord.{wordAt, formKindOf, belowOf, argOf, pack, next, uptoPlace, branchPlace};
 ghost use Rattle.base_syntax.specs.Numbers.{constantOf};
 ghost use Rattle.base_scratch.specs.Map.{formAt};
 ghost use Rattle.form_words.specs.Look.{Looks, LeafAtPost, MonoidOfPost, LooksC};
@@ -11,10 +11,10 @@ use base_scratch::FORM;
 use base_scratch::FORM_WORDS;
 use base_scratch::load_at;
 use base_scratch::store_at;
+use base_syntax::BinOp;
 use base_syntax::Fun;
 use base_syntax::Monoid;
 use base_syntax::OFFSET;
-use base_syntax::Op;
 
 // The kinds of nodes (specs/Kinds.antt).
 pub const NUMBER: u64 = 1;
@@ -55,7 +55,7 @@ pub enum FormNode {
     Row(usize),
     Cell(usize, usize),
     Record(usize),
-    Binary(Op, usize),
+    Binary(BinOp, usize),
     Negation,
     Operator(Fun, usize),
     Comprehension(Monoid),
@@ -93,7 +93,7 @@ pub fn word(s: &[u64], i: usize) -> u64
 
 // The fields of a word.
 pub fn kind(w: u64) -> u64
-    ensures { λ r. ⌜ r ≡ kindOf w ⌝ }
+    ensures { λ r. ⌜ r ≡ formKindOf w ⌝ }
 {
     w % KINDS
 }
@@ -177,7 +177,7 @@ pub fn look(s: &[u64], i: usize) -> FormNode
         ROW => FormNode::Row(low(a)),
         CELL => FormNode::Cell(low(a / PAIR), low(a)),
         RECORD => FormNode::Record(next(s, i)),
-        BINARY => FormNode::Binary(Op::from_number(a), next(s, i + 1)),
+        BINARY => FormNode::Binary(BinOp::from_number(a), next(s, i + 1)),
         NEGATION => FormNode::Negation,
         COMPREHENSION => FormNode::Comprehension(Monoid::from_bits(a)),
         GENERATOR => FormNode::Generator(low(a / PAIR), low(a)),

@@ -23,7 +23,7 @@ use Rattle.base_signed.proofs.SignedWords.{by-test}
 use Rattle.base_syntax.specs.declared.Monoid.{Monoid}
 use Rattle.base_syntax.specs.MonoidWord.{monoidOf}
 use Rattle.base_syntax.specs.declared.Fun.{Fun}
-use Rattle.base_syntax.specs.declared.Op.{Op}
+use Rattle.base_syntax.specs.declared.BinOp.{BinOp}
 use Rattle.base_syntax.specs.Numbers.{binOf, funOf, lentOf}
 use Rattle.base_syntax.specs.declared.Fun.the-variants.{Choice, Open}
 use Rattle.base_windows.specs.KeptCalendars.{calendarIn}
@@ -202,7 +202,7 @@ module _ {D : Declared} {s : List ℕ} {i : ℕ} {r : Size} where
   unfolding bound within
   size-record H W U = sized H (λ f l. record { bound-is = U .bound-is; fits-is = U .fits-is ∙ W .is f (omega (arith, H .inside .0, H .inside .1)) })
 
-  pub size-binary : {o : Op} {j b : ℕ} {u : Bool} {x y : Size} → Looks s i (Binary o j) → FormSizePost D s (i + 1) x → FormSizePost D s j y →
+  pub size-binary : {o : BinOp} {j b : ℕ} {u : Bool} {x y : Size} → Looks s i (Binary o j) → FormSizePost D s (i + 1) x → FormSizePost D s j y →
       b ≡ cut (binBound (binOf o) (x .bound) (y .bound)) → u ≡ (x .fits && y .fits) → CheckedPost b u r → FormSizePost D s i r
   unfolding bound within
   size-binary {o} {j} H X Y p q C = sized H (λ f l.
@@ -436,5 +436,5 @@ pub verdict : {D : Declared} {s : List ℕ} {a : Size} → FormSizePost D s 0 a 
 verdict A = record { is = λ f l. A .is f l .fits-is }
 
 -- Where scratch holds the words of a normal form, and D says of each generator what its table's columns declare, the answer is whether its numbers fit.
-pub verdict-is : {D : Declared} {s : List ℕ} {r : Bool} → BoundFitsPost D s r → (B : Declared) (n : NormalForm) → Numbered (asForm n) 0 → Named D B (asForm n) → Fl.Fits (asForm n) → Fl.Lent (calendarIn s) (asForm n) → length (flat (asForm n)) ≤ formWords → Holds s 0 (flat (asForm n)) → r ≡ numbersFit B n
+pub verdict-is : {D : Declared} {s : List ℕ} {r : Bool} → BoundFitsPost D s r → (B : Declared) (n : NormalForm) → Numbered (asForm n) 0 → Named D B (asForm n) → Fl.Fits (asForm n) → Fl.CalendarsIn (calendarIn s) (asForm n) → length (flat (asForm n)) ≤ formWords → Holds s 0 (flat (asForm n)) → r ≡ numbersFit B n
 verdict-is {D} {s} A B n u v w y l h = A .is (left 0 + 1) (omega arith) ∙ ap (within D) (read-back (asForm n) s 0 w y (omega arith) h (left 0 + 1) (omega arith)) ∙ numbers-fit-as B D n u v

@@ -11,9 +11,9 @@ ghost use Rattle.form_env.specs.Environment.{declaredIn};
 ghost use Rattle.front_bounds.specs.CutBounds.{cut, perGenerator, perGenerators, perHead, CheckedPost, UnboundedPost, FormSizePost, ClausesSizePost, RecordFitsPost, TermSizePost, OperatorSizePost, BoundFitsPost};
 use base_signed::NUMBER_LIMIT;
 use base_signed::magnitude;
+use base_syntax::BinOp;
 use base_syntax::Fun;
 use base_syntax::Monoid;
-use base_syntax::Op;
 use form_env::declared;
 use form_words::Clause;
 use form_words::FormNode;
@@ -51,17 +51,17 @@ fn mul(a: u64, b: u64) -> u64
     if b <= OVER / a { a * b } else { OVER }
 }
 
-fn binary_bound(o: Op, a: u64, b: u64) -> u64
+fn binary_bound(o: BinOp, a: u64, b: u64) -> u64
     ensures { λ r. ⌜ r ≡ cut (binBound (binOf o) a b) ⌝ }
 {
     match o {
-        Op::Plus => add(a, b),
-        Op::Minus => add(a, b),
-        Op::Times => mul(a, b),
-        Op::Equal => 0,
-        Op::Less => 0,
-        Op::And => 0,
-        Op::Or => 0,
+        BinOp::Plus => add(a, b),
+        BinOp::Minus => add(a, b),
+        BinOp::Times => mul(a, b),
+        BinOp::Equal => 0,
+        BinOp::Less => 0,
+        BinOp::And => 0,
+        BinOp::Or => 0,
     }
 }
 

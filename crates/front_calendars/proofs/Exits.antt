@@ -7,21 +7,21 @@ use native.Mathlib.Omega.{arith}
 use lib.Dec.{eqb, ltb}
 use borrow.Author.Tests.{eq-eqb, ne-eqb}
 use Rattle.spec_calculus.specs.Lists.{pick}
-use Rattle.front_words.specs.NodeWord.{kindOf, argOf, nodeWord}
+use Rattle.front_words.specs.NodeWord.{nodeKindOf, argOf, nodeWord}
 use Rattle.front_words.specs.NodeTree.{argAt}
 use Rattle.front_calendars.specs.LentNodes.{lentAt, lentFrom}
 
 -- ---- one node
-module _ (k : ℕ) (s : List ℕ) (i : ℕ) {w x : ℕ} (ew : w ≡ nodeWord s i) (ex : x ≡ kindOf w) where
+module _ (k : ℕ) (s : List ℕ) (i : ℕ) {w x : ℕ} (ew : w ≡ nodeWord s i) (ex : x ≡ nodeKindOf w) where
   pub lent-open : x ≡ 21 → {a : ℕ} {r : Bool} → a ≡ argOf w → r ≡ ltb a k → r ≡ lentAt k s i
   unfolding lentAt pick
   lent-open h {a} ea er =
       er ∙ ap (λ (y : ℕ). ltb y k) (ea ∙ ap argOf ew)
-      ∙ sym (ap (λ (b : Bool). pick b (ltb (argAt s i) k) true) (eq-eqb (kindOf (nodeWord s i)) 21 (sym (ex ∙ ap kindOf ew) ∙ h)))
+      ∙ sym (ap (λ (b : Bool). pick b (ltb (argAt s i) k) true) (eq-eqb (nodeKindOf (nodeWord s i)) 21 (sym (ex ∙ ap nodeKindOf ew) ∙ h)))
 
   pub lent-other : (x ≡ 21 → ⊥) → true ≡ lentAt k s i
   unfolding lentAt pick
-  lent-other h = sym (ap (λ (b : Bool). pick b (ltb (argAt s i) k) true) (ne-eqb (kindOf (nodeWord s i)) 21 (λ e. h (ex ∙ ap kindOf ew ∙ e))))
+  lent-other h = sym (ap (λ (b : Bool). pick b (ltb (argAt s i) k) true) (ne-eqb (nodeKindOf (nodeWord s i)) 21 (λ e. h (ex ∙ ap nodeKindOf ew ∙ e))))
 
 -- ---- those from the loop's on decide, as long as all before it pass
 module _ (k : ℕ) (s : List ℕ) (n : ℕ) where

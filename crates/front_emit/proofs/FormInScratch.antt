@@ -21,8 +21,8 @@ use Rattle.form_words.specs.FormWords.{size, sizeF, sizeC, flat, flatF, flatC, 
 use Rattle.base_scratch.specs.Map.{formAt, formWords}
 use Rattle.front_nodes.specs.NodeTable.{nodesOf}
 use Rattle.front_nodes.proofs.PostOrder.{post-order}
-use Rattle.front_resolve.specs.Place.{envOf, offsets}
-use Rattle.front_emit.specs.declared.State.{State}
+use Rattle.front_resolve.specs.Resolved.{envOf, offsets}
+use Rattle.front_emit.specs.declared.WriterState.{WriterState}
 use Rattle.front_emit.specs.WriterResult.{packed, Buffer, buffer, put, Emitted}
 use Rattle.front_emit.specs.WriterStart.{collections, semS, EmitPre}
 use Rattle.front_emit.specs.WholeForm.{formOf, Writable, WriteFormPost}
@@ -101,7 +101,7 @@ puts-hold (x ∷ l) b h = (
 root-sem : (s : List ℕ) (i : ℕ) (l : List ℕ) → semS s i 0 (envOf l) ≡ semS s i 0 outside
 root-sem s i l = sem-local (collections s) (nodesOf s) (post-order s) (offsets s) i 0 (envOf l) outside (λ d h. absurd (omega arith))
 
-abbrev start : State
+abbrev start : WriterState
 start = record { place = 0; next = 0 }
 
 module _ {s : List ℕ} {i : ℕ} (W : Writable s i) (l : List ℕ) where
@@ -116,13 +116,13 @@ module _ {s : List ℕ} {i : ℕ} (W : Writable s i) (l : List ℕ) where
         room = record { numbered = omega arith; room = subst (λ d. 0 + words (quote d 0) ≤ formWords) (sym (root-sem s i l)) (omega arith) };
       }
 
-  pub whole-done : {s′ : List ℕ} {r : State} → Emitted (semS s i 0 (envOf l)) s start s′ r → WriteFormPost s i s′ (r .place)
+  pub whole-done : {s′ : List ℕ} {r : WriterState} → Emitted (semS s i 0 (envOf l)) s start s′ r → WriteFormPost s i s′ (r .place)
   whole-done {s′} {r} E =
       let t = formOf s i in
       let E′ : Emitted (semS s i 0 outside) s start s′ r = subst (λ d. Emitted d s start s′ r) (root-sem s i l) E in
       let b = buffer s 0 in
-      let w : s′ ≡ puts put (Wo.flat t) b .words = ap (λ (S : No.State Buffer). S .buffer .words) (E′ .is) in
-      let p : r .place ≡ puts put (Wo.flat t) b .place = ap (λ (S : No.State Buffer). S .buffer .place) (E′ .is) in
+      let w : s′ ≡ puts put (Wo.flat t) b .words = ap (λ (S : No.Writer Buffer). S .buffer .words) (E′ .is) in
+      let p : r .place ≡ puts put (Wo.flat t) b .place = ap (λ (S : No.Writer Buffer). S .buffer .place) (E′ .is) in
       let n = flat-length t in
       let v = puts-place (Wo.flat t) b in
       let c = W .short in

@@ -6,7 +6,7 @@ use native.Mathlib.Omega.{arith}
 use lib.ListN.{length, getD, set}
 use lib.Seq.{getD-set-other, set-comm}
 use Rattle.front_theory.specs.FormWords.{Word, words}
-use Rattle.front_theory.specs.Writer.{State, state, puts}
+use Rattle.front_theory.specs.Writer.{Writer, state, puts}
 use Rattle.base_scratch.specs.Map.{formAt}
 use Rattle.front_emit.specs.WriterResult.{packed, Buffer, buffer, put}
 
@@ -27,7 +27,7 @@ puts-kept (x ∷ l) b j n =
 abbrev late : ℕ → ℕ → Buffer → Buffer
 late p w b = buffer (set (b .words) (formAt + p) w) (b .place)
 
-abbrev pub lateS : ℕ → ℕ → State Buffer → State Buffer
+abbrev pub lateS : ℕ → ℕ → Writer Buffer → Writer Buffer
 lateS p w S = state (late p w (S .buffer)) (S .next)
 
 module _ (p w : ℕ) where
@@ -40,6 +40,6 @@ module _ (p w : ℕ) where
   puts-late [] b h = refl
   puts-late (x ∷ l) b h = ap (puts put l) (put-late x b h) ∙ puts-late l (put x b) (omega arith)
 
-  pub laid-late : (l : List Word) (n : ℕ) (S R : State Buffer) → p < S .buffer .place → R ≡ state (puts put l (S .buffer)) (S .next + n)
+  pub laid-late : (l : List Word) (n : ℕ) (S R : Writer Buffer) → p < S .buffer .place → R ≡ state (puts put l (S .buffer)) (S .next + n)
       → lateS p w R ≡ state (puts put l (late p w (S .buffer))) (S .next + n)
   laid-late l n S R h e = ap (lateS p w) e ∙ ap (λ (b : Buffer). state b (S .next + n)) (sym (puts-late l (S .buffer) h))

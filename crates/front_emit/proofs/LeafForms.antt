@@ -23,15 +23,15 @@ use Rattle.base_syntax.specs.Numbers.{constantOf, funOf, funArg}
 use Rattle.base_syntax.specs.declared.Fun.{Fun}
 use Rattle.front_nodes.specs.NodeTable.{above, nameBy, nodeBy, nodesOf}
 use Rattle.front_nodes.proofs.PostOrder.{by-pick}
-use Rattle.front_resolve.specs.Place.{Place, FormAt}
+use Rattle.front_resolve.specs.Resolved.{Resolved, FormAt}
 use Rattle.front_resolve.specs.declared.Form.{Form}
 use Rattle.front_resolve.specs.declared.Form.the-variants.{Number, Truth, Row, Cell, Record, Two, Not, Comp, Table, Operator, Bad}
 use Rattle.front_resolve.proofs.Form as form
-use Rattle.front_emit.specs.declared.State.{State}
+use Rattle.front_emit.specs.declared.WriterState.{WriterState}
 use Rattle.front_emit.specs.declared.Heading.{Heading}
 use Rattle.front_emit.specs.declared.Heading.the-variants.{Terms, Other}
 use Rattle.front_emit.specs.WriterResult.{LeafPost, Emitted}
-use Rattle.front_emit.specs.WriterStart.{placeS, tableS, simpleS, Room, TermOf, SimplePre, Headed, a-record, an-operator, Termed, HeadingIs, HeadingOfPost}
+use Rattle.front_emit.specs.WriterStart.{placeS, tableS, simpleS, FormRoom, TermOf, SimplePre, Headed, a-record, an-operator, Termed, HeadingIs, HeadingOfPost}
 use Rattle.front_emit.proofs.WriterExits.{leaf-num, leaf-truth, leaf-row, leaf-cell, leaf-arg}
 use Rattle.front_emit.proofs.TermCalls.{formS, some-word, headed-record, headed-operator}
 
@@ -120,7 +120,7 @@ module _ {f : Form} where
 abbrev pub leaves : List ℕ
 leaves = 0 ∷ 1 ∷ 2 ∷ 3 ∷ 4 ∷ 8 ∷ 9 ∷ 10 ∷ []
 
-leaf-form : (s : List ℕ) (h : Place) (f : Form) → (Termed f → ⊥) → OneOf leaves (tagOf form.the-type f) → formS s h f ≡ simpleS s f
+leaf-form : (s : List ℕ) (h : Resolved) (f : Form) → (Termed f → ⊥) → OneOf leaves (tagOf form.the-type f) → formS s h f ≡ simpleS s f
 leaf-form s h (Number z) u w = refl
 leaf-form s h (Truth b) u w = refl
 leaf-form s h (Row g) u w = refl
@@ -133,11 +133,11 @@ leaf-form s h (Table k) u w = refl
 leaf-form s h (Operator f) u w = absurd (u (11, funArg (funOf f), an-operator f))
 leaf-form s h Bad u w = refl
 
-module _ {s : List ℕ} (h : Place) {st : State} (u : Termed (h .form) → ⊥) (w : OneOf leaves (tagOf form.the-type (h .form))) where
+module _ {s : List ℕ} (h : Resolved) {st : WriterState} (u : Termed (h .form) → ⊥) (w : OneOf leaves (tagOf form.the-type (h .form))) where
   pub simple-starts : TermOf s h st → SimplePre s (h .form) (h .node) st
-  simple-starts S = record { depth = h .depth; form = S .fine .form; room = subst (λ d. Room st (words (quote d (st .next)))) (leaf-form s h (h .form) u w) (S .starts .room) }
+  simple-starts S = record { depth = h .depth; form = S .fine .form; room = subst (λ d. FormRoom st (words (quote d (st .next)))) (leaf-form s h (h .form) u w) (S .starts .room) }
 
-  pub simple-written : {s′ : List ℕ} {r : State} → Emitted (simpleS s (h .form)) s st s′ r → Emitted (placeS s h) s st s′ r
+  pub simple-written : {s′ : List ℕ} {r : WriterState} → Emitted (simpleS s (h .form)) s st s′ r → Emitted (placeS s h) s st s′ r
   simple-written {s′} {r} E = subst (λ d. Emitted d s st s′ r) (sym (leaf-form s h (h .form) u w)) E
 
 -- what none of number, truth, row, cell and table comes to
@@ -157,7 +157,7 @@ other-form s (Table k) w = absurd (miss others 8 tt w)
 other-form s (Operator f) w = refl
 other-form s Bad w = refl
 
-module _ {s : List ℕ} {f : Form} {i : ℕ} {st : State} (S : SimplePre s f i st) where
+module _ {s : List ℕ} {f : Form} {i : ℕ} {st : WriterState} (S : SimplePre s f i st) where
   pub one-place : st .place < formWords
   one-place = let v = S .room .room in omega (arith, some-word (quote (simpleS s f) (st .next)))
 
@@ -170,11 +170,11 @@ module _ {s : List ℕ} {f : Form} {i : ℕ} {st : State} (S : SimplePre s f i s
   pub row-small : {g : ℕ} → f ≡ Row g → g ≤ limit
   row-small e = form-of e
 
-  pub table-starts : {k : ℕ} → f ≡ Table k → Room st 3 × (k < 2 ^ 33)
+  pub table-starts : {k : ℕ} → f ≡ Table k → FormRoom st 3 × (k < 2 ^ 33)
   unfolding quote words
-  table-starts e = (subst (λ (g : Form). Room st (words (quote (simpleS s g) (st .next)))) e (S .room), form-of e .1)
+  table-starts e = (subst (λ (g : Form). FormRoom st (words (quote (simpleS s g) (st .next)))) e (S .room), form-of e .1)
 
-  module _ {s′ : List ℕ} {r : State} where
+  module _ {s′ : List ℕ} {r : WriterState} where
     simply : {g : Form} → f ≡ g → Emitted (simpleS s g) s st s′ r → Emitted (simpleS s f) s st s′ r
     simply e E = subst (λ (g : Form). Emitted (simpleS s g) s st s′ r) (sym e) E
 

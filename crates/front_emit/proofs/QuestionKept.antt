@@ -29,13 +29,13 @@ use Rattle.front_nodes.proofs.SameTable.{depth-same, children-same, qualifiers-
 use Rattle.front_words.specs.NodeTree.{kindAt}
 use Rattle.base_syntax.specs.Numbers.{funOf}
 use Rattle.base_syntax.specs.MonoidWord.{monoidOf}
-use Rattle.front_resolve.specs.Place.{Place, offsets, FormAt, Fine}
+use Rattle.front_resolve.specs.Resolved.{Resolved, offsets, FormAt, Fine}
 use Rattle.front_resolve.specs.declared.Form.{Form}
 use Rattle.front_resolve.specs.declared.Form.the-variants.{Number, Truth, Row, Cell, Record, Two, Not, Comp, Table, Operator, Bad}
-use Rattle.front_emit.specs.WriterStart.{collections, semS, Ready}
+use Rattle.front_emit.specs.WriterStart.{collections, semS, SizedNodes}
 
 -- the words before those of the normal form are the same
-pub record Kept (s s′ : List ℕ) : Type 0 where
+pub record QuestionKept (s s′ : List ℕ) : Type 0 where
   pub same : (j : ℕ) → j < formAt → getD s′ j 0 ≡ getD s j 0
 
 -- ---- offsets matter at generators alone
@@ -92,7 +92,7 @@ gen-inside s x c e = go (ltb x mostNodes) refl e
     go false t p = let z : _≡_ {A = ℕ} 0 1 = cc in absurd (omega arith)
 
 -- ---- what the scratch says
-module _ {s s′ : List ℕ} (H : Kept s s′) where
+module _ {s s′ : List ℕ} (H : QuestionKept s s′) where
   node-words : (j : ℕ) → j < mostNodes → nodeWord s′ j ≡ nodeWord s j
   node-words j h = H .same (16 + j) (omega arith)
 
@@ -114,7 +114,7 @@ module _ {s s′ : List ℕ} (H : Kept s s′) where
   node-kept : (i : ℕ) {y z : Node} → nodesOf s i ≡ y → y ≡ z → nodesOf s′ i ≡ z
   node-kept i e f = ap (λ (N : Nodes). N i) nodes-kept ∙ e ∙ f
 
-  pub fine-kept : {h : Place} → h .node < mostNodes → Fine s h → Fine s′ h
+  pub fine-kept : {h : Resolved} → h .node < mostNodes → Fine s h → Fine s′ h
   fine-kept {h} l F = record { form = go (h .form) (F .form); long = F .long }
     where
       go : (f : Form) → FormAt s (h .node) (h .depth) f → FormAt s′ (h .node) (h .depth) f
@@ -150,7 +150,7 @@ module _ {s s′ : List ℕ} (H : Kept s s′) where
       ap₂ (λ (K : ℕ → Collection) (N : Nodes). sem K N (offsets s′)) collections-kept nodes-kept
       ∙ sem-offsets (collections s) (nodesOf s) (offsets s′) (offsets s) (λ x c e. offsets-kept x (gen-inside s x c e))
 
-  pub ready-kept : {n : ℕ} → Ready s n → Ready s′ n
+  pub ready-kept : {n : ℕ} → SizedNodes s n → SizedNodes s′ n
   ready-kept R =
       let f = R .few in
       record {

@@ -17,10 +17,10 @@ use Rattle.base_syntax.specs.declared.Monoid.{Monoid}
 use Rattle.base_syntax.specs.declared.Monoid.the-variants as Mo
 use Rattle.base_syntax.specs.MonoidWord.{monoidOf}
 use Rattle.base_syntax.proofs.Monoid as monoid
-use Rattle.base_syntax.specs.declared.Op.{Op}
-use Rattle.base_syntax.specs.declared.Op.the-variants as Op
-use Rattle.base_syntax.proofs.Op as op
-use Rattle.front_resolve.specs.Place.{Place, bit, envOf}
+use Rattle.base_syntax.specs.declared.BinOp.{BinOp}
+use Rattle.base_syntax.specs.declared.BinOp.the-variants as BinOp
+use Rattle.base_syntax.proofs.BinOp as op
+use Rattle.front_resolve.specs.Resolved.{Resolved, bit, envOf}
 use Rattle.front_resolve.specs.declared.Form.{Form}
 use Rattle.front_resolve.specs.declared.Form.the-variants.{Number, Truth, Row, Cell, Record, Two, Not, Comp, Table, Operator, Bad}
 use Rattle.front_resolve.proofs.Form as form
@@ -46,14 +46,14 @@ notSome = 0 ∷ 1 ∷ 2 ∷ 3 ∷ 4 ∷ 6 ∷ 7 ∷ []
 abbrev pub undivided : List ℕ
 undivided = 0 ∷ 1 ∷ 2 ∷ 3 ∷ 4 ∷ 6 ∷ 8 ∷ 9 ∷ 10 ∷ []
 
-other-op : (o : Op) → OneOf notAnd (tagOf op.the-type o) → o ≡ Op.And → ⊥
-other-op Op.Plus w e = let z : _≡_ {A = ℕ} 0 1 = cc in omega arith
-other-op Op.Minus w e = let z : _≡_ {A = ℕ} 0 1 = cc in omega arith
-other-op Op.Times w e = let z : _≡_ {A = ℕ} 0 1 = cc in omega arith
-other-op Op.Equal w e = let z : _≡_ {A = ℕ} 0 1 = cc in omega arith
-other-op Op.Less w e = let z : _≡_ {A = ℕ} 0 1 = cc in omega arith
-other-op Op.And w e = miss notAnd 5 tt w
-other-op Op.Or w e = let z : _≡_ {A = ℕ} 0 1 = cc in omega arith
+other-op : (o : BinOp) → OneOf notAnd (tagOf op.the-type o) → o ≡ BinOp.And → ⊥
+other-op BinOp.Plus w e = let z : _≡_ {A = ℕ} 0 1 = cc in omega arith
+other-op BinOp.Minus w e = let z : _≡_ {A = ℕ} 0 1 = cc in omega arith
+other-op BinOp.Times w e = let z : _≡_ {A = ℕ} 0 1 = cc in omega arith
+other-op BinOp.Equal w e = let z : _≡_ {A = ℕ} 0 1 = cc in omega arith
+other-op BinOp.Less w e = let z : _≡_ {A = ℕ} 0 1 = cc in omega arith
+other-op BinOp.And w e = miss notAnd 5 tt w
+other-op BinOp.Or w e = let z : _≡_ {A = ℕ} 0 1 = cc in omega arith
 
 other-monoid : (m : Monoid) (v : Bool) → OneOf notSome (tagOf monoid.the-type m) → givesWay (monoidOf m) v ≡ false
 unfolding givesWay
@@ -83,9 +83,9 @@ module _ {f : Form} {v : Bool} where
   pub split-rest : OneOf undivided (tagOf form.the-type f) → SplitOfPost f v One
   split-rest w = record { is = other-form f v w }
 
-  module _ {o : Op} {a b : ℕ} (e : f ≡ Two o a b) where
-    pub split-and : o ≡ Op.And → SplitOfPost f v (And a b)
-    split-and p = record { is = e ∙ ap (λ (x : Op). Two x a b) p }
+  module _ {o : BinOp} {a b : ℕ} (e : f ≡ Two o a b) where
+    pub split-and : o ≡ BinOp.And → SplitOfPost f v (And a b)
+    split-and p = record { is = e ∙ ap (λ (x : BinOp). Two x a b) p }
 
     pub split-binary : OneOf notAnd (tagOf op.the-type o) → SplitOfPost f v One
     split-binary w = record { is = subst (λ (g : Form). Single g v) (sym e) (other-op o w) }
@@ -102,7 +102,7 @@ module _ {f : Form} {v : Bool} where
     split-comp w = record { is = subst (λ (g : Form). Single g v) (sym e) (other-monoid m v w) }
 
 -- ---- the environment in a copy
-pub copy-is : {h : Place} {m : Monoid} {v : Bool} {n : ℕ} {w : Bool} {l : List ℕ} → length (h .env) ≡ levels → h .depth < levels → w ≡ flagIn v m → l ≡ set (h .env) (h .depth) (2 * n + bit w) → Copies h m v n l
+pub copy-is : {h : Resolved} {m : Monoid} {v : Bool} {n : ℕ} {w : Bool} {l : List ℕ} → length (h .env) ≡ levels → h .depth < levels → w ≡ flagIn v m → l ≡ set (h .env) (h .depth) (2 * n + bit w) → Copies h m v n l
 copy-is {h} {n = n} {w} z d e p =
     record {
       is = ap envOf p ∙ env-set (h .env) (h .depth) n w (omega (arith, z, d)) ∙ ap (λ (b : Bool). enter (h .depth) n b (envOf (h .env))) e;

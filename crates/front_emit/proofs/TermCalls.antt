@@ -20,24 +20,24 @@ use Rattle.front_nodes.specs.Look.{nth, ChildPost}
 use Rattle.front_nodes.specs.Levels.{AllAt, Level}
 use Rattle.base_syntax.specs.declared.Fun.{Fun}
 use Rattle.base_syntax.specs.declared.Fun.the-variants.{Choice, Open}
-use Rattle.base_syntax.specs.declared.Op.{Op}
+use Rattle.base_syntax.specs.declared.BinOp.{BinOp}
 use Rattle.front_nodes.specs.declared.Found.the-variants as Fd
 use Rattle.front_nodes.proofs.PostOrder.{post-order}
-use Rattle.front_resolve.specs.Place.{Place, envOf, formSem, FormAt, Heads}
+use Rattle.front_resolve.specs.Resolved.{Resolved, envOf, formSem, FormAt, Heads}
 use Rattle.front_resolve.specs.declared.Form.{Form}
 use Rattle.front_resolve.specs.declared.Form.the-variants.{Record, Two, Not, Comp, Operator}
-use Rattle.front_emit.specs.declared.State.{State}
+use Rattle.front_emit.specs.declared.WriterState.{WriterState}
 use Rattle.front_emit.specs.WriterResult.{behind, ClosePost, Emitted, FieldsPost, EmittedC, SourcePost}
-use Rattle.front_emit.specs.WriterStart.{collections, semS, placeS, fieldsS, Room, Starts, StartsAt, EmitPre, ConditionAt, SourceAt, TermOf, Headed, a-record, an-operator, Termed, FieldsPre, ConditionOf, SourcePre, SinglePre}
-use Rattle.front_emit.proofs.QuestionKept.{Kept, depth-kept, children-kept, fine-kept, sem-kept, ready-kept}
+use Rattle.front_emit.specs.WriterStart.{collections, semS, placeS, fieldsS, FormRoom, Starts, StartsAt, EmitPre, ConditionAt, SourceAt, TermOf, Headed, a-record, an-operator, Termed, FieldsPre, ConditionOf, SourcePre, SinglePre}
+use Rattle.front_emit.proofs.QuestionKept.{QuestionKept, depth-kept, children-kept, fine-kept, sem-kept, ready-kept}
 use Rattle.front_emit.proofs.WriterExits.{Moved, laid-kept, laid, moved, room-left, room-behind, closes-arg, rec-done, app-done, negate-done, binary-done, fields-none, fields-more}
 use Rattle.base_syntax.specs.Numbers.{binOf, opArg, funArg, funOf}
 
 -- ---- a node's place
-place-is : {s : List ℕ} {i D : ℕ} {l : List ℕ} {h : Place} → Heads s i D l h → placeS s h ≡ semS s i D (envOf l)
+place-is : {s : List ℕ} {i D : ℕ} {l : List ℕ} {h : Resolved} → Heads s i D l h → placeS s h ≡ semS s i D (envOf l)
 place-is {s} H = H .is (collections s)
 
-module _ {s : List ℕ} {i D : ℕ} {l : List ℕ} {h : Place} {st : State} (H : Heads s i D l h) where
+module _ {s : List ℕ} {i D : ℕ} {l : List ℕ} {h : Resolved} {st : WriterState} (H : Heads s i D l h) where
   place-starts : (F : Sem → ℕ) → Starts s i D st (F (semS s i D (envOf l))) → StartsAt s h st (F (placeS s h))
   place-starts F S =
       record {
@@ -47,7 +47,7 @@ module _ {s : List ℕ} {i D : ℕ} {l : List ℕ} {h : Place} {st : State} (H :
               ready = S .ready;
               inside = omega (arith, H .from .below, S .inside);
               depth = H .from .level (S .nodes) (S .ready .levelled) (S .inside) (S .depth);
-              room = subst (λ d. Room st (F d)) (sym (place-is H)) (S .room);
+              room = subst (λ d. FormRoom st (F d)) (sym (place-is H)) (S .room);
             };
         fine = H .from .fine;
       }
@@ -61,27 +61,27 @@ module _ {s : List ℕ} {i D : ℕ} {l : List ℕ} {h : Place} {st : State} (H :
   pub source-place : (v : Bool) → SourceAt s i D l v st → SourcePre s h v st
   source-place v S = place-starts (λ d. wordsC (ranges d v (st .next) .clauses)) S
 
-  pub term-done : {s′ : List ℕ} {r : State} → Emitted (placeS s h) s st s′ r → Emitted (semS s i D (envOf l)) s st s′ r
+  pub term-done : {s′ : List ℕ} {r : WriterState} → Emitted (placeS s h) s st s′ r → Emitted (semS s i D (envOf l)) s st s′ r
   term-done {s′} {r} E = subst (λ d. Emitted d s st s′ r) (place-is H) E
 
-  pub condition-done : {v : Bool} {s′ : List ℕ} {r : State} → EmittedC (placeS s h) v s st s′ r → EmittedC (semS s i D (envOf l)) v s st s′ r
+  pub condition-done : {v : Bool} {s′ : List ℕ} {r : WriterState} → EmittedC (placeS s h) v s st s′ r → EmittedC (semS s i D (envOf l)) v s st s′ r
   condition-done {v} {s′} {r} E = subst (λ d. EmittedC d v s st s′ r) (place-is H) E
 
-  pub source-done : {v : Bool} {s′ : List ℕ} {r : State} → SourcePost (placeS s h) v s st s′ r → SourcePost (semS s i D (envOf l)) v s st s′ r
+  pub source-done : {v : Bool} {s′ : List ℕ} {r : WriterState} → SourcePost (placeS s h) v s st s′ r → SourcePost (semS s i D (envOf l)) v s st s′ r
   source-done {v} {s′} {r} E = subst (λ d. SourcePost d v s st s′ r) (place-is H) E
 
 -- ---- the node of a place
-abbrev pub formS : List ℕ → Place → Form → Sem
+abbrev pub formS : List ℕ → Resolved → Form → Sem
 formS s h f = formSem (collections s) s (h .node) (h .depth) (envOf (h .env)) f
 
 -- a node below it
-abbrev pub childS : List ℕ → Place → ℕ → Sem
+abbrev pub childS : List ℕ → Resolved → ℕ → Sem
 childS s h c = semS s c (h .depth) (envOf (h .env))
 
-pub form-is : (s : List ℕ) (h : Place) {f : Form} → h .form ≡ f → placeS s h ≡ formS s h f
+pub form-is : (s : List ℕ) (h : Resolved) {f : Form} → h .form ≡ f → placeS s h ≡ formS s h f
 form-is s h e = ap (formS s h) e
 
-module _ {s : List ℕ} {h : Place} {st : State} {k : ℕ} (S : StartsAt s h st k) where
+module _ {s : List ℕ} {h : Resolved} {st : WriterState} {k : ℕ} (S : StartsAt s h st k) where
   pub form-at : {f : Form} → h .form ≡ f → FormAt s (h .node) (h .depth) f
   form-at e = subst (FormAt s (h .node) (h .depth)) e (S .fine .form)
 
@@ -96,21 +96,21 @@ module _ {s : List ℕ} {h : Place} {st : State} {k : ℕ} (S : StartsAt s h st 
   in-table = omega (arith, S .starts .inside, S .starts .ready .few)
 
   -- a node below it
-  pub child-starts : {c D n : ℕ} {q : State} → c < h .node → depthAt s c ≡ D → Room q n → Starts s c D q n
+  pub child-starts : {c D n : ℕ} {q : WriterState} → c < h .node → depthAt s c ≡ D → FormRoom q n → Starts s c D q n
   child-starts p e R = record { nodes = S .starts .nodes; ready = S .starts .ready; inside = omega (arith, S .starts .inside, p); depth = e; room = R }
 
   -- the place itself
-  pub again : {n : ℕ} {q : State} → Room q n → StartsAt s h q n
+  pub again : {n : ℕ} {q : WriterState} → FormRoom q n → StartsAt s h q n
   again R = record { starts = record { nodes = S .starts .nodes; ready = S .starts .ready; inside = S .starts .inside; depth = S .starts .depth; room = R }; fine = S .fine }
 
 -- the same behind words that were written
-module _ {s s′ : List ℕ} {h : Place} {st : State} {k : ℕ} (S : StartsAt s h st k) (H : Kept s s′) where
-  pub later-starts : {c D n : ℕ} {q : State} → c < h .node → depthAt s c ≡ D → Room q n → Starts s′ c D q n
+module _ {s s′ : List ℕ} {h : Resolved} {st : WriterState} {k : ℕ} (S : StartsAt s h st k) (H : QuestionKept s s′) where
+  pub later-starts : {c D n : ℕ} {q : WriterState} → c < h .node → depthAt s c ≡ D → FormRoom q n → Starts s′ c D q n
   later-starts {c} p e R =
       let i : c < S .starts .nodes = omega (arith, S .starts .inside, p) in
       record { nodes = S .starts .nodes; ready = ready-kept H (S .starts .ready); inside = i; depth = depth-kept H c (omega (arith, i, S .starts .ready .few)) ∙ e; room = R }
 
-  pub place-later : {n : ℕ} {q : State} → Room q n → StartsAt s′ h q n
+  pub place-later : {n : ℕ} {q : WriterState} → FormRoom q n → StartsAt s′ h q n
   place-later R =
       let i = in-table S in
       record {
@@ -119,37 +119,37 @@ module _ {s s′ : List ℕ} {h : Place} {st : State} {k : ℕ} (S : StartsAt s 
       }
 
 -- what a node comes to is the same behind words that were written
-module _ {s s′ : List ℕ} (H : Kept s s′) where
-  pub term-before : (c D : ℕ) (e : Env) {st r : State} {o : List ℕ} → Emitted (semS s′ c D e) s′ st o r → Emitted (semS s c D e) s′ st o r
+module _ {s s′ : List ℕ} (H : QuestionKept s s′) where
+  pub term-before : (c D : ℕ) (e : Env) {st r : WriterState} {o : List ℕ} → Emitted (semS s′ c D e) s′ st o r → Emitted (semS s c D e) s′ st o r
   term-before c D e {st} {r} {o} E = subst (λ (A : At). Emitted (A c D e) s′ st o r) (sem-kept H) E
 
-  pub condition-before : (c D : ℕ) (e : Env) {v : Bool} {st r : State} {o : List ℕ} → EmittedC (semS s′ c D e) v s′ st o r → EmittedC (semS s c D e) v s′ st o r
+  pub condition-before : (c D : ℕ) (e : Env) {v : Bool} {st r : WriterState} {o : List ℕ} → EmittedC (semS s′ c D e) v s′ st o r → EmittedC (semS s c D e) v s′ st o r
   condition-before c D e {v} {st} {r} {o} E = subst (λ (A : At). EmittedC (A c D e) v s′ st o r) (sem-kept H) E
 
-  pub room-term : (c D : ℕ) (e : Env) (q : State) → Room q (words (quote (semS s c D e) (q .next))) → Room q (words (quote (semS s′ c D e) (q .next)))
-  room-term c D e q R = subst (λ (A : At). Room q (words (quote (A c D e) (q .next)))) (sym (sem-kept H)) R
+  pub room-term : (c D : ℕ) (e : Env) (q : WriterState) → FormRoom q (words (quote (semS s c D e) (q .next))) → FormRoom q (words (quote (semS s′ c D e) (q .next)))
+  room-term c D e q R = subst (λ (A : At). FormRoom q (words (quote (A c D e) (q .next)))) (sym (sem-kept H)) R
 
-  pub room-condition : (c D : ℕ) (e : Env) (v : Bool) (q : State) → Room q (wordsC (condition (semS s c D e) v (q .next))) → Room q (wordsC (condition (semS s′ c D e) v (q .next)))
-  room-condition c D e v q R = subst (λ (A : At). Room q (wordsC (condition (A c D e) v (q .next)))) (sym (sem-kept H)) R
+  pub room-condition : (c D : ℕ) (e : Env) (v : Bool) (q : WriterState) → FormRoom q (wordsC (condition (semS s c D e) v (q .next))) → FormRoom q (wordsC (condition (semS s′ c D e) v (q .next)))
+  room-condition c D e v q R = subst (λ (A : At). FormRoom q (wordsC (condition (A c D e) v (q .next)))) (sym (sem-kept H)) R
 
 -- the next number is where the words before ended
-pub room-at : {q : State} {n : ℕ} (F : ℕ → ℕ) → q .next ≡ n → Room q (F n) → Room q (F (q .next))
-room-at {q} F e R = subst (λ a. Room q (F a)) (sym e) R
+pub room-at : {q : WriterState} {n : ℕ} (F : ℕ → ℕ) → q .next ≡ n → FormRoom q (F n) → FormRoom q (F (q .next))
+room-at {q} F e R = subst (λ a. FormRoom q (F a)) (sym e) R
 
-pub room-less : {q : State} {m k : ℕ} → Room q m → k ≤ m → Room q k
+pub room-less : {q : WriterState} {m k : ℕ} → FormRoom q m → k ≤ m → FormRoom q k
 room-less R l = let v = R .room in record { numbered = R .numbered; room = omega arith }
 
 -- ---- where a word may be closed
-pub ends : {st q r : State} {k g : ℕ} → q ≡ behind st → Room q k → Moved q r k g → (st .place < r .place) × (r .place ≤ formWords)
+pub ends : {st q r : WriterState} {k g : ℕ} → q ≡ behind st → FormRoom q k → Moved q r k g → (st .place < r .place) × (r .place ≤ formWords)
 ends e R M =
-    let p = ap (λ (a : State). a .place) e in
+    let p = ap (λ (a : WriterState). a .place) e in
     let u = M .place in
     let v = R .room in
     (omega arith, omega arith)
 
-pub ends-later : {st q x r : State} {j f k g : ℕ} → q ≡ behind st → Moved q x j f → Room x k → Moved x r k g → (st .place < r .place) × (r .place ≤ formWords)
+pub ends-later : {st q x r : WriterState} {j f k g : ℕ} → q ≡ behind st → Moved q x j f → FormRoom x k → Moved x r k g → (st .place < r .place) × (r .place ≤ formWords)
 ends-later e L R M =
-    let p = ap (λ (a : State). a .place) e in
+    let p = ap (λ (a : WriterState). a .place) e in
     let u = M .place in
     let w = L .place in
     let v = R .room in
@@ -160,42 +160,42 @@ words-binary : (o : Bin) (a b : Sem) (n : ℕ) → words (quote (binary o a b) n
 unfolding words
 words-binary o a b n = ap words (quote-binary o a b n)
 
-module _ {s : List ℕ} {h : Place} {st : State} {o : Op} {a b : ℕ} (S : TermOf s h st) (e : h .form ≡ Two o a b) where
-  two-room : Room st (suc (words (quote (childS s h a) (st .next)) + words (quote (childS s h b) (st .next + gens (quote (childS s h a) (st .next))))))
-  two-room = subst (Room st) (ap (λ d. words (quote d (st .next))) (form-is s h e) ∙ words-binary (binOf o) (childS s h a) (childS s h b) (st .next)) (S .starts .room)
+module _ {s : List ℕ} {h : Resolved} {st : WriterState} {o : BinOp} {a b : ℕ} (S : TermOf s h st) (e : h .form ≡ Two o a b) where
+  two-room : FormRoom st (suc (words (quote (childS s h a) (st .next)) + words (quote (childS s h b) (st .next + gens (quote (childS s h a) (st .next))))))
+  two-room = subst (FormRoom st) (ap (λ d. words (quote d (st .next))) (form-is s h e) ∙ words-binary (binOf o) (childS s h a) (childS s h b) (st .next)) (S .starts .room)
 
-  pub two-first : {q : State} → q ≡ behind st → EmitPre s a (h .depth) (h .env) q
+  pub two-first : {q : WriterState} → q ≡ behind st → EmitPre s a (h .depth) (h .env) q
   two-first {q} p =
       let y = form-at S e in
-      let n : q .next ≡ st .next = ap (λ (x : State). x .next) p in
+      let n : q .next ≡ st .next = ap (λ (x : WriterState). x .next) p in
       child-starts S (node-inside S y .0) (node-level S y .0) (room-at (λ i. words (quote (childS s h a) i)) n (room-less (room-behind _ p two-room) (omega arith)))
 
-  pub two-second : {s₁ : List ℕ} {q x : State} → q ≡ behind st → Emitted (childS s h a) s q s₁ x → EmitPre s₁ b (h .depth) (h .env) x
+  pub two-second : {s₁ : List ℕ} {q x : WriterState} → q ≡ behind st → Emitted (childS s h a) s q s₁ x → EmitPre s₁ b (h .depth) (h .env) x
   two-second {s₁} {q} {x} p E =
       let y = form-at S e in
-      let n : q .next ≡ st .next = ap (λ (z : State). z .next) p in
+      let n : q .next ≡ st .next = ap (λ (z : WriterState). z .next) p in
       let M = moved E in
       let K = laid-kept (laid E) in
       later-starts S K (node-inside S y .1) (node-level S y .1)
       (room-term K b (h .depth) (envOf (h .env)) x (room-at (λ i. words (quote (childS s h b) i)) (M .next)
-      (room-left _ M (subst (λ i. Room q (words (quote (childS s h a) i) + words (quote (childS s h b) (i + gens (quote (childS s h a) i))))) (sym n) (room-behind _ p two-room)))))
+      (room-left _ M (subst (λ i. FormRoom q (words (quote (childS s h a) i) + words (quote (childS s h b) (i + gens (quote (childS s h a) i))))) (sym n) (room-behind _ p two-room)))))
 
-  pub two-done : {s₁ s₂ s₃ : List ℕ} {q x y : State} {w : ℕ} → q ≡ behind st → Emitted (childS s h a) s q s₁ x → Emitted (semS s₁ b (h .depth) (envOf (h .env))) s₁ x s₂ y → w ≡ opArg (binOf o)
+  pub two-done : {s₁ s₂ s₃ : List ℕ} {q x y : WriterState} {w : ℕ} → q ≡ behind st → Emitted (childS s h a) s q s₁ x → Emitted (semS s₁ b (h .depth) (envOf (h .env))) s₁ x s₂ y → w ≡ opArg (binOf o)
       → ClosePost 6 w (st .place) (y .place) s₂ s₃ → Emitted (placeS s h) s st s₃ y
   two-done {s₃ = s₃} {y = y} p E F u C =
       subst (λ d. Emitted d s st s₃ y) (sym (form-is s h e)) (binary-done p (binOf o) E (term-before (laid-kept (laid E)) b (h .depth) (envOf (h .env)) F) (closes-arg u C))
 
 -- ---- "not"
-module _ {s : List ℕ} {h : Place} {st : State} {c : ℕ} (S : TermOf s h st) (e : h .form ≡ Not c) where
-  pub not-first : {q : State} → q ≡ behind st → EmitPre s c (h .depth) (h .env) q
+module _ {s : List ℕ} {h : Resolved} {st : WriterState} {c : ℕ} (S : TermOf s h st) (e : h .form ≡ Not c) where
+  pub not-first : {q : WriterState} → q ≡ behind st → EmitPre s c (h .depth) (h .env) q
   unfolding quote words
   not-first {q} p =
       let y = form-at S e in
-      let n : q .next ≡ st .next = ap (λ (x : State). x .next) p in
-      let R = subst (λ d. Room st (words (quote d (st .next)))) (form-is s h e) (S .starts .room) in
+      let n : q .next ≡ st .next = ap (λ (x : WriterState). x .next) p in
+      let R = subst (λ d. FormRoom st (words (quote d (st .next)))) (form-is s h e) (S .starts .room) in
       child-starts S (node-inside S y) (node-level S y) (room-at (λ i. words (quote (childS s h c) i)) n (room-behind _ p R))
 
-  pub not-done : {s₁ s₂ : List ℕ} {q r : State} → q ≡ behind st → Emitted (childS s h c) s q s₁ r → ClosePost 7 0 (st .place) (r .place) s₁ s₂ → Emitted (placeS s h) s st s₂ r
+  pub not-done : {s₁ s₂ : List ℕ} {q r : WriterState} → q ≡ behind st → Emitted (childS s h c) s q s₁ r → ClosePost 7 0 (st .place) (r .place) s₁ s₂ → Emitted (placeS s h) s st s₂ r
   not-done {s₂ = s₂} {r = r} p E C = subst (λ d. Emitted d s st s₂ r) (sym (form-is s h e)) (negate-done p E C)
 
 -- ---- a record or an operator
@@ -213,26 +213,26 @@ pub headed-small : {f : Form} {k a : ℕ} → Headed f k a → (k < 16) × (a < 
 headed-small a-record = omega arith
 headed-small (an-operator o) = (omega arith, arg-small o)
 
-terms-level : {s : List ℕ} {h : Place} {st : State} {n : ℕ} → StartsAt s h st n → {f : Form} {k a : ℕ} → Headed f k a → h .form ≡ f → AllAt (depthAt s) (h .depth) (childrenOf s (h .node))
+terms-level : {s : List ℕ} {h : Resolved} {st : WriterState} {n : ℕ} → StartsAt s h st n → {f : Form} {k a : ℕ} → Headed f k a → h .form ≡ f → AllAt (depthAt s) (h .depth) (childrenOf s (h .node))
 terms-level S a-record e = node-level S (form-at S e)
 terms-level S (an-operator o) e = node-level S (form-at S e)
 
-module _ {s : List ℕ} {h : Place} {st : State} (S : TermOf s h st) where
-  terms-room : {f : Form} {k a : ℕ} → Headed f k a → h .form ≡ f → Room st (suc (wordsF (quotes (fieldsS s h 0) (st .next))))
+module _ {s : List ℕ} {h : Resolved} {st : WriterState} (S : TermOf s h st) where
+  terms-room : {f : Form} {k a : ℕ} → Headed f k a → h .form ≡ f → FormRoom st (suc (wordsF (quotes (fieldsS s h 0) (st .next))))
   unfolding quote words
-  terms-room a-record e = subst (λ d. Room st (words (quote d (st .next)))) (form-is s h e) (S .starts .room)
-  terms-room (an-operator o) e = subst (λ d. Room st (words (quote d (st .next)))) (form-is s h e) (S .starts .room)
+  terms-room a-record e = subst (λ d. FormRoom st (words (quote d (st .next)))) (form-is s h e) (S .starts .room)
+  terms-room (an-operator o) e = subst (λ d. FormRoom st (words (quote d (st .next)))) (form-is s h e) (S .starts .room)
 
-  pub record-first : {k a : ℕ} → Headed (h .form) k a → {q : State} → q ≡ behind st → FieldsPre s h 0 q
+  pub record-first : {k a : ℕ} → Headed (h .form) k a → {q : WriterState} → q ≡ behind st → FieldsPre s h 0 q
   record-first H {q} p =
-      let n : q .next ≡ st .next = ap (λ (x : State). x .next) p in
+      let n : q .next ≡ st .next = ap (λ (x : WriterState). x .next) p in
       again S (room-at (λ i. wordsF (quotes (fieldsS s h 0) i)) n (room-behind _ p (terms-room H refl)))
 
-  terms-done : {f : Form} {k a : ℕ} → Headed f k a → {s₁ s₂ : List ℕ} {q r : State} → q ≡ behind st → FieldsPost (fieldsS s h 0) s q s₁ r → ClosePost k a (st .place) (r .place) s₁ s₂ → Emitted (formS s h f) s st s₂ r
+  terms-done : {f : Form} {k a : ℕ} → Headed f k a → {s₁ s₂ : List ℕ} {q r : WriterState} → q ≡ behind st → FieldsPost (fieldsS s h 0) s q s₁ r → ClosePost k a (st .place) (r .place) s₁ s₂ → Emitted (formS s h f) s st s₂ r
   terms-done a-record p E C = rec-done p E C
   terms-done (an-operator o) p E C = app-done p (funOf o) E C
 
-  pub record-done : {k a : ℕ} → Headed (h .form) k a → {s₁ s₂ : List ℕ} {q r : State} → q ≡ behind st → FieldsPost (fieldsS s h 0) s q s₁ r → ClosePost k a (st .place) (r .place) s₁ s₂ → Emitted (placeS s h) s st s₂ r
+  pub record-done : {k a : ℕ} → Headed (h .form) k a → {s₁ s₂ : List ℕ} {q r : WriterState} → q ≡ behind st → FieldsPost (fieldsS s h 0) s q s₁ r → ClosePost k a (st .place) (r .place) s₁ s₂ → Emitted (placeS s h) s st s₂ r
   record-done H p E C = terms-done H p E C
 
 -- the terms from k on: none, or one and those behind it
@@ -268,26 +268,26 @@ some-word (Nf.bin o t u) = omega arith
 some-word (Nf.negate t) = omega arith
 some-word (Nf.comp m q u) = omega arith
 
-abbrev restS : List ℕ → Place → List ℕ → Sems
+abbrev restS : List ℕ → Resolved → List ℕ → Sems
 restS s h cs = semsOf (semS s) cs (h .depth) (envOf (h .env))
 
-pub no-fields : {s : List ℕ} {h : Place} {st : State} {k n : ℕ} → StartsAt s h st n → ChildPost s (h .node) k Fd.Nothing → FieldsPost (fieldsS s h k) s st s st
+pub no-fields : {s : List ℕ} {h : Resolved} {st : WriterState} {k n : ℕ} → StartsAt s h st n → ChildPost s (h .node) k Fd.Nothing → FieldsPost (fieldsS s h k) s st s st
 unfolding semsOf
 no-fields {s} {h} {st} {k} S P = subst (λ (l : List ℕ). FieldsPost (restS s h l) s st s st) (sym (no-term k (childrenOf s (h .node)) (sym (P .is)))) fields-none
 
-module _ {s : List ℕ} {h : Place} {st : State} {k c : ℕ} (S : FieldsPre s h k st) (T : Termed (h .form)) (P : ChildPost s (h .node) k (Fd.At c)) where
+module _ {s : List ℕ} {h : Resolved} {st : WriterState} {k c : ℕ} (S : FieldsPre s h k st) (T : Termed (h .form)) (P : ChildPost s (h .node) k (Fd.At c)) where
   these : fieldsS s h k ≡ scons (childS s h c) (restS s h (drop (suc k) (childrenOf s (h .node))))
   unfolding semsOf
   these = ap (restS s h) (some-term k c (childrenOf s (h .node)) (sym (P .is)))
 
-  fields-room : Room st (words (quote (childS s h c) (st .next)) + wordsF (quotes (restS s h (drop (suc k) (childrenOf s (h .node)))) (st .next + gens (quote (childS s h c) (st .next)))))
+  fields-room : FormRoom st (words (quote (childS s h c) (st .next)) + wordsF (quotes (restS s h (drop (suc k) (childrenOf s (h .node)))) (st .next + gens (quote (childS s h c) (st .next)))))
   unfolding quote words
-  fields-room = subst (λ ds. Room st (wordsF (quotes ds (st .next)))) these (S .starts .room)
+  fields-room = subst (λ ds. FormRoom st (wordsF (quotes ds (st .next)))) these (S .starts .room)
 
   pub field-first : EmitPre s c (h .depth) (h .env) st
   field-first = child-starts S (P .before) (term-level (depthAt s) (h .depth) k c (childrenOf s (h .node)) (terms-level S (T .2) refl) (sym (P .is))) (room-less fields-room (omega arith))
 
-  module _ {s₁ : List ℕ} {q : State} (E : Emitted (childS s h c) s st s₁ q) where
+  module _ {s₁ : List ℕ} {q : WriterState} (E : Emitted (childS s h c) s st s₁ q) where
     next-fields : fieldsS s₁ h (k + 1) ≡ restS s h (drop (suc k) (childrenOf s (h .node)))
     next-fields =
         let K = laid-kept (laid E) in
@@ -298,38 +298,38 @@ module _ {s : List ℕ} {h : Place} {st : State} {k c : ℕ} (S : FieldsPre s h 
     field-next l =
         let M = moved E in
         let u = M .place in (
-          place-later S (laid-kept (laid E)) (subst (λ ds. Room q (wordsF (quotes ds (q .next)))) (sym next-fields)
+          place-later S (laid-kept (laid E)) (subst (λ ds. FormRoom q (wordsF (quotes ds (q .next)))) (sym next-fields)
               (room-at (λ i. wordsF (quotes (restS s h (drop (suc k) (childrenOf s (h .node)))) i)) (M .next) (room-left _ M fields-room))),
           omega (arith, some-word (quote (childS s h c) (st .next))),
         )
 
-    pub field-done : {s₂ : List ℕ} {r : State} → FieldsPost (fieldsS s₁ h (k + 1)) s₁ q s₂ r → FieldsPost (fieldsS s h k) s st s₂ r
+    pub field-done : {s₂ : List ℕ} {r : WriterState} → FieldsPost (fieldsS s₁ h (k + 1)) s₁ q s₂ r → FieldsPost (fieldsS s h k) s st s₂ r
     field-done {s₂} {r} F = subst (λ ds. FieldsPost ds s st s₂ r) (sym these) (fields-more E (subst (λ ds. FieldsPost ds s₁ q s₂ r) next-fields F))
 
 -- the terms from k on are left
-pub record FieldsLeft (s₀ : List ℕ) (h : Place) (st : State) (s : List ℕ) (k : ℕ) (q : State) : Type 0 where
+pub record FieldsLeft (s₀ : List ℕ) (h : Resolved) (st : WriterState) (s : List ℕ) (k : ℕ) (q : WriterState) : Type 0 where
   pub starts : FieldsPre s h k q
   pub few : k ≤ q .place
-  pub rest : (s′ : List ℕ) (r : State) → FieldsPost (fieldsS s h k) s q s′ r → FieldsPost (fieldsS s₀ h 0) s₀ st s′ r
+  pub rest : (s′ : List ℕ) (r : WriterState) → FieldsPost (fieldsS s h k) s q s′ r → FieldsPost (fieldsS s₀ h 0) s₀ st s′ r
 
-pub left-all : {s : List ℕ} {h : Place} {st : State} → FieldsPre s h 0 st → FieldsLeft s h st s 0 st
+pub left-all : {s : List ℕ} {h : Resolved} {st : WriterState} → FieldsPre s h 0 st → FieldsLeft s h st s 0 st
 left-all S = record { starts = S; few = omega arith; rest = λ s′ r E. E }
 
-module _ {s₀ : List ℕ} {h : Place} {st : State} {s : List ℕ} {k : ℕ} {q : State} (L : FieldsLeft s₀ h st s k q) where
+module _ {s₀ : List ℕ} {h : Resolved} {st : WriterState} {s : List ℕ} {k : ℕ} {q : WriterState} (L : FieldsLeft s₀ h st s k q) where
   pub left-none : ChildPost s (h .node) k Fd.Nothing → FieldsPost (fieldsS s₀ h 0) s₀ st s q
   left-none P = L .rest s q (no-fields (L .starts) P)
 
-  pub left-less : {c : ℕ} {s₁ : List ℕ} {x : State} → Termed (h .form) → ChildPost s (h .node) k (Fd.At c) → Emitted (childS s h c) s q s₁ x → FieldsLeft s₀ h st s₁ (k + 1) x
+  pub left-less : {c : ℕ} {s₁ : List ℕ} {x : WriterState} → Termed (h .form) → ChildPost s (h .node) k (Fd.At c) → Emitted (childS s h c) s q s₁ x → FieldsLeft s₀ h st s₁ (k + 1) x
   left-less T P E =
       let n = field-next (L .starts) T P E (L .few) in
       record { starts = n .0; few = n .1; rest = λ s′ r F. L .rest s′ r (field-done (L .starts) T P E F) }
 
 -- ---- the first place, and nodes below a node
-pub has-place : {s : List ℕ} {h : Place} {st : State} → TermOf s h st → st .place < formWords
+pub has-place : {s : List ℕ} {h : Resolved} {st : WriterState} → TermOf s h st → st .place < formWords
 has-place {s} {h} {st} S = let v = S .starts .room .room in omega (arith, some-word (quote (placeS s h) (st .next)))
 
-module _ {s : List ℕ} {h : Place} {st : State} {n : ℕ} (S : StartsAt s h st n) where
-  pub two-below : {o : Op} {a b : ℕ} → h .form ≡ Two o a b → (a < h .node) × (b < h .node)
+module _ {s : List ℕ} {h : Resolved} {st : WriterState} {n : ℕ} (S : StartsAt s h st n) where
+  pub two-below : {o : BinOp} {a b : ℕ} → h .form ≡ Two o a b → (a < h .node) × (b < h .node)
   two-below e = node-inside S (form-at S e)
 
   pub not-below : {c : ℕ} → h .form ≡ Not c → c < h .node
@@ -339,13 +339,13 @@ module _ {s : List ℕ} {h : Place} {st : State} {n : ℕ} (S : StartsAt s h st 
   comp-below e = let y = form-at S e in (node-inside S (y .0) .1, y .1)
 
 -- ---- as one condition
-module _ {s : List ℕ} {h : Place} {st : State} (S : SinglePre s h st) where
+module _ {s : List ℕ} {h : Resolved} {st : WriterState} (S : SinglePre s h st) where
   pub one-has-place : st .place < formWords
   unfolding words
   one-has-place = let v = S .starts .room .room in omega arith
 
-  pub one-first : {q : State} → q ≡ behind st → TermOf s h q
+  pub one-first : {q : WriterState} → q ≡ behind st → TermOf s h q
   unfolding words
   one-first {q} p =
-      let n : q .next ≡ st .next = ap (λ (x : State). x .next) p in
+      let n : q .next ≡ st .next = ap (λ (x : WriterState). x .next) p in
       again S (room-at (λ i. words (quote (placeS s h) i)) n (room-less (room-behind _ p (S .starts .room)) (omega arith)))

@@ -11,7 +11,7 @@ use Rattle.front_theory.specs.FormWords.{words}
 use Rattle.base_scratch.specs.Map.{formAt, formWords}
 use Rattle.form_words.specs.FormWords.{size, flat, Holds}
 use Rattle.front_nodes.specs.NodeTable.{depthAt}
-use Rattle.front_emit.specs.WriterStart.{semS, Ready}
+use Rattle.front_emit.specs.WriterStart.{semS, SizedNodes}
 
 -- what a question's node writes
 abbrev pub formOf : List ℕ → ℕ → Form
@@ -19,7 +19,7 @@ formOf s i = quote (semS s i 0 outside) 0
 
 -- there is room for it
 pub record Writable (s : List ℕ) (i : ℕ) : Type 0 where
-  pub ready : Ready s (i + 1)
+  pub ready : SizedNodes s (i + 1)
   pub depth : depthAt s i ≡ 0
   pub short : words (formOf s i) ≤ formWords
   pub long : formAt + formWords ≤ length s

@@ -16,7 +16,7 @@ use Rattle.form_words.specs.NodeWord.{pack}
 use Rattle.form_words.specs.FormWords.{numberArg}
 use Rattle.form_words.specs.Kinds.{numberKind, truthKind, rowKind, cellKind, recordKind, binaryKind, negationKind, comprehensionKind, generatorKind, conditionKind, operatorKind, pairSpan}
 use Rattle.base_scratch.specs.Map.{formAt}
-use Rattle.front_emit.specs.declared.State.{State}
+use Rattle.front_emit.specs.declared.WriterState.{WriterState}
 use Rattle.base_syntax.specs.Numbers.{opArg, funArg, monoidArg}
 
 -- a word in scratch: kind, how many words are below it, argument
@@ -61,18 +61,18 @@ unfoldable pub put : Word → Buffer → Buffer
 put w b = buffer (set (b .words) (formAt + b .place) (packed w)) (b .place + 1)
 
 -- scratch with the writer's place, and its next generator number
-abbrev pub stateOf : List ℕ → State → No.State Buffer
+abbrev pub stateOf : List ℕ → WriterState → No.Writer Buffer
 stateOf s st = state (buffer s (st .place)) (st .next)
 
 -- behind a word, and behind a generator's word
-abbrev pub behind : State → State
+abbrev pub behind : WriterState → WriterState
 behind st = record { place = st .place + 1; next = st .next }
 
-abbrev pub numbered : State → State
+abbrev pub numbered : WriterState → WriterState
 numbered st = record { place = st .place + 1; next = st .next + 1 }
 
 -- From scratch s and state st to scratch s′ and state r, one word was written.
-pub record LeafPost (k a : ℕ) (s : List ℕ) (st : State) (s′ : List ℕ) (r : State) : Type 0 where
+pub record LeafPost (k a : ℕ) (s : List ℕ) (st : WriterState) (s′ : List ℕ) (r : WriterState) : Type 0 where
   pub is : s′ ≡ set s (formAt + st .place) (pack k 0 a)
   pub on : r ≡ behind st
 
@@ -80,39 +80,39 @@ pub record LeafPost (k a : ℕ) (s : List ℕ) (st : State) (s′ : List ℕ) (r
 pub record ClosePost (k a p e : ℕ) (s s′ : List ℕ) : Type 0 where
   pub is : s′ ≡ set s (formAt + p) (pack k (e - (p + 1)) a)
 
-pub record GeneratorPost (k : ℕ) (s : List ℕ) (st : State) (s′ : List ℕ) (r : State) : Type 0 where
+pub record GeneratorPost (k : ℕ) (s : List ℕ) (st : WriterState) (s′ : List ℕ) (r : WriterState) : Type 0 where
   pub is : s′ ≡ set s (formAt + st .place) (pack generatorKind 0 (pairSpan * st .next + k))
   pub on : r ≡ numbered st
 
 -- Just the words of this were written: as a term, as the terms of a record or an operator, as a condition, as a generator's term.
-pub record Emitted (d : Sem) (s : List ℕ) (st : State) (s′ : List ℕ) (r : State) : Type 0 where
+pub record Emitted (d : Sem) (s : List ℕ) (st : WriterState) (s′ : List ℕ) (r : WriterState) : Type 0 where
   pub is : Emits put d (stateOf s st) (stateOf s′ r)
 
-pub record FieldsPost (ds : Sems) (s : List ℕ) (st : State) (s′ : List ℕ) (r : State) : Type 0 where
+pub record FieldsPost (ds : Sems) (s : List ℕ) (st : WriterState) (s′ : List ℕ) (r : WriterState) : Type 0 where
   pub is : EmitsF put ds (stateOf s st) (stateOf s′ r)
 
-pub record EmittedC (d : Sem) (v : Bool) (s : List ℕ) (st : State) (s′ : List ℕ) (r : State) : Type 0 where
+pub record EmittedC (d : Sem) (v : Bool) (s : List ℕ) (st : WriterState) (s′ : List ℕ) (r : WriterState) : Type 0 where
   pub is : EmitsC put d v (stateOf s st) (stateOf s′ r)
 
-pub record SourcePost (d : Sem) (v : Bool) (s : List ℕ) (st : State) (s′ : List ℕ) (r : State) : Type 0 where
+pub record SourcePost (d : Sem) (v : Bool) (s : List ℕ) (st : WriterState) (s′ : List ℕ) (r : WriterState) : Type 0 where
   pub is : EmitsG put d v (stateOf s st) (stateOf s′ r)
 
 -- as the term of a qualifier, by whether that ranges
-abbrev pub ClausePost : Bool → Sem → Bool → List ℕ → State → List ℕ → State → Type 0
+abbrev pub ClausePost : Bool → Sem → Bool → List ℕ → WriterState → List ℕ → WriterState → Type 0
 ClausePost true d v s st s′ r = SourcePost d v s st s′ r
 ClausePost false d v s st s′ r = EmittedC d v s st s′ r
 
 -- one qualifier, and qualifiers in order
-pub record QualifierPost (A : At) (y : Node) (D : ℕ) (e : Env) (v : Bool) (s : List ℕ) (st : State) (s′ : List ℕ) (r : State) : Type 0 where
+pub record QualifierPost (A : At) (y : Node) (D : ℕ) (e : Env) (v : Bool) (s : List ℕ) (st : WriterState) (s′ : List ℕ) (r : WriterState) : Type 0 where
   pub is : EmitsN put A y D e v (stateOf s st) (stateOf s′ r)
 
-pub record EmittedQ (N : Nodes) (A : At) (cs : List ℕ) (D : ℕ) (e : Env) (v : Bool) (s : List ℕ) (st : State) (s′ : List ℕ) (r : State) : Type 0 where
+pub record EmittedQ (N : Nodes) (A : At) (cs : List ℕ) (D : ℕ) (e : Env) (v : Bool) (s : List ℕ) (st : WriterState) (s′ : List ℕ) (r : WriterState) : Type 0 where
   pub is : EmitsQ put N A cs D e v (stateOf s st) (stateOf s′ r)
 
 -- one condition, whatever does not give way
-pub record SinglePost (d : Sem) (s : List ℕ) (st : State) (s′ : List ℕ) (r : State) : Type 0 where
+pub record SinglePost (d : Sem) (s : List ℕ) (st : WriterState) (s′ : List ℕ) (r : WriterState) : Type 0 where
   pub is : stateOf s′ r ≡ tellC put (one (quote d (st .next))) (stateOf s st)
 
 -- the condition that is never met
-pub record NeverPost (s : List ℕ) (st : State) (s′ : List ℕ) (r : State) : Type 0 where
+pub record NeverPost (s : List ℕ) (st : WriterState) (s′ : List ℕ) (r : WriterState) : Type 0 where
   pub is : stateOf s′ r ≡ tellC put (one (Nf.truth false)) (stateOf s st)

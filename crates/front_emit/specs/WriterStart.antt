@@ -22,10 +22,10 @@ use Rattle.base_scratch.specs.Map.{formWords, mostNodes}
 use Rattle.front_sizes.specs.SizeWords.{conditionCount}
 use Rattle.front_nodes.specs.NodeTable.{depthAt, childrenOf, chain, qualifiersOf, nodesOf}
 use Rattle.front_nodes.specs.Levels.{AllAt, Levelled}
-use Rattle.front_resolve.specs.Place.{Place, envOf, semN, placeSem, FormAt, Fine}
+use Rattle.front_resolve.specs.Resolved.{Resolved, envOf, semN, placeSem, FormAt, Fine}
 use Rattle.front_resolve.specs.declared.Form.{Form}
 use Rattle.front_resolve.specs.declared.Form.the-variants.{Number, Truth, Row, Cell, Record, Two, Not, Comp, Table, Operator, Bad}
-use Rattle.front_emit.specs.declared.State.{State}
+use Rattle.front_emit.specs.declared.WriterState.{WriterState}
 use Rattle.front_emit.specs.declared.Heading.{Heading}
 use Rattle.front_emit.specs.declared.Heading.the-variants.{Terms, Other}
 
@@ -38,7 +38,7 @@ collections s k = collectionOf (collectionIn (tableIn s k))
 abbrev pub semS : List ℕ → At
 semS s = semN (collections s) s
 
-abbrev pub placeS : List ℕ → Place → Sem
+abbrev pub placeS : List ℕ → Resolved → Sem
 placeS s h = placeSem (collections s) s h
 
 -- a table that is no generator's term; a form with no nodes below it
@@ -59,7 +59,7 @@ simpleS s (Operator f) = nothing
 simpleS s Bad = nothing
 
 -- the terms of the record or operator at a place, from term k on
-abbrev pub fieldsS : List ℕ → Place → ℕ → Sems
+abbrev pub fieldsS : List ℕ → Resolved → ℕ → Sems
 fieldsS s h k = semsOf (semS s) (drop k (childrenOf s (h .node))) (h .depth) (envOf (h .env))
 
 -- A copy of the comprehension of m at a place, which begins with number n: whether "some" gives way in it, where v says
@@ -67,14 +67,14 @@ fieldsS s h k = semsOf (semS s) (drop k (childrenOf s (h .node))) (h .depth) (en
 abbrev pub flagIn : Bool → Monoid → Bool
 flagIn v m = v || idempotent (monoidOf m)
 
-abbrev pub copyEnv : Place → Monoid → Bool → ℕ → Env
+abbrev pub copyEnv : Resolved → Monoid → Bool → ℕ → Env
 copyEnv h m v n = enter (h .depth) n (flagIn v m) (envOf (h .env))
 
-abbrev pub copyS : List ℕ → Place → Monoid → Bool → ℕ → Clauses
+abbrev pub copyS : List ℕ → Resolved → Monoid → Bool → ℕ → Clauses
 copyS s h m v n = clausesOf (nodesOf s) (semS s) (suc (h .depth)) (copyEnv h m v n) (flagIn v m) n (qualifiersOf s (h .node))
 
 -- the words of that environment
-pub record Copies (h : Place) (m : Monoid) (v : Bool) (n : ℕ) (l : List ℕ) : Type 0 where
+pub record Copies (h : Resolved) (m : Monoid) (v : Bool) (n : ℕ) (l : List ℕ) : Type 0 where
   pub is : envOf l ≡ copyEnv h m v n
   pub long : length l ≡ levels
 
@@ -84,63 +84,63 @@ abbrev pub Measured : List ℕ → ℕ → Type 0
 Measured s n = (x : ℕ) → x < n → (v : Bool) → conditionCount s x v .size ≡ 0 → (e : Env) (j : ℕ) → nodesC (qualOf (semS s) (depthAt s x) e v j (nodesOf s x)) ≡ 0
 
 -- The depths of the first n nodes agree, and their sizes are stored.
-pub record Ready (s : List ℕ) (n : ℕ) : Type 0 where
+pub record SizedNodes (s : List ℕ) (n : ℕ) : Type 0 where
   pub few : n ≤ mostNodes
   pub levelled : Levelled (nodesOf s) (depthAt s) n
   pub measured : Measured s n
 
 -- room for so many words; there are no more generators than words
-pub record Room (st : State) (k : ℕ) : Type 0 where
+pub record FormRoom (st : WriterState) (k : ℕ) : Type 0 where
   pub numbered : st .next ≤ st .place
   pub room : st .place + k ≤ formWords
 
 -- node i at depth D, which writes so many words
-pub record Starts (s : List ℕ) (i D : ℕ) (st : State) (k : ℕ) : Type 0 where
+pub record Starts (s : List ℕ) (i D : ℕ) (st : WriterState) (k : ℕ) : Type 0 where
   pub nodes : ℕ
-  pub ready : Ready s nodes
+  pub ready : SizedNodes s nodes
   pub inside : i < nodes
   pub depth : depthAt s i ≡ D
-  pub room : Room st k
+  pub room : FormRoom st k
 
 -- the same of a place
-pub record StartsAt (s : List ℕ) (h : Place) (st : State) (k : ℕ) : Type 0 where
+pub record StartsAt (s : List ℕ) (h : Resolved) (st : WriterState) (k : ℕ) : Type 0 where
   pub starts : Starts s (h .node) (h .depth) st k
   pub fine : Fine s h
 
 -- the same of the qualifiers between lo and e
-pub record StartsQ (s : List ℕ) (lo e D : ℕ) (st : State) (k : ℕ) : Type 0 where
+pub record StartsQ (s : List ℕ) (lo e D : ℕ) (st : WriterState) (k : ℕ) : Type 0 where
   pub nodes : ℕ
-  pub ready : Ready s nodes
+  pub ready : SizedNodes s nodes
   pub inside : e ≤ nodes
   pub depth : AllAt (depthAt s) D (chain s lo e)
-  pub room : Room st k
+  pub room : FormRoom st k
 
 -- the same of a form at node i, with no nodes below it
-pub record SimplePre (s : List ℕ) (f : Form) (i : ℕ) (st : State) : Type 0 where
+pub record SimplePre (s : List ℕ) (f : Form) (i : ℕ) (st : WriterState) : Type 0 where
   pub depth : ℕ
   pub form : FormAt s i depth f
-  pub room : Room st (words (quote (simpleS s f) (st .next)))
+  pub room : FormRoom st (words (quote (simpleS s f) (st .next)))
 
 -- node i as a term, as a condition, as a generator's term
-abbrev pub EmitPre : List ℕ → ℕ → ℕ → List ℕ → State → Type 0
+abbrev pub EmitPre : List ℕ → ℕ → ℕ → List ℕ → WriterState → Type 0
 EmitPre s i D l st = Starts s i D st (words (quote (semS s i D (envOf l)) (st .next)))
 
-abbrev pub ConditionAt : List ℕ → ℕ → ℕ → List ℕ → Bool → State → Type 0
+abbrev pub ConditionAt : List ℕ → ℕ → ℕ → List ℕ → Bool → WriterState → Type 0
 ConditionAt s i D l v st = Starts s i D st (wordsC (condition (semS s i D (envOf l)) v (st .next)))
 
-abbrev pub SourceAt : List ℕ → ℕ → ℕ → List ℕ → Bool → State → Type 0
+abbrev pub SourceAt : List ℕ → ℕ → ℕ → List ℕ → Bool → WriterState → Type 0
 SourceAt s i D l v st = Starts s i D st (wordsC (ranges (semS s i D (envOf l)) v (st .next) .clauses))
 
 -- node i as the term of a qualifier, by whether that ranges
-abbrev pub ClausePre : Bool → List ℕ → ℕ → ℕ → List ℕ → Bool → State → Type 0
+abbrev pub ClausePre : Bool → List ℕ → ℕ → ℕ → List ℕ → Bool → WriterState → Type 0
 ClausePre true s i D l v st = SourceAt s i D l v st
 ClausePre false s i D l v st = ConditionAt s i D l v st
 
 -- qualifier x, and the qualifiers between lo and e
-abbrev pub QualifierPre : List ℕ → ℕ → ℕ → List ℕ → Bool → State → Type 0
+abbrev pub QualifierPre : List ℕ → ℕ → ℕ → List ℕ → Bool → WriterState → Type 0
 QualifierPre s x D l v st = Starts s x D st (wordsC (qualOf (semS s) D (envOf l) v (st .next) (nodesOf s x)))
 
-abbrev pub QualifiersPre : List ℕ → ℕ → ℕ → ℕ → List ℕ → Bool → State → Type 0
+abbrev pub QualifiersPre : List ℕ → ℕ → ℕ → ℕ → List ℕ → Bool → WriterState → Type 0
 QualifiersPre s lo e D l v st = StartsQ s lo e D st (wordsC (clausesOf (nodesOf s) (semS s) D (envOf l) v (st .next) (chain s lo e)))
 
 -- the forms with any number of terms, and the kind and the argument of their word
@@ -160,20 +160,20 @@ pub record HeadingOfPost (f : Form) (r : Heading) : Type 0 where
 
 -- a place as a term, its terms from term k on, as a condition, as a generator's term, as one condition, its qualifiers in
 -- a copy
-abbrev pub TermOf : List ℕ → Place → State → Type 0
+abbrev pub TermOf : List ℕ → Resolved → WriterState → Type 0
 TermOf s h st = StartsAt s h st (words (quote (placeS s h) (st .next)))
 
-abbrev pub FieldsPre : List ℕ → Place → ℕ → State → Type 0
+abbrev pub FieldsPre : List ℕ → Resolved → ℕ → WriterState → Type 0
 FieldsPre s h k st = StartsAt s h st (wordsF (quotes (fieldsS s h k) (st .next)))
 
-abbrev pub ConditionOf : List ℕ → Place → Bool → State → Type 0
+abbrev pub ConditionOf : List ℕ → Resolved → Bool → WriterState → Type 0
 ConditionOf s h v st = StartsAt s h st (wordsC (condition (placeS s h) v (st .next)))
 
-abbrev pub SourcePre : List ℕ → Place → Bool → State → Type 0
+abbrev pub SourcePre : List ℕ → Resolved → Bool → WriterState → Type 0
 SourcePre s h v st = StartsAt s h st (wordsC (ranges (placeS s h) v (st .next) .clauses))
 
-abbrev pub SinglePre : List ℕ → Place → State → Type 0
+abbrev pub SinglePre : List ℕ → Resolved → WriterState → Type 0
 SinglePre s h st = StartsAt s h st (wordsC (one (quote (placeS s h) (st .next))))
 
-abbrev pub CopyOf : List ℕ → Place → Monoid → Bool → State → Type 0
+abbrev pub CopyOf : List ℕ → Resolved → Monoid → Bool → WriterState → Type 0
 CopyOf s h m v st = StartsAt s h st (wordsC (copyS s h m v (st .next)))

@@ -11,16 +11,16 @@ ghost use Rattle.base_syntax.specs.MonoidWord.{monoidOf};
 ghost use Rattle.base_syntax.specs.declared.Monoid.the-variants as Monoid;
 ghost use Rattle.base_scratch.specs.Map.{formWords};
 ghost use Rattle.front_nodes.specs.NodeTable.{chain, nodesOf, qualifiersOf};
-ghost use Rattle.base_syntax.specs.declared.Op.the-variants as Op;
-ghost use Rattle.front_resolve.specs.Place.{under, envOf};
+ghost use Rattle.base_syntax.specs.declared.BinOp.the-variants as BinOp;
+ghost use Rattle.front_resolve.specs.Resolved.{under, envOf};
 ghost use Rattle.front_resolve.specs.declared.Form.the-variants.{Two, Not, Comp};
 ghost use Rattle.front_emit.specs.ConditionShape.{IsComp, SplitOfPost};
-ghost use Rattle.front_emit.specs.WriterStart.{collections, semS, placeS, tableS, simpleS, fieldsS, flagIn, copyEnv, Copies, Room, EmitPre, ClausePre, QualifierPre, QualifiersPre, TermOf, Headed, Termed, FieldsPre, SourcePre, SinglePre, SimplePre, CopyOf, HeadingOfPost};
+ghost use Rattle.front_emit.specs.WriterStart.{collections, semS, placeS, tableS, simpleS, fieldsS, flagIn, copyEnv, Copies, FormRoom, EmitPre, ClausePre, QualifierPre, QualifiersPre, TermOf, Headed, Termed, FieldsPre, SourcePre, SinglePre, SimplePre, CopyOf, HeadingOfPost};
 ghost use Rattle.front_emit.specs.WriterResult.{behind, LeafPost, ClosePost, GeneratorPost, Emitted, FieldsPost, SourcePost, ClausePost, QualifierPost, EmittedQ, SinglePost, NeverPost};
 ghost use Rattle.front_emit.specs.WholeForm.{Writable, WriteFormPost};
 ghost use Rattle.base_syntax.specs.Numbers.{binOf, opArg, monoidArg};
+use base_syntax::BinOp;
 use base_syntax::Monoid;
-use base_syntax::Op;
 use front_nodes::Found;
 use front_nodes::QueryNode;
 use front_resolve::Form;
@@ -28,7 +28,7 @@ use front_resolve::Head;
 use front_resolve::LEVELS;
 
 // The next place among the words of the normal form, and the next generator number.
-pub struct State {
+pub struct WriterState {
     pub place: usize,
     pub next: u64,
 }
@@ -58,18 +58,18 @@ fn truth_number(b: bool) -> u64
 }
 
 // Behind a word.
-fn below(st: State) -> State
+fn below(st: WriterState) -> WriterState
     requires { ⌜ st .place < formWords ⌝ }
     ensures { λ r. ⌜ r ≡ behind st ⌝ }
 {
-    State {
+    WriterState {
         place: st.place + 1,
         next: st.next,
     }
 }
 
 // A word with nothing below it.
-fn leaf(s: &mut [u64], k: u64, a: u64, st: State) -> State
+fn leaf(s: &mut [u64], k: u64, a: u64, st: WriterState) -> WriterState
     requires { ⌜ (k < 16) × (a < 2 ^ 50) × (st .place < formWords) ⌝ }
     ensures { λ r. ⌜ LeafPost k a (now (s .entry)) st (now (s .exit)) r ⌝ }
 {
@@ -88,8 +88,8 @@ fn close(s: &mut [u64], p: usize, e: usize, k: u64, a: u64)
 }
 
 // A generator over table k gets the next number.
-fn generator(s: &mut [u64], k: usize, st: State) -> State
-    requires { ⌜ Room st 1 × (k < 2 ^ 33) ⌝ }
+fn generator(s: &mut [u64], k: usize, st: WriterState) -> WriterState
+    requires { ⌜ FormRoom st 1 × (k < 2 ^ 33) ⌝ }
     ensures { λ r. ⌜ GeneratorPost k (now (s .entry)) st (now (s .exit)) r ⌝ }
 {
     let p = st.place;
@@ -100,15 +100,15 @@ fn generator(s: &mut [u64], k: usize, st: State) -> State
         0,
         form_words::PAIR * st.next + k as u64,
     );
-    State {
+    WriterState {
         place: st.place + 1,
         next: st.next + 1,
     }
 }
 
 // A generator over what is no collection is a condition that is never met.
-fn never(s: &mut [u64], st: State) -> State
-    requires { ⌜ Room st 2 ⌝ }
+fn never(s: &mut [u64], st: WriterState) -> WriterState
+    requires { ⌜ FormRoom st 2 ⌝ }
     ensures { λ r. ⌜ NeverPost (now (s .entry)) st (now (s .exit)) r ⌝ }
 {
     let p = st.place;
@@ -118,8 +118,8 @@ fn never(s: &mut [u64], st: State) -> State
 }
 
 // A table that is no generator's: a comprehension over its rows.
-fn table(s: &mut [u64], k: usize, st: State) -> State
-    requires { ⌜ Room st 3 × (k < 2 ^ 33) ⌝ }
+fn table(s: &mut [u64], k: usize, st: WriterState) -> WriterState
+    requires { ⌜ FormRoom st 3 × (k < 2 ^ 33) ⌝ }
     ensures { λ r. ⌜ Emitted (tableS (now (s .entry)) k) (now (s .entry)) st (now (s .exit)) r ⌝ }
 {
     let c = collection_number(s, k);
@@ -132,7 +132,7 @@ fn table(s: &mut [u64], k: usize, st: State) -> State
 }
 
 // A form that has no nodes below it.
-fn simple(s: &mut [u64], f: Form, i: usize, st: State) -> State
+fn simple(s: &mut [u64], f: Form, i: usize, st: WriterState) -> WriterState
     requires { ⌜ SimplePre (now s) f i st ⌝ }
     ensures { λ r. ⌜ Emitted (simpleS (now (s .entry)) f) (now (s .entry)) st (now (s .exit)) r ⌝ }
 {
@@ -156,7 +156,7 @@ fn split_of(f: Form, v: bool) -> Split
 {
     match f {
         Form::Two(o, a, b) => match o {
-            Op::And => Split::And(a, b),
+            BinOp::And => Split::And(a, b),
             _ => Split::One,
         },
         Form::Comp(m, k) => match m {
@@ -181,7 +181,7 @@ fn copy(h: Head, m: Monoid, v: bool, n: u64, env: &mut [u16; LEVELS])
 }
 
 // Node i as a term.
-fn emit(s: &mut [u64], i: usize, depth: usize, env: &[u16; LEVELS], st: State) -> State
+fn emit(s: &mut [u64], i: usize, depth: usize, env: &[u16; LEVELS], st: WriterState) -> WriterState
     requires { ⌜ EmitPre (now s) i depth (now env) st × (length (now env) ≡ levels) ⌝ }
     ensures { λ r. ⌜ Emitted (semS (now (s .entry)) i depth (envOf (now (env .entry)))) (now (s .entry)) st (now (s .exit)) r ⌝ }
 {
@@ -206,7 +206,7 @@ fn heading_of(f: Form) -> Heading
     }
 }
 
-fn placed(s: &mut [u64], h: Head, env: &mut [u16; LEVELS], st: State) -> State
+fn placed(s: &mut [u64], h: Head, env: &mut [u16; LEVELS], st: WriterState) -> WriterState
     requires { ⌜ TermOf (now s) (under (now env) h) st ⌝ }
     ensures { λ r. ⌜ Emitted (placeS (now (s .entry)) (under (now (env .entry)) h)) (now (s .entry)) st (now (s .exit)) r ⌝ }
 {
@@ -223,7 +223,14 @@ fn placed(s: &mut [u64], h: Head, env: &mut [u16; LEVELS], st: State) -> State
 }
 
 // A record or an operator, whose word is of kind k with argument a.
-fn recorded(s: &mut [u64], h: Head, k: u64, a: u64, env: &[u16; LEVELS], st: State) -> State
+fn recorded(
+    s: &mut [u64],
+    h: Head,
+    k: u64,
+    a: u64,
+    env: &[u16; LEVELS],
+    st: WriterState,
+) -> WriterState
     requires { ⌜ TermOf (now s) (under (now env) h) st × Headed (h .form) k a ⌝ }
     ensures { λ r. ⌜ Emitted (placeS (now (s .entry)) (under (now (env .entry)) h)) (now (s .entry)) st (now (s .exit)) r ⌝ }
 {
@@ -234,7 +241,7 @@ fn recorded(s: &mut [u64], h: Head, k: u64, a: u64, env: &[u16; LEVELS], st: Sta
 }
 
 // The terms of a record or an operator.
-fn fields(s: &mut [u64], h: Head, env: &[u16; LEVELS], st: State) -> State
+fn fields(s: &mut [u64], h: Head, env: &[u16; LEVELS], st: WriterState) -> WriterState
     requires { ⌜ FieldsPre (now s) (under (now env) h) 0 st × Termed (h .form) ⌝ }
     ensures { λ r. ⌜ FieldsPost (fieldsS (now (s .entry)) (under (now (env .entry)) h) 0) (now (s .entry)) st (now (s .exit)) r ⌝ }
 {
@@ -256,12 +263,12 @@ fn fields(s: &mut [u64], h: Head, env: &[u16; LEVELS], st: State) -> State
 fn binary(
     s: &mut [u64],
     h: Head,
-    o: Op,
+    o: BinOp,
     a: usize,
     b: usize,
     env: &[u16; LEVELS],
-    st: State,
-) -> State
+    st: WriterState,
+) -> WriterState
     requires { ⌜ TermOf (now s) (under (now env) h) st × (h .form ≡ Two o a b) ⌝ }
     ensures { λ r. ⌜ Emitted (placeS (now (s .entry)) (under (now (env .entry)) h)) (now (s .entry)) st (now (s .exit)) r ⌝ }
 {
@@ -272,7 +279,7 @@ fn binary(
     r
 }
 
-fn negated(s: &mut [u64], h: Head, c: usize, env: &[u16; LEVELS], st: State) -> State
+fn negated(s: &mut [u64], h: Head, c: usize, env: &[u16; LEVELS], st: WriterState) -> WriterState
     requires { ⌜ TermOf (now s) (under (now env) h) st × (h .form ≡ Not c) ⌝ }
     ensures { λ r. ⌜ Emitted (placeS (now (s .entry)) (under (now (env .entry)) h)) (now (s .entry)) st (now (s .exit)) r ⌝ }
 {
@@ -288,8 +295,8 @@ fn comprehension(
     m: Monoid,
     k: usize,
     env: &mut [u16; LEVELS],
-    st: State,
-) -> State
+    st: WriterState,
+) -> WriterState
     requires { ⌜ TermOf (now s) (under (now env) h) st × (h .form ≡ Comp m k) ⌝ }
     ensures { λ r. ⌜ Emitted (placeS (now (s .entry)) (under (now (env .entry)) h)) (now (s .entry)) st (now (s .exit)) r ⌝ }
 {
@@ -301,7 +308,14 @@ fn comprehension(
 }
 
 // The qualifiers of a comprehension, in the copy that begins with the next number. The environment becomes that of the copy.
-fn copied(s: &mut [u64], h: Head, m: Monoid, v: bool, env: &mut [u16; LEVELS], st: State) -> State
+fn copied(
+    s: &mut [u64],
+    h: Head,
+    m: Monoid,
+    v: bool,
+    env: &mut [u16; LEVELS],
+    st: WriterState,
+) -> WriterState
     requires { ⌜ CopyOf (now s) (under (now env) h) m v st × IsComp m (h .form) ⌝ }
     ensures { λ r. ⌜ EmittedQ (nodesOf (now (s .entry))) (semS (now (s .entry))) (qualifiersOf (now (s .entry)) (h .node)) (suc (h .depth)) (copyEnv (under (now (env .entry)) h) m v (st .next)) (flagIn v m) (now (s .entry)) st (now (s .exit)) r × Copies (under (now (env .entry)) h) m v (st .next) (now (env .exit)) ⌝ }
 {
@@ -320,8 +334,8 @@ fn qualifiers(
     depth: usize,
     env: &[u16; LEVELS],
     v: bool,
-    st: State,
-) -> State
+    st: WriterState,
+) -> WriterState
     requires { ⌜ QualifiersPre (now s) lo e depth (now env) v st × (length (now env) ≡ levels) ⌝ }
     ensures { λ r. ⌜ EmittedQ (nodesOf (now (s .entry))) (semS (now (s .entry))) (chain (now (s .entry)) lo e) depth (envOf (now (env .entry))) v (now (s .entry)) st (now (s .exit)) r ⌝ }
 {
@@ -341,8 +355,8 @@ fn qualifier(
     depth: usize,
     env: &[u16; LEVELS],
     v: bool,
-    st: State,
-) -> State
+    st: WriterState,
+) -> WriterState
     requires { ⌜ QualifierPre (now s) x depth (now env) v st × (length (now env) ≡ levels) ⌝ }
     ensures { λ r. ⌜ QualifierPost (semS (now (s .entry))) (nodesOf (now (s .entry)) x) depth (envOf (now (env .entry))) v (now (s .entry)) st (now (s .exit)) r ⌝ }
 {
@@ -366,8 +380,8 @@ fn clause(
     env: &[u16; LEVELS],
     v: bool,
     ranging: bool,
-    st: State,
-) -> State
+    st: WriterState,
+) -> WriterState
     requires { ⌜ ClausePre ranging (now s) i depth (now env) v st × (length (now env) ≡ levels) ⌝ }
     ensures { λ r. ⌜ ClausePost ranging (semS (now (s .entry)) i depth (envOf (now (env .entry)))) v (now (s .entry)) st (now (s .exit)) r ⌝ }
 {
@@ -400,7 +414,7 @@ fn clause(
 }
 
 // A place as a generator's term.
-fn source(s: &mut [u64], h: Head, v: bool, env: &mut [u16; LEVELS], st: State) -> State
+fn source(s: &mut [u64], h: Head, v: bool, env: &mut [u16; LEVELS], st: WriterState) -> WriterState
     requires { ⌜ SourcePre (now s) (under (now env) h) v st ⌝ }
     ensures { λ r. ⌜ SourcePost (placeS (now (s .entry)) (under (now (env .entry)) h)) v (now (s .entry)) st (now (s .exit)) r ⌝ }
 {
@@ -412,7 +426,7 @@ fn source(s: &mut [u64], h: Head, v: bool, env: &mut [u16; LEVELS], st: State) -
     }
 }
 
-fn single(s: &mut [u64], h: Head, env: &mut [u16; LEVELS], st: State) -> State
+fn single(s: &mut [u64], h: Head, env: &mut [u16; LEVELS], st: WriterState) -> WriterState
     requires { ⌜ SinglePre (now s) (under (now env) h) st ⌝ }
     ensures { λ r. ⌜ SinglePost (placeS (now (s .entry)) (under (now (env .entry)) h)) (now (s .entry)) st (now (s .exit)) r ⌝ }
 {
@@ -428,6 +442,6 @@ pub fn write_form(s: &mut [u64], i: usize) -> usize
     ensures { λ r. ⌜ WriteFormPost (now (s .entry)) i (now (s .exit)) r ⌝ }
 {
     let env: [u16; LEVELS] = [0; LEVELS];
-    let r = emit(s, i, 0, &env, State { place: 0, next: 0 });
+    let r = emit(s, i, 0, &env, WriterState { place: 0, next: 0 });
     r.place
 }

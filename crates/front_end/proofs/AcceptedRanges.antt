@@ -18,7 +18,7 @@ use Rattle.spec_encoding.proofs.Data.{read-well-formed}
 use Rattle.spec_checks.specs.Types.{Ty, Tys, number, truth, record′, coll, ynil, ycons, wrong, has, cells, typeAt, Context, generatorsFit}
 use Rattle.spec_checks.proofs.Judgement.{operand, result, Takes, Gathers, Has, HasL, HasQ, untyped, same-type, question-typed}
 use Rattle.spec_normal_form.proofs.Ranges.{OpInRange, InRange, InRangeL, InRangeQ, Ranges}
-use Rattle.spec_checks.specs.Calendars.{lentOp, lentT, lentTs, lentQ, calendarsLent}
+use Rattle.spec_checks.specs.Calendars.{namedLentOp, namedLentT, namedLentTs, namedLentQ, calendarsLent}
 use Rattle.front_words.specs.LaidTree.{countL}
 use Rattle.front_end.proofs.QuestionLimits.{Literal, LiteralL, LiteralQ, question-given}
 
@@ -88,8 +88,8 @@ upd-narrow x σ Γ a e y τ = go (eqb x y) refl
     go false p = rw (p, upd) (e y τ)
 
 -- a calendar's number that is lent is a byte
-op-narrow : {k : ℕ} (f : Fun) → k ≤ 256 → lentOp k f ≡ true → OpInRange f
-unfolding lentOp
+op-narrow : {k : ℕ} (f : Fun) → k ≤ 256 → namedLentOp k f ≡ true → OpInRange f
+unfolding namedLentOp
 op-narrow Sy.choice m v = tt
 op-narrow {k} (Sy.isOpen n c) m v = omega (arith, ltb-true n k v, m)
 
@@ -101,9 +101,9 @@ second a b e = and-eq-true-iff a b .0 e .1
 
 module _ {T : Tables} (W : WellFormed T) {k : ℕ} (m′ : k ≤ 256) where
   mutual
-    unfolding Narrow countL width lentT
+    unfolding Narrow countL width namedLentT
 
-    narrow : (t : Term) (Γ : Context) (τ : Ty) → Literal t → lentT k t ≡ true → NarrowE Γ → Has T Γ t τ → Narrow τ × InRange t
+    narrow : (t : Term) (Γ : Context) (τ : Ty) → Literal t → namedLentT k t ≡ true → NarrowE Γ → Has T Γ t τ → Narrow τ × InRange t
     narrow (num z) Γ τ l v e h = (subst Narrow (sym h) tt, l)
     narrow (Sy.truth b) Γ τ l v e h = (subst Narrow (sym h) tt, tt)
     narrow (name x) Γ τ l v e h = (e x τ h, tt)
@@ -114,38 +114,38 @@ module _ {T : Tables} (W : WellFormed T) {k : ℕ} (m′ : k ≤ 256) where
     narrow (rec ts) Γ τ l v e h =
         let a = narrowL ts Γ (h .0) (l .1) v e (h .1) in
         (subst Narrow (sym (h .2)) (omega (arith, a .0, l .0), a .1), a .2)
-    narrow (app f ts) Γ τ l v e h = (takes-narrow f (h .0) τ (h .2), (l .0, narrowL ts Γ (h .0) (l .1) (second (lentOp k f) (lentTs k ts) v) e (h .1) .2, op-narrow f m′ (first (lentOp k f) (lentTs k ts) v)))
+    narrow (app f ts) Γ τ l v e h = (takes-narrow f (h .0) τ (h .2), (l .0, narrowL ts Γ (h .0) (l .1) (second (namedLentOp k f) (namedLentTs k ts) v) e (h .1) .2, op-narrow f m′ (first (namedLentOp k f) (namedLentTs k ts) v)))
     narrow (bin o s t) Γ τ l v e h =
-        (subst Narrow (sym (h .2)) (result-narrow o), (narrow s Γ (operand o) (l .0) (first (lentT k s) (lentT k t) v) e (h .0) .1, narrow t Γ (operand o) (l .1) (second (lentT k s) (lentT k t) v) e (h .1) .1))
+        (subst Narrow (sym (h .2)) (result-narrow o), (narrow s Γ (operand o) (l .0) (first (namedLentT k s) (namedLentT k t) v) e (h .0) .1, narrow t Γ (operand o) (l .1) (second (namedLentT k s) (namedLentT k t) v) e (h .1) .1))
     narrow (negate t) Γ τ l v e h = (subst Narrow (sym (h .1)) tt, narrow t Γ truth l v e (h .0) .1)
     narrow (comp m qs t) Γ τ l v e h =
-        let a = narrowQ qs m Γ (h .0) (l .0) (first (lentQ k qs) (lentT k t) v) e (h .2) in
-        let b = narrow t (h .0) (h .1) (l .1) (second (lentQ k qs) (lentT k t) v) (a .0) (h .3) in
+        let a = narrowQ qs m Γ (h .0) (l .0) (first (namedLentQ k qs) (namedLentT k t) v) e (h .2) in
+        let b = narrow t (h .0) (h .1) (l .1) (second (namedLentQ k qs) (namedLentT k t) v) (a .0) (h .3) in
         (gathers-narrow m (h .1) τ (b .0) (h .4), (a .1, b .1))
     narrow (table k) Γ τ l v e h =
         let a = cells-narrow (columnsOf T k) in
         (subst Narrow (sym (h .1)) (omega (arith, a .0, columns-at-most W k), a .1), omega (arith, number-few W k (h .0)))
 
-    narrowL : (ts : Terms) (Γ : Context) (us : Tys) → LiteralL ts → lentTs k ts ≡ true → NarrowE Γ → HasL T Γ ts us → (width us ≡ countL ts) × NarrowL us × InRangeL ts
+    narrowL : (ts : Terms) (Γ : Context) (us : Tys) → LiteralL ts → namedLentTs k ts ≡ true → NarrowE Γ → HasL T Γ ts us → (width us ≡ countL ts) × NarrowL us × InRangeL ts
     narrowL tnil Γ us l v e h = (ap width h, subst NarrowL (sym h) tt, tt)
     narrowL (tcons t ts) Γ us l v e h =
-        let a = narrow t Γ (h .0) (l .0) (first (lentT k t) (lentTs k ts) v) e (h .2) in
-        let b = narrowL ts Γ (h .1) (l .1) (second (lentT k t) (lentTs k ts) v) e (h .3) in
+        let a = narrow t Γ (h .0) (l .0) (first (namedLentT k t) (namedLentTs k ts) v) e (h .2) in
+        let b = narrowL ts Γ (h .1) (l .1) (second (namedLentT k t) (namedLentTs k ts) v) e (h .3) in
         (ap width (h .4) ∙ ap suc (b .0), subst NarrowL (sym (h .4)) (a .0, b .1), (a .1, b .2))
 
-    narrowQ : (qs : Quals) (m : Monoid) (Γ Δ : Context) → LiteralQ qs → lentQ k qs ≡ true → NarrowE Γ → HasQ T m Γ qs Δ → NarrowE Δ × InRangeQ qs
+    narrowQ : (qs : Quals) (m : Monoid) (Γ Δ : Context) → LiteralQ qs → namedLentQ k qs ≡ true → NarrowE Γ → HasQ T m Γ qs Δ → NarrowE Δ × InRangeQ qs
     narrowQ qnil m Γ Δ l v e h = (subst NarrowE h e, tt)
     narrowQ (gen x t qs) m Γ Δ l v e h =
-        let a = narrow t Γ (coll (h .0) (h .1)) (l .0) (first (lentT k t) (lentQ k qs) v) e (h .2) in
-        let b = narrowQ qs m (upd x (has (h .1)) Γ) Δ (l .1) (second (lentT k t) (lentQ k qs) v) (upd-narrow x (h .1) Γ (a .0) e) (h .4) in
+        let a = narrow t Γ (coll (h .0) (h .1)) (l .0) (first (namedLentT k t) (namedLentQ k qs) v) e (h .2) in
+        let b = narrowQ qs m (upd x (has (h .1)) Γ) Δ (l .1) (second (namedLentT k t) (namedLentQ k qs) v) (upd-narrow x (h .1) Γ (a .0) e) (h .4) in
         (b .0, (a .1, b .1))
     narrowQ (bind x t qs) m Γ Δ l v e h =
-        let a = narrow t Γ (h .0) (l .0) (first (lentT k t) (lentQ k qs) v) e (h .1) in
-        let b = narrowQ qs m (upd x (has (h .0)) Γ) Δ (l .1) (second (lentT k t) (lentQ k qs) v) (upd-narrow x (h .0) Γ (a .0) e) (h .2) in
+        let a = narrow t Γ (h .0) (l .0) (first (namedLentT k t) (namedLentQ k qs) v) e (h .1) in
+        let b = narrowQ qs m (upd x (has (h .0)) Γ) Δ (l .1) (second (namedLentT k t) (namedLentQ k qs) v) (upd-narrow x (h .0) Γ (a .0) e) (h .2) in
         (b .0, (a .1, b .1))
     narrowQ (cond t qs) m Γ Δ l v e h =
-        let b = narrowQ qs m Γ Δ (l .1) (second (lentT k t) (lentQ k qs) v) e (h .1) in
-        (b .0, (narrow t Γ truth (l .0) (first (lentT k t) (lentQ k qs) v) e (h .0) .1, b .1))
+        let b = narrowQ qs m Γ Δ (l .1) (second (namedLentT k t) (namedLentQ k qs) v) e (h .1) in
+        (b .0, (narrow t Γ truth (l .0) (first (namedLentT k t) (namedLentQ k qs) v) e (h .0) .1, b .1))
 
 -- Where the data and a question are read, and 25, 42 and 26 let it pass, its constants, fields, tables and calendars are in range.
 pub read-ranges : (d l : Bytes) {T : Tables} {q : Question} {k : ℕ} → readData d ≡ got T → readQuestion l ≡ got q → k ≤ 256 → calendarsLent k q ≡ true → generatorsFit T q ≡ true → Ranges q

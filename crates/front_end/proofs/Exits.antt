@@ -21,7 +21,7 @@ use Rattle.base_scratch.specs.Map.{scratchSize}
 use Rattle.base_tables.specs.DataReader.{ReadDataPost}
 use Rattle.base_tables.proofs.ReadData.{WellFormed, well-formed, not-well-formed}
 use Rattle.base_tables.proofs.TableWords.{stored-same}
-use Rattle.front_parser.specs.ReaderContracts.{Held, QuestionBy, ReadQuestionPost}
+use Rattle.front_parser.specs.ReaderContracts.{QuestionLaid, QuestionBy, ReadQuestionPost}
 use Rattle.front_parser.specs.declared.Read.{Read}
 use Rattle.front_parser.specs.declared.Read.the-variants as Answer
 use Rattle.front_scope.specs.PassContract.{NamesHoldPost}
@@ -30,7 +30,7 @@ use Rattle.front_sizes.specs.SizeWords.{termCount}
 use Rattle.front_typing.specs.ShapeWords.{Judges}
 use Rattle.front_typing.proofs.QuestionTypes.{types-fit, generators-fit}
 use Rattle.front_measure.specs.KeptSizes.{MeasurePost}
-use Rattle.front_end.specs.LoadedQuestion.{Loaded, Ready, Apart}
+use Rattle.front_end.specs.LoadedQuestion.{Loaded, ScopedQuestion, BehindKept}
 use Rattle.front_end.specs.PartContracts.{JudgedBy, SizedPost, TypedPost, JudgedPost, FrontBy, FrontEndPost}
 use Rattle.front_end.specs.declared.FrontResult.{FrontResult}
 use Rattle.front_end.specs.declared.FrontResult.the-variants as FrontResult
@@ -43,7 +43,7 @@ use Rattle.front_end.proofs.MeasuredRoot.{after, size-said, root-form, 
 
 -- ---- 27
 module _ {s r : List ℕ} {n : ℕ} (M : MeasurePost s n r) (few : n ≤ 256) where
-  measures-away : Apart s r
+  measures-away : BehindKept s r
   measures-away = record { long = M .long; above = λ j l. M .back j (omega arith) }
 
   module _ {z : ℕ} (e : z ≡ termCount r (n - 1) .size) where
@@ -71,7 +71,7 @@ module _ {s t : List ℕ} {n : ℕ} {a : Bool} (A : Judges false s n t a) (few :
     C = calendarsOf k
 
     -- the nodes pass where the question does
-    lent-said : {d : Bytes} {T : Tables} {q : Question} → Ready d T q s n → x ≡ calendarsLent (length C) q
+    lent-said : {d : Bytes} {T : Tables} {q : Question} → ScopedQuestion d T q s n → x ≡ calendarsLent (length C) q
     lent-said {q = q} R = let L = judges-ready A R .loaded in X ∙ question-lent (length C) t q n (L .laid) (L .count)
 
     pub calendars-wrong : x ≡ false → TypedPost k s t n (FrontResult.Refused 42)
@@ -100,8 +100,8 @@ module _ {s : List ℕ} {n : ℕ} {a : Bool} (A : NamesHoldPost s n a) {k : Byte
 
   pub names-right : a ≡ true → {t u : List ℕ} {r : FrontResult} → t ≡ bindersOf s n → TypedPost k t u n r → JudgedPost k s u n r
   names-right e {t} {u} {r} w F = record {
-    is = λ d T q L. F .is d T q (subst (λ x. Ready d T q x n) (sym w) (made-ready L (sym (names-said L A) ∙ e)));
-    away = apart-then (subst (Apart s) (sym w) (binders-away s n)) (F .away);
+    is = λ d T q L. F .is d T q (subst (λ x. ScopedQuestion d T q x n) (sym w) (made-ready L (sym (names-said L A) ∙ e)));
+    away = apart-then (subst (BehindKept s) (sym w) (binders-away s n)) (F .away);
   }
 
 -- ---- the data, and the question
@@ -116,7 +116,7 @@ question-other : (l : Bytes) {k : ℕ} → readQuestion l ≡ refused k → Othe
 question-other l e = subst (Only Other) e (question-only Other (λ h. omega arith) (λ h. omega arith) (λ h. omega arith) l)
 
 module _ {d : Bytes} {s t : List ℕ} {z : ℕ} (D : ReadDataPost d s t z) where
-  data-away : Apart s t
+  data-away : BehindKept s t
   data-away = record { long = D .long; above = λ j h. D .kept j (omega arith) }
 
   pub data-wrong : {l : Lent} → (z ≡ 0 → ⊥) → FrontEndPost d l s t (FrontResult.Refused z)
@@ -130,7 +130,7 @@ module _ {d : Bytes} {s t : List ℕ} {z : ℕ} (D : ReadDataPost d s t z) where
     fit : calendarsFit mostCalendars (l .calendars) ≡ true
     fit = sym X ∙ w
 
-    both-away : Apart s u
+    both-away : BehindKept s u
     both-away = apart-then data-away (record { long = Q .kept .long; above = λ j h. Q .kept .above j (omega arith) })
 
     pub question-wrong : {k : ℕ} → x ≡ Answer.Refused k → FrontEndPost d l s u (FrontResult.Refused k)
@@ -138,7 +138,7 @@ module _ {d : Bytes} {s t : List ℕ} {z : ℕ} (D : ReadDataPost d s t z) where
         let k = subst (QuestionBy (readQuestion (l .question)) u) e (Q .is) in
         record { is = (unread d l (well-formed D y .is) (question-refused l (calendars-read (l .calendars) fit) k), question-other (l .question) k); away = both-away }
 
-    module _ (W : WellFormed d) {n : ℕ} (H : Held (readQuestion (l .question)) u n) where
+    module _ (W : WellFormed d) {n : ℕ} (H : QuestionLaid (readQuestion (l .question)) u n) where
       loaded : scratchSize ≤ length s → Loaded d (W .tables) (H .question) u n
       loaded room =
           let G = question-given (l .question) (H .is) in
@@ -161,7 +161,7 @@ module _ {d : Bytes} {s t : List ℕ} {z : ℕ} (D : ReadDataPost d s t z) where
     pub question-right : scratchSize ≤ length s → {n : ℕ} → x ≡ Answer.Question n → {v : List ℕ} {r : FrontResult} → JudgedPost (l .calendars) u v n r → FrontEndPost d l s v r
     question-right room {n} e {v} {r} F =
         let W = well-formed D y in
-        let H : Held (readQuestion (l .question)) u n = subst (QuestionBy (readQuestion (l .question)) u) e (Q .is) in
+        let H : QuestionLaid (readQuestion (l .question)) u n = subst (QuestionBy (readQuestion (l .question)) u) e (Q .is) in
         record { is = carried W H v r (F .is d (W .tables) (H .question) (loaded W H room)); away = apart-then both-away (F .away) }
 
 pub question-few : {l : Bytes} {t u : List ℕ} {x : Read} → ReadQuestionPost l t u x → {n : ℕ} → x ≡ Answer.Question n → n ≤ 256

@@ -9,7 +9,7 @@ use Rattle.spec_normal_form.specs.Form.{Form, Forms, Clauses, num, truth, row, 
 use Rattle.spec_normal_form.proofs.Lending.{lendF, lendFs, lendC}
 use Rattle.base_syntax.specs.Numbers.{opArg, funArg, FitsOp, LentOp, monoidArg}
 use Rattle.form_words.specs.NodeWord.{pack}
-use Rattle.form_words.specs.FormWords.{size, sizeF, sizeC, flat, flatF, flatC, Fits, FitsF, FitsC, Lent, LentF, LentC}
+use Rattle.form_words.specs.FormWords.{size, sizeF, sizeC, flat, flatF, flatC, Fits, FitsF, FitsC, CalendarsIn, CalendarsInAll, CalendarsInClauses}
 
 module _ (K : ℕ → Calendar) where
   op-fits : (f : Fun) → FitsOp f → FitsOp (lendOp K f)
@@ -53,7 +53,7 @@ module _ (K : ℕ → Calendar) where
   mutual
     unfolding lendF
 
-    pub all-lent : (t : Form) → Lent K (lendF K t)
+    pub all-lent : (t : Form) → CalendarsIn K (lendF K t)
     all-lent (num z) = tt
     all-lent (truth b) = tt
     all-lent (row g) = tt
@@ -64,11 +64,11 @@ module _ (K : ℕ → Calendar) where
     all-lent (app f ts) = (op-lent f, allF-lent ts)
     all-lent (comp m q t) = (allC-lent q, all-lent t)
 
-    allF-lent : (ts : Forms) → LentF K (lendFs K ts)
+    allF-lent : (ts : Forms) → CalendarsInAll K (lendFs K ts)
     allF-lent fnil = tt
     allF-lent (fcons t ts) = (all-lent t, allF-lent ts)
 
-    allC-lent : (q : Clauses) → LentC K (lendC K q)
+    allC-lent : (q : Clauses) → CalendarsInClauses K (lendC K q)
     allC-lent done = tt
     allC-lent (gen g k q) = allC-lent q
     allC-lent (cond t q) = (all-lent t, allC-lent q)

@@ -19,7 +19,7 @@ use Rattle.front_theory.specs.NodeForms.{Env, At, outside, qualOf, sem}
 use Rattle.front_sizes.specs.declared.FormSize.{FormSize}
 use Rattle.front_sizes.specs.SizeWords.{place, termCount}
 use Rattle.front_nodes.specs.NodeTable.{depthAt, nodesOf}
-use Rattle.front_resolve.specs.Place.{offsets}
+use Rattle.front_resolve.specs.Resolved.{offsets}
 use Rattle.front_measure.specs.MeasurableNodes.{qualifies, Arranged}
 use Rattle.front_measure.specs.KeptSizes.{MeasurePost}
 use Rattle.front_measure.proofs.LaidQuestion.{laid-arranged}
@@ -29,7 +29,7 @@ use Rattle.front_emit.specs.WriterStart as Em
 use Rattle.front_emit.specs.WholeForm.{formOf, Writable}
 use Rattle.front_emit.proofs.FormInScratch.{form-short}
 use Rattle.front_emit.proofs.TableCollections.{collections-are}
-use Rattle.front_end.specs.LoadedQuestion.{Ready}
+use Rattle.front_end.specs.LoadedQuestion.{ScopedQuestion}
 use Rattle.front_end.proofs.PassChain.{ready-same, ready-holds, root-depth}
 
 pub small-form : (f : NormalForm) → sizeFits f ≡ true → nodes (asForm f) ≤ 512
@@ -54,7 +54,7 @@ no-qualifier A D e v j (nbind c) p = refl
 no-qualifier A D e v j (ncond c) p = cc
 no-qualifier A D e v j nbad p = refl
 
-module _ {s r : List ℕ} {n : ℕ} (M : MeasurePost s n r) (few : n ≤ 256) {d : Bytes} {T : Tables} {q : Question} (R : Ready d T q s n) where
+module _ {s r : List ℕ} {n : ℕ} (M : MeasurePost s n r) (few : n ≤ 256) {d : Bytes} {T : Tables} {q : Question} (R : ScopedQuestion d T q s n) where
   arranged : Arranged s n
   arranged = subst (Arranged s) (sym (R .loaded .count)) (laid-arranged s (asTerm q) (R .loaded .laid) (omega (arith, few, R .loaded .count)))
 
@@ -64,7 +64,7 @@ module _ {s r : List ℕ} {n : ℕ} (M : MeasurePost s n r) (few : n ≤ 256) {d
   last : n - 1 < n
   last = omega (arith, R .loaded .some)
 
-  pub after : Ready d T q r n
+  pub after : ScopedQuestion d T q r n
   after = ready-same (M .long) (λ j l. M .front j (omega arith)) R
 
   pub size-said : leb (termCount r (n - 1) .size) 512 ≡ sizeFits (normal (kindOf T) q)
@@ -87,7 +87,7 @@ module _ {s r : List ℕ} {n : ℕ} (M : MeasurePost s n r) (few : n ≤ 256) {d
     root-writable =
         let e : n ≡ n - 1 + 1 = omega (arith, R .loaded .some) in
         record {
-          ready = subst (Em.Ready r) e (record { few = few; levelled = still-arranged M arranged few room .levelled; measured = measured });
+          ready = subst (Em.SizedNodes r) e (record { few = few; levelled = still-arranged M arranged few room .levelled; measured = measured });
           depth = root-depth after;
           short = form-short r (n - 1) root-form (small-form (normal (kindOf T) q) z);
           long = omega (arith, after .loaded .long);

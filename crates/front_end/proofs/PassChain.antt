@@ -13,7 +13,7 @@ use Rattle.spec_encoding.specs.Reader.{Kind, kinds, unknown, number, truthK, na
 use Rattle.spec_checks.specs.Scope.{namesHold}
 use Rattle.base_tables.proofs.TableWords.{stored-same}
 use Rattle.base_scratch.specs.Map.{nodesAt, bindersAt, shapesAt}
-use Rattle.front_words.specs.NodeWord.{kindOf as kindIn, argOf, nodeWord}
+use Rattle.front_words.specs.NodeWord.{nodeKindOf, argOf, nodeWord}
 use Rattle.front_words.specs.NodeTree.{kindAt, argAt}
 use Rattle.front_words.proofs.NodeWords.{laid-same}
 use Rattle.front_scope.specs.PassContract.{NamesHoldPost}
@@ -29,10 +29,10 @@ use Rattle.front_nodes.proofs.Levels.{last-depth}
 use Rattle.front_typing.specs.ShapeWords.{shaped, shapedUpTo, shapeOf, shapeWord, Judges}
 use Rattle.front_typing.proofs.Exits.{shaped-length}
 use Rattle.front_typing.proofs.QuestionTypes.{Checked}
-use Rattle.front_end.specs.LoadedQuestion.{Loaded, Ready, Apart}
+use Rattle.front_end.specs.LoadedQuestion.{Loaded, ScopedQuestion, BehindKept}
 
 -- ---- words that stay
-pub apart-then : {s t u : List ℕ} → Apart s t → Apart t u → Apart s u
+pub apart-then : {s t u : List ℕ} → BehindKept s t → BehindKept t u → BehindKept s u
 apart-then A B = record { long = B .long ∙ A .long; above = λ j l. B .above j l ∙ A .above j l }
 
 module _ {d : Bytes} {T : Tables} {q : Question} {s s′ : List ℕ} {n : ℕ} (long : length s′ ≡ length s) where
@@ -52,7 +52,7 @@ module _ {d : Bytes} {T : Tables} {q : Question} {s s′ : List ℕ} {n : ℕ} (
       }
 
   -- and the binders'
-  pub ready-same : ((j : ℕ) → j < shapesAt → getD s′ j 0 ≡ getD s j 0) → Ready d T q s n → Ready d T q s′ n
+  pub ready-same : ((j : ℕ) → j < shapesAt → getD s′ j 0 ≡ getD s j 0) → ScopedQuestion d T q s n → ScopedQuestion d T q s′ n
   ready-same front R = record { loaded = loaded-same (λ j l. front j (omega arith)) (R .loaded); names = R .names; bound = bound }
     where
       bound : (i : ℕ) → i < n → bindsName (kindAt s′ i) ≡ true → (argAt s′ i < 256) × (getD s′ (bindersAt + argAt s′ i) 0 ≡ i + 1)
@@ -60,7 +60,7 @@ module _ {d : Bytes} {T : Tables} {q : Question} {s s′ : List ℕ} {n : ℕ} (
           let few = R .loaded .few in
           let e : nodeWord s′ i ≡ nodeWord s i = front (nodesAt + i) (omega arith) in
           let a : argAt s′ i ≡ argAt s i = ap argOf e in
-          let w = R .bound i l (ap (λ (x : ℕ). bindsName (getD kinds (kindIn x) unknown)) (sym e) ∙ b) in
+          let w = R .bound i l (ap (λ (x : ℕ). bindsName (getD kinds (nodeKindOf x) unknown)) (sym e) ∙ b) in
           let z = w .0 in
           (omega (arith, a, z), ap (λ (x : ℕ). getD s′ (bindersAt + x) 0) a ∙ front (bindersAt + argAt s i) (omega (arith, z)) ∙ w .1)
 
@@ -68,14 +68,14 @@ module _ {d : Bytes} {T : Tables} {q : Question} {s s′ : List ℕ} {n : ℕ} (
 binders-length : (s : List ℕ) (n : ℕ) → length (bindersOf s n) ≡ length s
 binders-length s n = noted-up-length (cleared s 256) n ∙ cleared-length s 256
 
-pub binders-away : (s : List ℕ) (n : ℕ) → Apart s (bindersOf s n)
+pub binders-away : (s : List ℕ) (n : ℕ) → BehindKept s (bindersOf s n)
 binders-away s n = record { long = binders-length s n; above = λ j l. binders-apart j (λ y k e. omega arith) s n }
 
 module _ {d : Bytes} {T : Tables} {q : Question} {s : List ℕ} {n : ℕ} (L : Loaded d T q s n) where
   pub names-said : {r : Bool} → NamesHoldPost s n r → r ≡ namesHold q
   names-said J = judged-is q (L .laid) (omega (arith, L .count)) (L .small) J
 
-  pub made-ready : namesHold q ≡ true → Ready d T q (bindersOf s n) n
+  pub made-ready : namesHold q ≡ true → ScopedQuestion d T q (bindersOf s n) n
   made-ready h = record {
     loaded = loaded-same (binders-length s n) (λ j l. binders-apart j (λ y k e. omega arith) s n) L;
     names = h;
@@ -100,7 +100,7 @@ binding-binds condition b = absurd b
 binding-binds unknown b = absurd b
 
 -- ---- 25 and 26
-module _ {d : Bytes} {T : Tables} {q : Question} {s : List ℕ} {n : ℕ} (R : Ready d T q s n) where
+module _ {d : Bytes} {T : Tables} {q : Question} {s : List ℕ} {n : ℕ} (R : ScopedQuestion d T q s n) where
   pub ready-holds : Holds (nodesOf s) (depthAt s) (asTerm q) (n - 1) 0 noNames
   ready-holds =
       let L = R .loaded in
@@ -129,8 +129,8 @@ module _ {b : Bool} {s s′ : List ℕ} {n : ℕ} {r : Bool} (J : Judges b s n s
   judges-long : length s′ ≡ length s
   judges-long = ap length (J .words) ∙ shaped-length b s n
 
-  pub judges-away : n ≤ 256 → Apart s s′
+  pub judges-away : n ≤ 256 → BehindKept s s′
   judges-away h = record { long = judges-long; above = λ j l. ap (λ t. getD t j 0) (J .words) ∙ shaped-other b j s n (λ i k e. omega arith) }
 
-  pub judges-ready : {d : Bytes} {T : Tables} {q : Question} → Ready d T q s n → Ready d T q s′ n
+  pub judges-ready : {d : Bytes} {T : Tables} {q : Question} → ScopedQuestion d T q s n → ScopedQuestion d T q s′ n
   judges-ready R = ready-same judges-long (λ j l. ap (λ t. getD t j 0) (J .words) ∙ shaped-other b j s n (λ i k e. omega arith)) R

@@ -42,7 +42,7 @@ use Rattle.form_env.specs.NamedTables.{tableOf, NameTablesPost, Named}
 use Rattle.form_env.proofs.BoundRows.{empty-slot, tables-in, named-declared}
 use Rattle.form_env.proofs.NamedTables.{Away, names-away, all-named, none-has-row, others-stay}
 use Rattle.form_prepared.specs.PreparedQuestion.{Prepared}
-use Rattle.front_end.specs.LoadedQuestion.{Apart}
+use Rattle.front_end.specs.LoadedQuestion.{BehindKept}
 use Rattle.front_end.specs.PartContracts.{Fine, FrontBy, FrontEndPost}
 use Rattle.front_end.specs.PrepareContract.{PreparePost, FormedPost}
 use Rattle.front_end.specs.declared.FrontResult.{FrontResult}
@@ -127,7 +127,7 @@ module _ {d : Bytes} {l : Lent} {s s₁ s₀ s₄ s₂ s₃ : List ℕ} {n k : �
   held : Holds s₃ 0 (flat (asForm f))
   held = holds-kept s₂ s₃ (flat (asForm f)) 0 (λ j h i. named .high j) wiped
 
-  away : Apart s s₃
+  away : BehindKept s s₃
   away = record {
     long = named .long ∙ kept-size ∙ M .long ∙ Z .long ∙ long;
     above = λ j h.
@@ -154,8 +154,8 @@ module _ {d : Bytes} {l : Lent} {s s₁ s₀ s₄ s₂ s₃ : List ℕ} {n k : �
   hours = calendars-same s₃ s₂ (λ j h. subst (λ (i : ℕ). getD s₃ i 0 ≡ getD s₂ i 0) (let e : formAt + (j - formAt) ≡ j = omega arith in e) (named .high (j - formAt)))
       ∙ ap calendarIn E ∙ calendars-back (l .calendars) (F .fit) s₄ (omega (arith, M .long, Z .long, long, F .passed .ready .loaded .long))
 
-  all-there : Fw.Lent (calendarIn s₃) (asForm f)
-  all-there = subst (λ (X : ℕ → Calendar). Fw.Lent X (asForm f)) (sym hours) (subst (Fw.Lent K) (sym lent-form) (all-lent K (asForm g)))
+  all-there : Fw.CalendarsIn (calendarIn s₃) (asForm f)
+  all-there = subst (λ (X : ℕ → Calendar). Fw.CalendarsIn X (asForm f)) (sym hours) (subst (Fw.CalendarsIn K) (sym lent-form) (all-lent K (asForm g)))
 
   numbered : Numbered (asForm f) 0
   numbered = normal-numbered (kindOf T) (lent T C q) names

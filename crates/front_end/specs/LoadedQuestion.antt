@@ -30,12 +30,12 @@ pub record Loaded (d : Bytes) (T : Tables) (q : Question) (s : List ℕ) (n : �
   pub long : scratchSize ≤ length s
 
 -- its names hold, and the word of each name that it binds has the node that binds it
-pub record Ready (d : Bytes) (T : Tables) (q : Question) (s : List ℕ) (n : ℕ) : Type 0 where
+pub record ScopedQuestion (d : Bytes) (T : Tables) (q : Question) (s : List ℕ) (n : ℕ) : Type 0 where
   pub loaded : Loaded d T q s n
   pub names : namesHold q ≡ true
   pub bound : (i : ℕ) → i < n → bindsName (kindAt s i) ≡ true → (argAt s i < 256) × (getD s (bindersAt + argAt s i) 0 ≡ i + 1)
 
 -- the words behind those of the question stay
-pub record Apart (s s′ : List ℕ) : Type 0 where
+pub record BehindKept (s s′ : List ℕ) : Type 0 where
   pub long : length s′ ≡ length s
   pub above : (j : ℕ) → scratchSize ≤ j → getD s′ j 0 ≡ getD s j 0

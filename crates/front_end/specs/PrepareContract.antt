@@ -5,7 +5,7 @@ use Prim.Native.Nat.{ℕ}
 use Rattle.spec_encoding.specs.Record.{Bytes, refused, got}
 use Rattle.spec_outcome.specs.Acceptance.{Lent, lentAs, readLent, Accepted, posedOf, examine}
 use Rattle.form_prepared.specs.PreparedQuestion.{Prepared}
-use Rattle.front_end.specs.LoadedQuestion.{Apart}
+use Rattle.front_end.specs.LoadedQuestion.{BehindKept}
 use Rattle.front_end.specs.PartContracts.{Fine}
 use Rattle.front_end.specs.declared.Checked.{Checked}
 use Rattle.front_end.specs.declared.Checked.the-variants as Checked
@@ -23,7 +23,7 @@ PreparedBy d l s Checked.Accepted = Accepts d l s
 
 pub record PreparePost (d : Bytes) (l : Lent) (s s′ : List ℕ) (r : Checked) : Type 0 where
   pub is : PreparedBy d l s′ r
-  pub away : Apart s s′
+  pub away : BehindKept s s′
 
 -- 28, where all before it pass
 pub record FormedPost (d c : Bytes) (s s′ : List ℕ) (n : ℕ) (r : Checked) : Type 0 where

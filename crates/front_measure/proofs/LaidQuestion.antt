@@ -11,7 +11,7 @@ use Rattle.spec_calculus.specs.Syntax.{choice, isOpen, Term, Terms, Quals, num,
 use Rattle.base_signed.proofs.SignedWords.{by-test}
 use Rattle.spec_encoding.specs.Reader.{Kind, comprehension}
 use Rattle.front_words.specs.NodeTree.{monoidAt, argAt, startAt}
-use Rattle.front_words.specs.LaidTree.{nodes, nodesL, nodesQ, Node, Laid, LaidL, LaidQ}
+use Rattle.front_words.specs.LaidTree.{nodes, nodesL, nodesQ, LaidNode, Laid, LaidL, LaidQ}
 use Rattle.front_words.proofs.NodeWords.{some-nodes, laid-start}
 use Rattle.front_theory.specs.NodeTable as No
 use Rattle.front_words.specs.Binders.{binderWord}
@@ -42,7 +42,7 @@ pub record Last (s : List ℕ) (d j : ℕ) : Type 0 where
   pub depth : depthAt s j ≡ d
   pub kind : TermAt s j
 
-last-by : {s : List ℕ} {d a i : ℕ} {K : Kind} → Node s d a i K → (j : ℕ) → i ≡ j → j < mostNodes → qualifies (nodeBy s j K) ≡ false → Last s d j
+last-by : {s : List ℕ} {d a i : ℕ} {K : Kind} → LaidNode s d a i K → (j : ℕ) → i ≡ j → j < mostNodes → qualifies (nodeBy s j K) ≡ false → Last s d j
 last-by {s} N j e h q = record { depth = ap (depthAt s) (sym e) ∙ N .depth; kind = ap qualifies (node-is (node-at e N) h) ∙ q }
 
 last : (t : Term) (s : List ℕ) (d a : ℕ) → Laid s d a t → a + nodes t ≤ mostNodes → (j : ℕ) → a + nodes t ≡ j + 1 → Last s d j
@@ -78,7 +78,7 @@ deeper s d a h p = omega (arith, h p)
 behind-tree : (t : Term) (s : List ℕ) (d a : ℕ) → Laid s d a t → a + nodes t ≤ mostNodes → Ahead s d (a + nodes t)
 behind-tree t s d a L m p = omega (arith, last-at t s d a (a + nodes t) L m refl .depth)
 
-behind-node : {s : List ℕ} {d a i : ℕ} {K : Kind} → Node s d a i K → Ahead s d (i + 1)
+behind-node : {s : List ℕ} {d a i : ℕ} {K : Kind} → LaidNode s d a i K → Ahead s d (i + 1)
 behind-node {s} {i = i} N p = let e : i + 1 - 1 ≡ i = omega arith in omega (arith, ap (depthAt s) e ∙ N .depth)
 
 behind-quals : (qs : Quals) (s : List ℕ) (d a : ℕ) → LaidQ s d a qs → Ahead s d a → (e : ℕ) → a + nodesQ qs ≡ e → Ahead s d e
@@ -96,21 +96,21 @@ no-end s d a h = by-test (ltb 0 a)
     (λ t. rw t)
 
 -- ---- the qualifiers of a comprehension are a row
-row-ends : {s : List ℕ} {d a q : ℕ} {K : Kind} → Node s d a q K → qualifies (nodesOf s q) ≡ true → (e : ℕ) → q + 1 ≡ e → ends s d e ≡ true
+row-ends : {s : List ℕ} {d a q : ℕ} {K : Kind} → LaidNode s d a q K → qualifies (nodesOf s q) ≡ true → (e : ℕ) → q + 1 ≡ e → ends s d e ≡ true
 unfolding ends
 row-ends {s} {d} {q = q} N h e p =
     let z : e - 1 ≡ q = omega arith in
     let t : 0 < e = omega arith in
     rw (lt-ltb 0 e t, z, N .depth, h, eq-eqb d d refl)
 
-row-step : {s : List ℕ} {d a q : ℕ} {K : Kind} → Node s d a q K → a ≤ q → qualifies (nodesOf s q) ≡ true → (lo : ℕ) → lo ≤ a → chain s lo a ≡ row s d a → chain s lo (q + 1) ≡ row s d (q + 1)
+row-step : {s : List ℕ} {d a q : ℕ} {K : Kind} → LaidNode s d a q K → a ≤ q → qualifies (nodesOf s q) ≡ true → (lo : ℕ) → lo ≤ a → chain s lo a ≡ row s d a → chain s lo (q + 1) ≡ row s d (q + 1)
 row-step {s} {d} {a} {q} N l h lo k p =
     let e = q + 1 in
     let z : e - 1 ≡ q = omega arith in
     let b : startAt s (e - 1) ≡ a = ap (startAt s) z ∙ omega (arith, N .start) in
     chain-more s lo e (omega arith) ∙ ap (λ (x : List ℕ). x ++ ((e - 1) ∷ [])) (ap (chain s lo) b ∙ p ∙ ap (row s d) (sym b)) ∙ sym (row-more s d e (row-ends N h e refl))
 
-is-qualifier : {s : List ℕ} {d a q : ℕ} {K : Kind} (y : No.Node) → Node s d a q K → q < mostNodes → 0 < q → nodeBy s q K ≡ above q y → qualifies y ≡ true → qualifies (nodesOf s q) ≡ true
+is-qualifier : {s : List ℕ} {d a q : ℕ} {K : Kind} (y : No.Node) → LaidNode s d a q K → q < mostNodes → 0 < q → nodeBy s q K ≡ above q y → qualifies y ≡ true → qualifies (nodesOf s q) ≡ true
 is-qualifier {q = q} y N h p e t = ap qualifies (node-is N h ∙ e ∙ up q y p) ∙ t
 
 laid-row : (qs : Quals) (s : List ℕ) (d a lo : ℕ) → LaidQ s d a qs → a + nodesQ qs ≤ mostNodes → lo ≤ a → chain s lo a ≡ row s d a → (e : ℕ) → a + nodesQ qs ≡ e → chain s lo e ≡ row s d e
@@ -126,7 +126,7 @@ laid-row (cond t qs) s d a lo L m k p e q =
     let i = a + nodes t in
     laid-row qs s d (i + 1) lo (L .2) (omega arith) (omega arith) (row-step (L .1) (omega arith) (is-qualifier (No.ncond (i - 1)) (L .1) (omega arith) (omega (arith, some-nodes t)) refl refl) lo k p) e (omega arith)
 
-comp-row : (qs : Quals) (h : Term) (s : List ℕ) (d a j : ℕ) → LaidQ s (d + 1) a qs → Laid s (d + 1) (a + nodesQ qs) h → Node s d a j comprehension → a + nodesQ qs + nodes h ≡ j → j < mostNodes → Ahead s d a
+comp-row : (qs : Quals) (h : Term) (s : List ℕ) (d a j : ℕ) → LaidQ s (d + 1) a qs → Laid s (d + 1) (a + nodesQ qs) h → LaidNode s d a j comprehension → a + nodesQ qs + nodes h ≡ j → j < mostNodes → Ahead s d a
     → (qualifiersOf s j ≡ row s (depthAt s (j - 1)) (startAt s (j - 1))) × TermAt s (j - 1)
 comp-row qs h s d a j L M N e m B =
     let z = last-at h s (d + 1) (a + nodesQ qs) j M (omega arith) e in
@@ -141,7 +141,7 @@ comp-row qs h s d a j L M N e m B =
 abbrev AlignedOf : List ℕ → ℕ → Type 0
 AlignedOf s j = Aligned s (nodesOf s j)
 
-aligned-by : {s : List ℕ} {d a i : ℕ} {K : Kind} → Node s d a i K → (j : ℕ) → i ≡ j → j < mostNodes → Aligned s (nodeBy s j K) → AlignedOf s j
+aligned-by : {s : List ℕ} {d a i : ℕ} {K : Kind} → LaidNode s d a i K → (j : ℕ) → i ≡ j → j < mostNodes → Aligned s (nodeBy s j K) → AlignedOf s j
 aligned-by {s} N j e h l = subst (Aligned s) (sym (node-is (node-at e N) h)) l
 
 aligned-above : (s : List ℕ) (i : ℕ) (n : No.Node) → Aligned s n → Aligned s (above i n)

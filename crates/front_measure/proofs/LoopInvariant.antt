@@ -12,12 +12,12 @@ use Rattle.spec_calculus.specs.Syntax.{Collection}
 use Rattle.base_scratch.specs.Map.{sizesAt, mostNodes}
 use Rattle.base_signed.proofs.SignedWords.{by-test}
 use Rattle.front_sizes.specs.declared.FormSize.{FormSize}
-use Rattle.front_sizes.specs.SizeWords.{place, wordAt, pack, Small, firstPair, secondPair, thirdPair, conditionCount, splicedCount, stored}
+use Rattle.front_sizes.specs.SizeWords.{place, wordAt, pack, SmallSize, firstPair, secondPair, thirdPair, conditionCount, splicedCount, stored}
 use Rattle.front_sizes.proofs.SizeWords.{put-term, put-condition, put-spliced, put-stored, put-other, put-word}
 use Rattle.front_measure.specs.declared.Ways.{Ways}
 use Rattle.front_measure.specs.declared.Weight.{Weight}
 use Rattle.front_measure.specs.MeasurableNodes.{Arranged}
-use Rattle.front_measure.specs.KeptSizes.{Measured, Kept, MeasurePost}
+use Rattle.front_measure.specs.KeptSizes.{Measured, KeptSizes, MeasurePost}
 use Rattle.front_measure.specs.PartContracts.{way, Right, SmallWeight, WeighPost, offsetsOf, storing}
 use Rattle.front_measure.proofs.Frame.{arranged-same, measured-same}
 
@@ -43,7 +43,7 @@ recast M x y z w = record {
   bare = λ h. sym x ∙ M .bare h;
 }
 
-pub kept-words : {K : ℕ → Collection} {s₀ : List ℕ} (s r : List ℕ) (j : ℕ) → wordAt r j 0 ≡ wordAt s j 0 → wordAt r j 1 ≡ wordAt s j 1 → Kept K s₀ s j → Kept K s₀ r j
+pub kept-words : {K : ℕ → Collection} {s₀ : List ℕ} (s r : List ℕ) (j : ℕ) → wordAt r j 0 ≡ wordAt s j 0 → wordAt r j 1 ≡ wordAt s j 1 → KeptSizes K s₀ s j → KeptSizes K s₀ r j
 kept-words s r j p q M =
     recast M (ap firstPair (sym p)) (λ v. sym (condition-words s r j p v)) (λ v. sym (spliced-words s r j q v)) (λ v. sym (stored-words s r j q v))
 
@@ -74,10 +74,10 @@ module _ (s : List ℕ) (i : ℕ) (w : Weight) (S : SmallWeight w) (room : place
   unfolding one
   room-two = omega (arith, length-set s (place i 0) (pack (w .term) (w .condition .stays) (w .condition .yields)))
 
-  offsets-small : Small (offsetsOf (w .before))
+  offsets-small : SmallSize (offsetsOf (w .before))
   offsets-small = record { size = S .before .stays .gens; gens = S .before .yields .gens }
 
-  right-kept : {K : ℕ → Collection} → Right K s i w → Kept K s (storing s i w) i
+  right-kept : {K : ℕ → Collection} → Right K s i w → KeptSizes K s (storing s i w) i
   unfolding one
   right-kept M =
       let C = S .condition in
@@ -100,23 +100,23 @@ module _ (s : List ℕ) (i : ℕ) (w : Weight) where
       ∙ put-other s i 0 (pack (w .term) (w .condition .stays) (w .condition .yields)) j p
 
 -- ---- node i is next
-pub record Going (s₀ : List ℕ) (n : ℕ) (s : List ℕ) (i : ℕ) : Type 0 where
+pub record MeasureLoop (s₀ : List ℕ) (n : ℕ) (s : List ℕ) (i : ℕ) : Type 0 where
   pub upto : i ≤ n
   pub long : length s ≡ length s₀
   pub front : (j : ℕ) → j < sizesAt → getD s j 0 ≡ getD s₀ j 0
   pub back : (j : ℕ) → place i 0 ≤ j → getD s j 0 ≡ getD s₀ j 0
-  pub kept : Arranged s₀ n → n ≤ mostNodes → place n 0 ≤ length s₀ → (K : ℕ → Collection) (j : ℕ) → j < i → Kept K s₀ s j
+  pub kept : Arranged s₀ n → n ≤ mostNodes → place n 0 ≤ length s₀ → (K : ℕ → Collection) (j : ℕ) → j < i → KeptSizes K s₀ s j
 
-pub going-first : (s : List ℕ) (n : ℕ) → Going s n s 0
+pub going-first : (s : List ℕ) (n : ℕ) → MeasureLoop s n s 0
 going-first s n = record { upto = omega arith; long = refl; front = λ j h. refl; back = λ j h. refl; kept = λ A m r K j h. absurd (omega (arith, h)) }
 
-module _ {s₀ : List ℕ} {n : ℕ} {s : List ℕ} {i : ℕ} (G : Going s₀ n s i) where
+module _ {s₀ : List ℕ} {n : ℕ} {s : List ℕ} {i : ℕ} (G : MeasureLoop s₀ n s i) where
   -- what is kept of the table of s₀ is kept of the table of s, and back
-  own : n ≤ mostNodes → {K : ℕ → Collection} {j : ℕ} → j < n → Kept K s₀ s j → Kept K s s j
+  own : n ≤ mostNodes → {K : ℕ → Collection} {j : ℕ} → j < n → KeptSizes K s₀ s j → KeptSizes K s s j
   own m h M = measured-same s₀ s (G .front) (omega arith) M
 
-  pub going-on : {w : Weight} {r : List ℕ} → i < n → WeighPost s i w → r ≡ storing s i w → Going s₀ n r (i + 1)
-  going-on {w} {r} l W e = subst (λ (x : List ℕ). Going s₀ n x (i + 1)) (sym e) (record {
+  pub going-on : {w : Weight} {r : List ℕ} → i < n → WeighPost s i w → r ≡ storing s i w → MeasureLoop s₀ n r (i + 1)
+  going-on {w} {r} l W e = subst (λ (x : List ℕ). MeasureLoop s₀ n x (i + 1)) (sym e) (record {
     upto = omega arith;
     long = store-long s i w ∙ G .long;
     front = λ j h. store-other s i w j (λ p. omega arith) (λ p. omega arith) ∙ G .front j h;
@@ -126,7 +126,7 @@ module _ {s₀ : List ℕ} {n : ℕ} {s : List ℕ} {i : ℕ} (G : Going s₀ n 
         kept-words s (storing s i w) j (store-other s i w (place j 0) (λ p. omega (arith, k, p)) (λ p. omega (arith, k, p))) (store-other s i w (place j 1) (λ p. omega (arith, k, p)) (λ p. omega (arith, k, p)))
         (G .kept A m room K j k))
         (λ t. let k : i ≡ j = omega (arith, ltb-false j i t, h) in
-        subst (λ (x : ℕ). Kept K s₀ (storing s i w) x) k
+        subst (λ (x : ℕ). KeptSizes K s₀ (storing s i w) x) k
         (measured-same s s₀ (λ x y. sym (G .front x y)) (omega arith)
         (right-kept s i w (W .small) (omega (arith, room, G .long)) (W .is n l (arranged-same s₀ s (G .front) n m A) K (λ x y. own m (omega (arith, y, l)) (G .kept A m room K x y))))));
   })

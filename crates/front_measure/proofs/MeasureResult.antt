@@ -28,7 +28,7 @@ use Rattle.front_nodes.specs.Levels.{AllAt}
 use Rattle.front_nodes.proofs.PostOrder.{by-pick, post-order}
 use Rattle.front_measure.specs.Measure.{clausesCount, beside, none, termOf, qualifierOf, total, allOf, OffsetsQ}
 use Rattle.front_measure.specs.MeasurableNodes.{qualifies, ends, row, Aligned, Arranged}
-use Rattle.front_measure.specs.KeptSizes.{Kept, MeasurePost}
+use Rattle.front_measure.specs.KeptSizes.{KeptSizes, MeasurePost}
 use Rattle.front_measure.proofs.AnyEnvironment.{qualifier-any}
 use Rattle.front_measure.proofs.NodeLocality.{node-agree, qualifier-agree}
 use Rattle.front_measure.proofs.RootFits.{placed, root-fits}
@@ -158,7 +158,7 @@ quals-below i (ncond c) p = tt
 quals-below i nbad p = tt
 
 -- ---- a scratch that keeps what is right for the n nodes of its own table
-module _ (r : List ℕ) (n : ℕ) (A : Arranged r n) (kept : (K : ℕ → Collection) (i : ℕ) → i < n → Kept K r r i) (K : ℕ → Collection) where
+module _ (r : List ℕ) (n : ℕ) (A : Arranged r n) (kept : (K : ℕ → Collection) (i : ℕ) → i < n → KeptSizes K r r i) (K : ℕ → Collection) where
   offsets-row : (d f e : ℕ) → e ≤ f → e ≤ n → OffsetsQ K (nodesOf r) (depthAt r) (stored r) (row r d e) (λ v. none)
   unfolding OffsetsQ
   offsets-row d zero e l k = subst (λ (cs : List ℕ). OffsetsQ K (nodesOf r) (depthAt r) (stored r) cs (λ v. none)) (sym (row-none r d e (ends-zero r d e (omega arith)))) tt
@@ -209,7 +209,7 @@ module _ {s r : List ℕ} {n : ℕ} (M : MeasurePost s n r) (A : Arranged s n) (
   pub still-arranged : Arranged r n
   still-arranged = arranged-same s r (M .front) n few A
 
-  pub measured-kept : (K : ℕ → Collection) (i : ℕ) → i < n → Kept K r r i
+  pub measured-kept : (K : ℕ → Collection) (i : ℕ) → i < n → KeptSizes K r r i
   measured-kept K i l = measured-same s r (M .front) (omega arith) (M .kept A few room K i l)
 
   -- What the scratch keeps is how much is written, counted to 513, in any environment, under any offsets, from any number on.

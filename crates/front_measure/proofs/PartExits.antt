@@ -27,7 +27,7 @@ use Rattle.front_nodes.specs.declared.Found.the-variants.{At, Nothing}
 use Rattle.front_nodes.specs.NodeTable.{depthAt, countOf, countAt, siblings, childrenOf, nodesOf}
 use Rattle.front_nodes.specs.Look.{nodeNamed, LookPost, nth, ChildPost}
 use Rattle.front_resolve.specs.declared.Form.{Form}
-use Rattle.front_resolve.specs.Place.{Place, Heads}
+use Rattle.front_resolve.specs.Resolved.{Resolved, Heads}
 use Rattle.front_measure.specs.declared.Ways.{Ways}
 use Rattle.front_measure.specs.declared.Weight.{Weight}
 use Rattle.front_measure.specs.Measure.{beside, above, none, leaf, total}
@@ -247,5 +247,5 @@ module _ (s : List ℕ) (j : ℕ) {f g : Form} {r : Weight} where
   pub form-kept : f ≡ g → r ≡ formWeight s j g → r ≡ formWeight s j f
   form-kept p q = q ∙ ap (formWeight s j) (sym p)
 
-pub followed-is : {s : List ℕ} {i D : ℕ} {l : List ℕ} {r : Place} {w : Weight} → D ≡ depthAt s i → Heads s i D l r → w ≡ formWeight s (r .node) (r .form) → FollowedPost s i w
+pub followed-is : {s : List ℕ} {i D : ℕ} {l : List ℕ} {r : Resolved} {w : Weight} → D ≡ depthAt s i → Heads s i D l r → w ≡ formWeight s (r .node) (r .form) → FollowedPost s i w
 followed-is {s} {i} {l = l} {r = r} p H q = record { at = r; env = l; heads = subst (λ (d : ℕ). Heads s i d l r) p H; is = q }

@@ -20,8 +20,8 @@ use Rattle.front_theory.specs.NodeForms.{compOf, levels, semOf}
 use Rattle.front_theory.proofs.Locality.{sem-is}
 use Rattle.front_words.specs.NodeTree.{startAt}
 use Rattle.front_sizes.specs.declared.FormSize.{FormSize}
-use Rattle.front_sizes.specs.SizeWords.{Small, termCount, conditionCount, splicedCount}
-use Rattle.base_syntax.specs.declared.Op.{Op}
+use Rattle.front_sizes.specs.SizeWords.{SmallSize, termCount, conditionCount, splicedCount}
+use Rattle.base_syntax.specs.declared.BinOp.{BinOp}
 use Rattle.front_nodes.specs.declared.QueryNode.{QueryNode}
 use Rattle.front_nodes.specs.declared.QueryNode.the-variants.{Number, Truth, Name, Field, Record, Two, Not, Comp, Table, Gen, Bind, Cond, Operator, Bad}
 use Rattle.front_nodes.specs.NodeTable.{depthAt, childrenOf, qualifiersOf, nodesOf}
@@ -30,13 +30,13 @@ use Rattle.front_nodes.specs.Look.{nodeNamed, LookPost}
 use Rattle.front_nodes.proofs.PostOrder.{by-pick, post-order}
 use Rattle.front_resolve.specs.declared.Form.{Form}
 use Rattle.front_resolve.specs.declared.Form.the-variants as Fo
-use Rattle.front_resolve.specs.Place.{envOf, offsets, semN, From, Heads}
+use Rattle.front_resolve.specs.Resolved.{envOf, offsets, semN, From, Heads}
 use Rattle.front_resolve.proofs.Exits.{place}
 use Rattle.front_measure.specs.declared.Ways.{Ways}
 use Rattle.front_measure.specs.declared.Weight.{Weight}
 use Rattle.front_measure.specs.Measure.{count, beside, above, none, leaf, never, termOf, conditionOf, qualifierOf, total, allOf}
 use Rattle.front_measure.specs.MeasurableNodes.{qualifies, ends, rowUpto, row, ahead, TermAt, TermsAt, Aligned, Arranged}
-use Rattle.front_measure.specs.KeptSizes.{Writes, Adds, Kept}
+use Rattle.front_measure.specs.KeptSizes.{Writes, Adds, KeptSizes}
 use Rattle.front_measure.specs.PartContracts.{ways, way, Right, SmallWays, SmallWeight, noWays, bothWays, conditionWays, spliceWays, scalarWeight, joins, twoTerm, twoWeight, tableWeight, rowWays, compTerm, compWeight, compAt, qualifierWeight, keptWeight, formWeight, FollowedPost, WeighPost}
 use Rattle.front_measure.proofs.AnyEnvironment.{total-append}
 use Rattle.front_measure.proofs.NodeWeights.{writes-node, writes-row, writes-cell, writes-nothing, writes-number, writes-truth, writes-bad, writes-negate, writes-two, writes-record, writes-app, writes-comp, writes-deep, writes-table, generator-writes, condition-writes, binding-writes}
@@ -62,22 +62,22 @@ way-pick true a b v = refl
 way-pick false a b v = refl
 
 -- ---- ten bits are enough
-count-small : (a g : ℕ) → Small (count a g)
+count-small : (a g : ℕ) → SmallSize (count a g)
 count-small a g = record { size = omega arith; gens = omega arith }
 
-ways-small : (f : Bool → FormSize) → ((v : Bool) → Small (f v)) → SmallWays (ways f)
+ways-small : (f : Bool → FormSize) → ((v : Bool) → SmallSize (f v)) → SmallWays (ways f)
 ways-small f h = record { stays = h false; yields = h true }
 
-term-small : (s : List ℕ) (i : ℕ) → Small (termCount s i)
+term-small : (s : List ℕ) (i : ℕ) → SmallSize (termCount s i)
 term-small s i = record { size = omega arith; gens = omega arith }
 
-condition-small : (s : List ℕ) (i : ℕ) (v : Bool) → Small (conditionCount s i v)
+condition-small : (s : List ℕ) (i : ℕ) (v : Bool) → SmallSize (conditionCount s i v)
 unfolding conditionCount pick
-condition-small s i v = by-flag (λ u. Small (conditionCount s i u)) (record { size = omega arith; gens = omega arith }) (record { size = omega arith; gens = omega arith }) v
+condition-small s i v = by-flag (λ u. SmallSize (conditionCount s i u)) (record { size = omega arith; gens = omega arith }) (record { size = omega arith; gens = omega arith }) v
 
-spliced-small : (s : List ℕ) (i : ℕ) (v : Bool) → Small (splicedCount s i v)
+spliced-small : (s : List ℕ) (i : ℕ) (v : Bool) → SmallSize (splicedCount s i v)
 unfolding splicedCount pick
-spliced-small s i v = by-flag (λ u. Small (splicedCount s i u)) (record { size = omega arith; gens = omega arith }) (record { size = omega arith; gens = omega arith }) v
+spliced-small s i v = by-flag (λ u. SmallSize (splicedCount s i u)) (record { size = omega arith; gens = omega arith }) (record { size = omega arith; gens = omega arith }) v
 
 none-small : SmallWays noWays
 none-small = ways-small (λ v. none) (λ v. count-small 0 0)
@@ -92,7 +92,7 @@ both-small a b =
 above-small : (t : FormSize) → SmallWays (ways (λ v. above t))
 above-small t = ways-small (λ v. above t) (λ v. count-small (1 + t .size) (t .gens))
 
-scalar-small : {t : FormSize} → Small t → SmallWeight (scalarWeight t)
+scalar-small : {t : FormSize} → SmallSize t → SmallWeight (scalarWeight t)
 scalar-small {t} h = record { term = h; condition = above-small t; splice = never-small; before = none-small }
 
 kept-small : (s : List ℕ) (j : ℕ) → SmallWeight (keptWeight s j)
@@ -111,7 +111,7 @@ no-both p q = let z : _≡_ {A = ℕ} 0 1 = cc in omega arith
 
 -- the nodes before i are kept right
 abbrev Given : (ℕ → Collection) → List ℕ → ℕ → Type 0
-Given K s i = (j : ℕ) → j < i → Kept K s s j
+Given K s i = (j : ℕ) → j < i → KeptSizes K s s j
 
 module _ {s : List ℕ} {i : ℕ} where
   right-term : {K : ℕ → Collection} (w : Weight) → w .before ≡ noWays → TermAt s i → Writes K (nodesOf s) (depthAt s i) i (w .term) (way (w .condition)) (way (w .splice)) → Right K s i w
@@ -132,7 +132,7 @@ module _ {s : List ℕ} {i : ℕ} where
   }
 
   -- a term that is one condition, and no collection
-  scalar-weighs : {t : FormSize} {w : Weight} → Small t → TermAt s i
+  scalar-weighs : {t : FormSize} {w : Weight} → SmallSize t → TermAt s i
       → ((n : ℕ) → i < n → Arranged s n → (K : ℕ → Collection) → Given K s i → Writes K (nodesOf s) (depthAt s i) i t (λ v. above t) (λ v. never)) → w ≡ scalarWeight t → WeighPost s i w
   scalar-weighs {t} {w} h q f e = record {
     is = λ n l A K B. subst (Right K s i) (sym e) (right-term (scalarWeight t) refl q (recast (f n l A K B) refl (way-of (λ v. above t)) (way-of (λ v. never))));
@@ -207,7 +207,7 @@ module _ {s : List ℕ} {i : ℕ} where
       recast (writes-app K (nodesOf s) (post-order s) k) u (λ v. ap above u) (λ v. refl))
       (r ∙ ap scalarWeight (q ∙ ap above p))
 
-  pub weigh-two : {n : QueryNode} {o : Op} {a b : ℕ} {w : Weight} → LookPost s i n → n ≡ Two o a b → w ≡ twoWeight s (binOf o) a b → WeighPost s i w
+  pub weigh-two : {n : QueryNode} {o : BinOp} {a b : ℕ} {w : Weight} → LookPost s i n → n ≡ Two o a b → w ≡ twoWeight s (binOf o) a b → WeighPost s i w
   weigh-two {o = o} {a = a} {b = b} {w = w} H e r = record {
     is = λ n l A K B. subst (Right K s i) (sym r) (right-term (twoWeight s (binOf o) a b) refl (ap qualifies k) (recast (writes-two K (nodesOf s) (post-order s) k) (ap₂ (λ x y. above (beside x y)) (first l A B .term) (second l A B .term))
         (λ v. ap₂ (λ x y. pick (joins (binOf o)) x y) (ap₂ beside (first l A B .condition v) (second l A B .condition v)) (ap₂ (λ x y. above (above (beside x y))) (first l A B .term) (second l A B .term))
@@ -349,9 +349,9 @@ made-small s m h =
       term = count-small (1 + beside (way a (idempotent m)) (termCount s h) .size) (beside (way a (idempotent m)) (termCount s h) .gens);
       condition = record {
         stays = count-small (1 + t .size) (t .gens);
-        yields = by-pick Small (givesWay m true) (beside (a .yields) c) (above t) (λ p. count-small (a .yields .size + c .size) (a .yields .gens + c .gens)) (λ p. count-small (1 + t .size) (t .gens));
+        yields = by-pick SmallSize (givesWay m true) (beside (a .yields) c) (above t) (λ p. count-small (a .yields .size + c .size) (a .yields .gens + c .gens)) (λ p. count-small (1 + t .size) (t .gens));
       };
-      splice = record { stays = by-flag (λ v. Small (way a v)) (r .yields) (r .stays) (idempotent m); yields = r .yields };
+      splice = record { stays = by-flag (λ v. SmallSize (way a v)) (r .yields) (r .stays) (idempotent m); yields = r .yields };
       before = none-small;
     }
 

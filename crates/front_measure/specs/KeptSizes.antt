@@ -33,12 +33,12 @@ pub record Measured (K : ℕ → Collection) (s : List ℕ) (i : ℕ) (t : FormS
   pub bare : qualifies (nodesOf s i) ≡ true → t ≡ none
 
 -- scratch r keeps what is right for node i of the table of s
-abbrev pub Kept : (ℕ → Collection) → List ℕ → List ℕ → ℕ → Type 0
-Kept K s r i = Measured K s i (termCount r i) (conditionCount r i) (splicedCount r i) (stored r i)
+abbrev pub KeptSizes : (ℕ → Collection) → List ℕ → List ℕ → ℕ → Type 0
+KeptSizes K s r i = Measured K s i (termCount r i) (conditionCount r i) (splicedCount r i) (stored r i)
 
 -- Scratch r keeps what is right for the n nodes of s, and all else is as it was.
 pub record MeasurePost (s : List ℕ) (n : ℕ) (r : List ℕ) : Type 0 where
   pub long : length r ≡ length s
   pub front : (j : ℕ) → j < sizesAt → getD r j 0 ≡ getD s j 0
   pub back : (j : ℕ) → place n 0 ≤ j → getD r j 0 ≡ getD s j 0
-  pub kept : Arranged s n → n ≤ mostNodes → place n 0 ≤ length s → (K : ℕ → Collection) (i : ℕ) → i < n → Kept K s r i
+  pub kept : Arranged s n → n ≤ mostNodes → place n 0 ≤ length s → (K : ℕ → Collection) (i : ℕ) → i < n → KeptSizes K s r i

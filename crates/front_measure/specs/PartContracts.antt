@@ -11,16 +11,16 @@ use Rattle.spec_normal_form.specs.Normal.{idempotent, givesWay}
 use Rattle.front_theory.specs.NodeForms.{levels}
 use Rattle.front_words.specs.NodeTree.{startAt}
 use Rattle.front_sizes.specs.declared.FormSize.{FormSize}
-use Rattle.front_sizes.specs.SizeWords.{place, pack, Small, termCount, conditionCount, splicedCount}
+use Rattle.front_sizes.specs.SizeWords.{place, pack, SmallSize, termCount, conditionCount, splicedCount}
 use Rattle.front_nodes.specs.NodeTable.{depthAt}
 use Rattle.front_resolve.specs.declared.Form.{Form}
 use Rattle.front_resolve.specs.declared.Form.the-variants.{Number, Truth, Row, Cell, Record, Two, Not, Comp, Table, Operator, Bad}
-use Rattle.front_resolve.specs.Place.{Place, Heads}
+use Rattle.front_resolve.specs.Resolved.{Resolved, Heads}
 use Rattle.front_measure.specs.declared.Ways.{Ways}
 use Rattle.front_measure.specs.declared.Weight.{Weight}
 use Rattle.front_measure.specs.Measure.{count, beside, above, none, leaf, never}
 use Rattle.front_measure.specs.MeasurableNodes.{ends, Arranged}
-use Rattle.front_measure.specs.KeptSizes.{Measured, Kept}
+use Rattle.front_measure.specs.KeptSizes.{Measured, KeptSizes}
 
 -- a count for each flag
 abbrev pub ways : (Bool → FormSize) → Ways
@@ -35,11 +35,11 @@ Right K s i w = Measured K s i (w .term) (way (w .condition)) (way (w .splice)) 
 
 -- ten bits are enough for each number
 pub record SmallWays (w : Ways) : Type 0 where
-  pub stays : Small (w .stays)
-  pub yields : Small (w .yields)
+  pub stays : SmallSize (w .stays)
+  pub yields : SmallSize (w .yields)
 
 pub record SmallWeight (w : Weight) : Type 0 where
-  pub term : Small (w .term)
+  pub term : SmallSize (w .term)
   pub condition : SmallWays (w .condition)
   pub splice : SmallWays (w .splice)
   pub before : SmallWays (w .before)
@@ -126,14 +126,14 @@ formWeight s j Bad = scalarWeight leaf
 
 -- a name or a field has what the place that it comes to has
 pub record FollowedPost (s : List ℕ) (i : ℕ) (w : Weight) : Type 0 where
-  pub at : Place
+  pub at : Resolved
   pub env : List ℕ
   pub heads : Heads s i (depthAt s i) env at
   pub is : w ≡ formWeight s (at .node) (at .form)
 
 -- where the nodes before i are kept right, this is right for node i
 pub record WeighPost (s : List ℕ) (i : ℕ) (w : Weight) : Type 0 where
-  pub is : (n : ℕ) → i < n → Arranged s n → (K : ℕ → Collection) → ((j : ℕ) → j < i → Kept K s s j) → Right K s i w
+  pub is : (n : ℕ) → i < n → Arranged s n → (K : ℕ → Collection) → ((j : ℕ) → j < i → KeptSizes K s s j) → Right K s i w
   pub small : SmallWeight w
 
 -- the two words of node i

@@ -14,8 +14,8 @@ ghost use Rattle.front_measure.specs.MeasurableNodes.{qualifies};
 ghost use Rattle.front_measure.specs.KeptSizes.{MeasurePost};
 ghost use Rattle.front_measure.specs.PartContracts.{joins, bothWays, conditionWays, spliceWays, noWays, termWeight, scalarWeight, twoWeight, tableWeight, rowWays, qualifierWeight, keptWeight, formWeight, compAt, way, FollowedPost, WeighPost, SmallWeight, storing};
 ghost use Rattle.base_syntax.specs.Numbers.{binOf};
+use base_syntax::BinOp;
 use base_syntax::Monoid;
-use base_syntax::Op;
 use front_nodes::Found;
 use front_nodes::QueryNode;
 use front_resolve::Form;
@@ -142,21 +142,21 @@ fn scalar(t: FormSize) -> Weight
     )
 }
 
-fn is_and(o: Op) -> bool
+fn is_and(o: BinOp) -> bool
     ensures { λ r. ⌜ r ≡ joins (binOf o) ⌝ }
 {
     match o {
-        Op::Plus => false,
-        Op::Minus => false,
-        Op::Times => false,
-        Op::Equal => false,
-        Op::Less => false,
-        Op::And => true,
-        Op::Or => false,
+        BinOp::Plus => false,
+        BinOp::Minus => false,
+        BinOp::Times => false,
+        BinOp::Equal => false,
+        BinOp::Less => false,
+        BinOp::And => true,
+        BinOp::Or => false,
     }
 }
 
-fn two(s: &[u64], o: Op, a: usize, b: usize) -> Weight
+fn two(s: &[u64], o: BinOp, a: usize, b: usize) -> Weight
     ensures { λ r. ⌜ r ≡ twoWeight (now (s .entry)) (binOf o) a b ⌝ }
 {
     let t = raise(side(front_sizes::term_count(s, a), front_sizes::term_count(s, b)));

@@ -10,7 +10,7 @@ use Rattle.spec_calculus.specs.Syntax.{choice, isOpen, Term, Terms, Quals, num,
 use Rattle.base_signed.proofs.SignedWords.{by-test}
 use Rattle.spec_encoding.specs.Reader.{Kind, comprehension}
 use Rattle.front_words.specs.NodeTree.{monoidAt, argAt, startAt}
-use Rattle.front_words.specs.LaidTree.{nodes, nodesL, nodesQ, Node, Laid, LaidL, LaidQ}
+use Rattle.front_words.specs.LaidTree.{nodes, nodesL, nodesQ, LaidNode, Laid, LaidL, LaidQ}
 use Rattle.front_words.proofs.NodeWords.{laid-start}
 use Rattle.front_theory.specs.NodeTable as No
 use Rattle.front_words.specs.Binders.{binderWord}
@@ -21,7 +21,7 @@ use Rattle.front_nodes.proofs.PostOrder.{by-pick}
 use Rattle.front_nodes.proofs.TableHolds.{node-is, node-at, lastsL, lastsQ, counted, counted-op, children-are, qualifiers-are}
 
 -- the depth of a tree's last node
-depth-at : {s : List ℕ} {d a i : ℕ} {K : Kind} → Node s d a i K → (j : ℕ) → i ≡ j → depthAt s j ≡ d
+depth-at : {s : List ℕ} {d a i : ℕ} {K : Kind} → LaidNode s d a i K → (j : ℕ) → i ≡ j → depthAt s j ≡ d
 depth-at {s} N j e = ap (depthAt s) (sym e) ∙ N .depth
 
 laid-depth : (t : Term) (s : List ℕ) (d a : ℕ) → Laid s d a t → depthAt s (a + nodes t - 1) ≡ d
@@ -64,7 +64,7 @@ abbrev LevelOf : List ℕ → ℕ → Type 0
 LevelOf s j = Level (depthAt s) (depthAt s j) (nodesOf s j)
 
 -- a node that lies there, by its kind
-level-by : {s : List ℕ} {d a i : ℕ} {K : Kind} → Node s d a i K → (j : ℕ) → i ≡ j → j < mostNodes → Level (depthAt s) d (nodeBy s j K) → LevelOf s j
+level-by : {s : List ℕ} {d a i : ℕ} {K : Kind} → LaidNode s d a i K → (j : ℕ) → i ≡ j → j < mostNodes → Level (depthAt s) d (nodeBy s j K) → LevelOf s j
 level-by {s} {d} {K = K} N j e h l =
     subst (Level (depthAt s) (depthAt s j)) (sym (node-is (node-at e N) h)) (subst (λ (D : ℕ). Level (depthAt s) D (nodeBy s j K)) (sym (depth-at N j e)) l)
 
@@ -88,7 +88,7 @@ two-depths t u s d a j L M e =
     let b : startAt s (j - 1) ≡ a + nodes t = ap (λ (x : ℕ). startAt s (x - 1)) (sym e) ∙ laid-start u s d (a + nodes t) M in
     (ap (λ (x : ℕ). depthAt s (x - 1)) b ∙ laid-depth t s d a L, child-depth u s d (a + nodes t) j M e)
 
-comp-depths : (qs : Quals) (h : Term) (s : List ℕ) (d a j : ℕ) → LaidQ s (d + 1) a qs → Laid s (d + 1) (a + nodesQ qs) h → Node s d a j comprehension → a + nodesQ qs + nodes h ≡ j
+comp-depths : (qs : Quals) (h : Term) (s : List ℕ) (d a j : ℕ) → LaidQ s (d + 1) a qs → Laid s (d + 1) (a + nodesQ qs) h → LaidNode s d a j comprehension → a + nodesQ qs + nodes h ≡ j
     → AllAt (depthAt s) (suc d) (qualifiersOf s j) × (depthAt s (j - 1) ≡ suc d)
 comp-depths qs h s d a j L M N e =
     let z : d + 1 ≡ suc d = omega arith in (

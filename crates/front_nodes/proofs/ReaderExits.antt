@@ -24,12 +24,12 @@ use Rattle.spec_encoding.specs.Reader as Re
 use Rattle.base_syntax.specs.declared.Monoid.{Monoid}
 use Rattle.base_syntax.specs.MonoidWord.{monoidOf}
 use Rattle.base_scratch.specs.Map.{mostNodes}
-use Rattle.front_words.specs.NodeWord.{kindOf, argOf, nodeWord}
+use Rattle.front_words.specs.NodeWord.{nodeKindOf, argOf, nodeWord}
 use Rattle.front_words.specs.NodeTree.{monoidAt, kindAt, argAt, startAt}
 use Rattle.base_syntax.specs.Numbers.{constantOf, binOf}
 use Rattle.front_theory.specs.NodeTable as No
 use Rattle.front_theory.specs.NodeTable.{Inside}
-use Rattle.base_syntax.specs.declared.Op.{Op}
+use Rattle.base_syntax.specs.declared.BinOp.{BinOp}
 use Rattle.base_syntax.specs.declared.Fun.the-variants.{Choice, Open}
 use Rattle.front_nodes.specs.declared.Kind.{Kind}
 use Rattle.front_nodes.specs.declared.QueryNode.{QueryNode}
@@ -37,7 +37,7 @@ use Rattle.front_nodes.specs.declared.QueryNode.the-variants.{Number, Tr
 use Rattle.front_nodes.specs.declared.Found.the-variants.{At, Nothing}
 use Rattle.front_nodes.specs.declared.Binder.the-variants as Bi
 use Rattle.front_nodes.specs.NodeTable.{childrenOf, depthAt, countOf, countAt, siblings, qualifiersOf, above, nameBy, nodeBy, nodesOf}
-use Rattle.front_nodes.specs.Look.{kindNamed, nodeNamed, Small, LookPost, NamedPost, RaisedPost, nth, ChildPost, Unbinding, BoundByPost}
+use Rattle.front_nodes.specs.Look.{kindNamed, nodeNamed, SmallNode, LookPost, NamedPost, RaisedPost, nth, ChildPost, Unbinding, BoundByPost}
 use Rattle.front_words.specs.Binders.{binderWord}
 use Rattle.front_nodes.proofs.PostOrder.{by-pick, post-order}
 
@@ -142,28 +142,28 @@ module _ {s : List ℕ} {i w : ℕ} where
 
 -- ---- a node by its kind
 module _ (s : List ℕ) (i : ℕ) where
-  pub kind-is : {w k : ℕ} {r x : Kind} → w ≡ nodeWord s i → k ≡ kindOf w → kindNamed r ≡ getD kinds k unknown → r ≡ x → kindAt s i ≡ kindNamed x
-  kind-is p q e t = ap (λ (a : ℕ). getD kinds (kindOf a) unknown) (sym p) ∙ kind-at q ∙ sym e ∙ ap kindNamed t
+  pub kind-is : {w k : ℕ} {r x : Kind} → w ≡ nodeWord s i → k ≡ nodeKindOf w → kindNamed r ≡ getD kinds k unknown → r ≡ x → kindAt s i ≡ kindNamed x
+  kind-is p q e t = ap (λ (a : ℕ). getD kinds (nodeKindOf a) unknown) (sym p) ∙ kind-at q ∙ sym e ∙ ap kindNamed t
 
   pub arg-is : {w a : ℕ} → w ≡ nodeWord s i → a ≡ argOf w → a ≡ argAt s i
   arg-is p q = q ∙ ap argOf p
 
 -- how many terms it has
-pub count-is : (s : List ℕ) (i : ℕ) {w n : ℕ} → w ≡ nodeWord s i → n ≡ countOf (getD kinds (kindOf w) unknown) (argOf w) → n ≡ countAt s i
-count-is s i p q = q ∙ ap (λ (x : ℕ). countOf (getD kinds (kindOf x) unknown) (argOf x)) p
+pub count-is : (s : List ℕ) (i : ℕ) {w n : ℕ} → w ≡ nodeWord s i → n ≡ countOf (getD kinds (nodeKindOf w) unknown) (argOf w) → n ≡ countAt s i
+count-is s i p q = q ∙ ap (λ (x : ℕ). countOf (getD kinds (nodeKindOf x) unknown) (argOf x)) p
 
 pub look-far : {s : List ℕ} {i : ℕ} → mostNodes ≤ i → LookPost s i Bad
 unfolding nodesOf pick
 look-far {s} {i} h = record { is = rw (le-ltb i mostNodes h); small = tt }
 
 module _ {s : List ℕ} {i : ℕ} (l : i < mostNodes) where
-  plainly : (K : Re.Kind) (n : QueryNode) → kindAt s i ≡ K → nodeBy s i K ≡ nodeNamed s i n → Small n → LookPost s i n
+  plainly : (K : Re.Kind) (n : QueryNode) → kindAt s i ≡ K → nodeBy s i K ≡ nodeNamed s i n → SmallNode n → LookPost s i n
   unfolding nodesOf pick
   plainly K n e q m = record { is = rw (lt-ltb i mostNodes l) (ap (nodeBy s i) e ∙ q); small = m }
 
-  pub raised-by : (K : Re.Kind) (n : QueryNode) {r : QueryNode} → kindAt s i ≡ K → nodeBy s i K ≡ above i (nodeNamed s i n) → Small n → RaisedPost i n r → LookPost s i r
+  pub raised-by : (K : Re.Kind) (n : QueryNode) {r : QueryNode} → kindAt s i ≡ K → nodeBy s i K ≡ above i (nodeNamed s i n) → SmallNode n → RaisedPost i n r → LookPost s i r
   unfolding above pick
-  raised-by K n e q m R = plainly K _ e (q ∙ go (ltb 0 i) ∙ ap (nodeNamed s i) (sym (R .is))) (subst Small (sym (R .is)) (by-pick Small (ltb 0 i) n Bad (λ t. m) (λ t. tt)))
+  raised-by K n e q m R = plainly K _ e (q ∙ go (ltb 0 i) ∙ ap (nodeNamed s i) (sym (R .is))) (subst SmallNode (sym (R .is)) (by-pick SmallNode (ltb 0 i) n Bad (λ t. m) (λ t. tt)))
     where
       go : (b : Bool) → pick b (nodeNamed s i n) No.nbad ≡ nodeNamed s i (pick b n Bad)
       go true = refl
@@ -202,7 +202,7 @@ module _ {s : List ℕ} {i : ℕ} (l : i < mostNodes) where
   look-open {a} A e = plainly Re.openK (Operator (Open a)) e (ap (λ (n : ℕ). No.napp (unlent n) (childrenOf s i)) (sym A)) tt
 
   module _ {c : ℕ} (C : c ≡ i - 1) {r : QueryNode} where
-    pub look-two : {o : Op} {b a : ℕ} → kindAt s i ≡ Re.two-terms (binOf o) → b ≡ startAt s c → a ≡ b - 1 → RaisedPost i (Two o a c) r → LookPost s i r
+    pub look-two : {o : BinOp} {b a : ℕ} → kindAt s i ≡ Re.two-terms (binOf o) → b ≡ startAt s c → a ≡ b - 1 → RaisedPost i (Two o a c) r → LookPost s i r
     look-two {o} {b} {a} e q p R =
         raised-by (Re.two-terms (binOf o)) (Two o a c) e
         (ap (λ (x : ℕ). above i (No.nbin (binOf o) (startAt s x - 1) x)) (sym C) ∙ ap (λ (x : ℕ). above i (No.nbin (binOf o) x c)) (sym (p ∙ ap (λ (x : ℕ). x - 1) q))) tt R

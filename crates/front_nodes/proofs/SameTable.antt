@@ -13,7 +13,7 @@ use Rattle.spec_calculus.specs.Syntax.{choice}
 use Rattle.spec_calculus.specs.Lending.{unlent}
 use Rattle.spec_encoding.specs.Reader.{Kind, kinds, unknown, number, truthK, nameK, fieldK, record′, not, tableK, comprehension, generator, binding, condition, choiceK, openK, two-terms}
 use Rattle.base_scratch.specs.Map.{nodesAt, bindersAt, shapesAt, mostNodes}
-use Rattle.front_words.specs.NodeWord.{kindOf, argOf, startOf, depthOf, nodeWord}
+use Rattle.front_words.specs.NodeWord.{nodeKindOf, argOf, startOf, depthOf, nodeWord}
 use Rattle.front_words.specs.NodeTree.{monoidAt, kindAt, argAt, startAt}
 use Rattle.base_syntax.specs.Numbers.{constantOf}
 use Rattle.front_theory.specs.NodeTable.{Node, nnum, ntruth, nname, nfield, nrec, nbin, napp, ncomp, ntable, nbad}
@@ -50,7 +50,7 @@ module _ (s s′ : List ℕ) (words : (j : ℕ) → j < mostNodes → nodeWord s
       (ap (chainUpto f s′ lo) (start-same (e - 1) (omega arith)) ∙ chain-same f lo (startAt s (e - 1)) (omega arith))
 
   kind-same : (i : ℕ) → i < mostNodes → kindAt s′ i ≡ kindAt s i
-  kind-same i h = ap (λ (w : ℕ). getD kinds (kindOf w) unknown) (words i h)
+  kind-same i h = ap (λ (w : ℕ). getD kinds (nodeKindOf w) unknown) (words i h)
 
   pub children-same : (i : ℕ) → i < mostNodes → childrenOf s′ i ≡ childrenOf s i
   children-same i h = ap (λ (l : List ℕ). pick (ltb 0 i) l []) (ap (λ (n : ℕ). siblings s′ n i []) (ap₂ countOf (kind-same i h) (arg-same i h)) ∙ siblings-same (countAt s i) i [] (omega arith))
@@ -90,7 +90,7 @@ module _ (s s′ : List ℕ) (words : (j : ℕ) → j < mostNodes → nodeWord s
   unfolding nodesOf
   nodes-same = fun-ext λ i. pick-same (ltb i mostNodes) nbad (λ t.
       let h = ltb-true i mostNodes t in
-      ap (λ (w : ℕ). nodeBy s′ i (getD kinds (kindOf w) unknown)) (words i h) ∙ node-same i h (kindAt s i))
+      ap (λ (w : ℕ). nodeBy s′ i (getD kinds (nodeKindOf w) unknown)) (words i h) ∙ node-same i h (kindAt s i))
 
 -- A store behind these words leaves the table as it is.
 pub nodes-set : (s : List ℕ) (p w : ℕ) → shapesAt ≤ p → nodesOf (set s p w) ≡ nodesOf s

@@ -14,7 +14,7 @@ use Rattle.spec_checks.specs.Scope.{Scope, inScope, inScopes, inScopeQ, distinc
 use Rattle.spec_encoding.specs.Reader.{Kind, record′, comprehension}
 use Rattle.front_words.specs.NodeTree.{monoidAt, argAt, startAt}
 use Rattle.base_syntax.specs.Numbers.{constantOf}
-use Rattle.front_words.specs.LaidTree.{nodes, nodesL, nodesQ, countL, operator, argued, AsRead, Node, Laid, LaidL, LaidQ}
+use Rattle.front_words.specs.LaidTree.{nodes, nodesL, nodesQ, countL, operator, argued, AsRead, LaidNode, Laid, LaidL, LaidQ}
 use Rattle.front_words.proofs.NodeWords.{some-nodes, laid-start, truth-bit}
 use Rattle.front_theory.specs.NodeTable as No
 use Rattle.front_theory.specs.NodeForms.{levels}
@@ -27,7 +27,7 @@ use Rattle.front_nodes.proofs.PostOrder.{by-pick}
 use Rattle.front_nodes.proofs.QualifierChain.{chain-none, chain-more}
 
 -- ---- a node that lies there
-pub node-is : {s : List ℕ} {d a i : ℕ} {K : Kind} → Node s d a i K → i < mostNodes → nodesOf s i ≡ nodeBy s i K
+pub node-is : {s : List ℕ} {d a i : ℕ} {K : Kind} → LaidNode s d a i K → i < mostNodes → nodesOf s i ≡ nodeBy s i K
 unfolding nodesOf pick
 node-is {s} {i = i} N h = rw (lt-ltb i mostNodes h) (ap (nodeBy s i) (N .kind))
 
@@ -35,7 +35,7 @@ pub up : (i : ℕ) (n : No.Node) → 0 < i → above i n ≡ n
 unfolding above pick
 up i n h = rw (lt-ltb 0 i h)
 
-start-is : {s : List ℕ} {d a i : ℕ} {K : Kind} → Node s d a i K → a ≤ i → startAt s i ≡ a
+start-is : {s : List ℕ} {d a i : ℕ} {K : Kind} → LaidNode s d a i K → a ≤ i → startAt s i ≡ a
 start-is N h = omega (arith, N .start)
 
 -- ---- the children of a record, the qualifiers of a comprehension
@@ -62,13 +62,13 @@ laid-siblings (tcons t ts) s d a L m cs =
     ap₂ (λ (n e : ℕ). siblings s n e cs) p q ∙ laid-siblings ts s d (a + nodes t) (L .1) (suc m) cs
     ∙ ap (λ (b : ℕ). siblings s m b ((a + nodes t - 1) ∷ l)) (laid-start t s d a (L .0))
 
-one-more : {s : List ℕ} {d a y : ℕ} {K : Kind} (lo : ℕ) → lo ≤ a → a ≤ y → Node s d a y K → chain s lo (y + 1) ≡ chain s lo a ++ (y ∷ [])
+one-more : {s : List ℕ} {d a y : ℕ} {K : Kind} (lo : ℕ) → lo ≤ a → a ≤ y → LaidNode s d a y K → chain s lo (y + 1) ≡ chain s lo a ++ (y ∷ [])
 one-more {s} {a = a} {y} lo p q N =
     let e : y + 1 - 1 ≡ y = omega arith in
     chain-more s lo (y + 1) (omega arith) ∙ ap (λ (j : ℕ). chain s lo (startAt s j) ++ (j ∷ [])) e ∙ ap (λ (b : ℕ). chain s lo b ++ (y ∷ [])) (start-is N q)
 
 -- one qualifier at y, then the others
-chain-step : {s : List ℕ} {d a y : ℕ} {K : Kind} (lo : ℕ) (qs : Quals) (n : ℕ) → lo ≤ a → a ≤ y → Node s d a y K → n ≡ y + 1 + nodesQ qs → chain s lo (y + 1 + nodesQ qs) ≡ chain s lo (y + 1) ++ lastsQ (y + 1) qs
+chain-step : {s : List ℕ} {d a y : ℕ} {K : Kind} (lo : ℕ) (qs : Quals) (n : ℕ) → lo ≤ a → a ≤ y → LaidNode s d a y K → n ≡ y + 1 + nodesQ qs → chain s lo (y + 1 + nodesQ qs) ≡ chain s lo (y + 1) ++ lastsQ (y + 1) qs
     → chain s lo n ≡ chain s lo a ++ (y ∷ lastsQ (y + 1) qs)
 chain-step {s} {a = a} {y} lo qs n p q N e h =
     ap (chain s lo) e ∙ h ∙ ap (λ (l : List ℕ). l ++ lastsQ (y + 1) qs) (one-more lo p q N) ∙ append-assoc (chain s lo a) (y ∷ []) (lastsQ (y + 1) qs)
@@ -84,10 +84,10 @@ laid-chain (cond t qs) s d lo a L p =
     chain-step lo qs (a + nodesQ (cond t qs)) p (omega arith) (L .1) (omega arith) (laid-chain qs s d lo (a + nodes t + 1) (L .2) (omega arith))
 
 -- how many they are
-pub counted : (ts : Terms) {s : List ℕ} {d a i : ℕ} → Node s d a i record′ → argAt s i ≡ countL ts → countAt s i ≡ countL ts
+pub counted : (ts : Terms) {s : List ℕ} {d a i : ℕ} → LaidNode s d a i record′ → argAt s i ≡ countL ts → countAt s i ≡ countL ts
 counted ts {s} {i = i} N e = ap (λ (K : Kind). countOf K (argAt s i)) (N .kind) ∙ e
 
-pub counted-op : (f : Fun) (ts : Terms) {s : List ℕ} {d a i : ℕ} → Node s d a i (operator f) → argAt s i ≡ argued f ts → AsRead f ts → countAt s i ≡ countL ts
+pub counted-op : (f : Fun) (ts : Terms) {s : List ℕ} {d a i : ℕ} → LaidNode s d a i (operator f) → argAt s i ≡ argued f ts → AsRead f ts → countAt s i ≡ countL ts
 counted-op choice ts {s} {i = i} N e r = ap (λ (K : Kind). countOf K (argAt s i)) (N .kind) ∙ e
 counted-op (isOpen n c) ts {s} {i = i} N e r = ap (λ (K : Kind). countOf K (argAt s i)) (N .kind) ∙ sym (r .1)
 
@@ -107,7 +107,7 @@ children-are (tcons t ts) s d a L e =
     rw (lt-ltb 0 i (omega (arith, some-nodes t)))
     (ap (λ (n : ℕ). siblings s n i []) (e ∙ z) ∙ laid-siblings us s d a L 0 [] ∙ append-nil (lastsL a us))
 
-pub qualifiers-are : (qs : Quals) (h : Term) (s : List ℕ) (d D a i : ℕ) → LaidQ s d a qs → Laid s d (a + nodesQ qs) h → Node s D a i comprehension → i ≡ a + nodesQ qs + nodes h → qualifiersOf s i ≡ lastsQ a qs
+pub qualifiers-are : (qs : Quals) (h : Term) (s : List ℕ) (d D a i : ℕ) → LaidQ s d a qs → Laid s d (a + nodesQ qs) h → LaidNode s D a i comprehension → i ≡ a + nodesQ qs + nodes h → qualifiersOf s i ≡ lastsQ a qs
 qualifiers-are qs h s d D a i L H N e =
     let one = some-nodes h in
     let b : i - 1 ≡ a + nodesQ qs + nodes h - 1 = omega arith in
@@ -145,8 +145,8 @@ binds s a b y D x S σ l h w d A z = go (eqb x z) refl
     go false p = rw (p, upd) (λ q. later s a b S σ l A z q)
 
 -- ---- the whole
-pub node-at : {s : List ℕ} {d a i j : ℕ} {K : Kind} → j ≡ i → Node s d a j K → Node s d a i K
-node-at {s} {d} {a} {K = K} e N = subst (λ (x : ℕ). Node s d a x K) e N
+pub node-at : {s : List ℕ} {d a i j : ℕ} {K : Kind} → j ≡ i → LaidNode s d a j K → LaidNode s d a i K
+node-at {s} {d} {a} {K = K} e N = subst (λ (x : ℕ). LaidNode s d a x K) e N
 
 abbrev HoldsT : List ℕ → Term → ℕ → ℕ → Slots → Type 0
 HoldsT s t i D S = Holds (nodesOf s) (depthAt s) t i D S

@@ -55,30 +55,30 @@ nodeNamed s i (Operator f) = No.napp (funOf f) (childrenOf s i)
 nodeNamed s i Bad = No.nbad
 
 -- an argument has 33 bits, a depth 6
-abbrev pub Small : QueryNode → Type 0
-Small (Number z) = mag z < 2 ^ 33
-Small (Truth b) = Unit {0}
-Small (Name x d) = d < 64
-Small (Field k c) = k < 2 ^ 33
-Small Record = Unit {0}
-Small (Two o a b) = Unit {0}
-Small (Not c) = Unit {0}
-Small (Comp m h) = Unit {0}
-Small (Table k) = k < 2 ^ 33
-Small (Gen c) = Unit {0}
-Small (Bind c) = Unit {0}
-Small (Cond c) = Unit {0}
-Small (Operator f) = Unit {0}
-Small Bad = Unit {0}
+abbrev pub SmallNode : QueryNode → Type 0
+SmallNode (Number z) = mag z < 2 ^ 33
+SmallNode (Truth b) = Unit {0}
+SmallNode (Name x d) = d < 64
+SmallNode (Field k c) = k < 2 ^ 33
+SmallNode Record = Unit {0}
+SmallNode (Two o a b) = Unit {0}
+SmallNode (Not c) = Unit {0}
+SmallNode (Comp m h) = Unit {0}
+SmallNode (Table k) = k < 2 ^ 33
+SmallNode (Gen c) = Unit {0}
+SmallNode (Bind c) = Unit {0}
+SmallNode (Cond c) = Unit {0}
+SmallNode (Operator f) = Unit {0}
+SmallNode Bad = Unit {0}
 
 pub record LookPost (s : List ℕ) (i : ℕ) (r : QueryNode) : Type 0 where
   pub is : nodesOf s i ≡ nodeNamed s i r
-  pub small : Small r
+  pub small : SmallNode r
 
 -- the name at node i whose binder's word is w
 pub record NamedPost (s : List ℕ) (i w : ℕ) (r : QueryNode) : Type 0 where
   pub is : nameBy s i w ≡ nodeNamed s i r
-  pub small : Small r
+  pub small : SmallNode r
 
 -- a node that has a child
 pub record RaisedPost (i : ℕ) (n r : QueryNode) : Type 0 where

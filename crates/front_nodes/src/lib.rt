@@ -5,14 +5,14 @@ ghost use lib.ListN.{getD};
 ghost use Rattle.spec_encoding.specs.Reader.{kinds, unknown};
 ghost use Rattle.base_syntax.specs.Numbers.{constantOf};
 ghost use Rattle.front_nodes.specs.NodeTable.{countOf, depthAt};
-ghost use Rattle.front_words.specs.NodeWord.{kindOf, argOf};
+ghost use Rattle.front_words.specs.NodeWord.{nodeKindOf, argOf};
 ghost use Rattle.front_nodes.specs.Look.{kindNamed, LookPost, NamedPost, RaisedPost, ChildPost, BoundByPost};
 use base_scratch::MOST_NODES;
+use base_syntax::BinOp;
 use base_syntax::Fun;
 use base_syntax::KIND_OPEN;
 use base_syntax::Monoid;
 use base_syntax::OFFSET;
-use base_syntax::Op;
 use front_words::start_at;
 
 pub enum Kind {
@@ -21,7 +21,7 @@ pub enum Kind {
     Name,
     Field,
     Record,
-    Two(Op),
+    Two(BinOp),
     Not,
     Comp,
     Table,
@@ -41,7 +41,7 @@ pub enum QueryNode {
     Name(usize, usize),
     Field(usize, usize),
     Record,
-    Two(Op, usize, usize),
+    Two(BinOp, usize, usize),
     Not(usize),
     Comp(Monoid, usize),
     Table(usize),
@@ -72,13 +72,13 @@ fn kind_of(k: u64) -> Kind
         base_syntax::KIND_NAME => Kind::Name,
         base_syntax::KIND_FIELD => Kind::Field,
         base_syntax::KIND_RECORD => Kind::Record,
-        base_syntax::KIND_PLUS => Kind::Two(Op::Plus),
-        base_syntax::KIND_MINUS => Kind::Two(Op::Minus),
-        base_syntax::KIND_TIMES => Kind::Two(Op::Times),
-        base_syntax::KIND_EQUAL => Kind::Two(Op::Equal),
-        base_syntax::KIND_LESS => Kind::Two(Op::Less),
-        base_syntax::KIND_AND => Kind::Two(Op::And),
-        base_syntax::KIND_OR => Kind::Two(Op::Or),
+        base_syntax::KIND_PLUS => Kind::Two(BinOp::Plus),
+        base_syntax::KIND_MINUS => Kind::Two(BinOp::Minus),
+        base_syntax::KIND_TIMES => Kind::Two(BinOp::Times),
+        base_syntax::KIND_EQUAL => Kind::Two(BinOp::Equal),
+        base_syntax::KIND_LESS => Kind::Two(BinOp::Less),
+        base_syntax::KIND_AND => Kind::Two(BinOp::And),
+        base_syntax::KIND_OR => Kind::Two(BinOp::Or),
         base_syntax::KIND_NOT => Kind::Not,
         base_syntax::KIND_COMPREHENSION => Kind::Comp,
         base_syntax::KIND_TABLE => Kind::Table,
@@ -169,7 +169,7 @@ pub fn look(s: &[u64], i: usize) -> QueryNode
 
 // How many terms the record or operator of a word has.
 pub fn term_count(w: u64) -> u64
-    ensures { λ r. ⌜ r ≡ countOf (getD kinds (kindOf w) unknown) (argOf w) ⌝ }
+    ensures { λ r. ⌜ r ≡ countOf (getD kinds (nodeKindOf w) unknown) (argOf w) ⌝ }
 {
     if front_words::kind(w) == KIND_OPEN {
         return 1;

@@ -17,11 +17,11 @@ use Rattle.base_scratch.specs.Map.{nodesAt}
 use Rattle.front_words.specs.NodeWord.{pack}
 use Rattle.front_words.specs.NodeTree.{argAt}
 use Rattle.base_syntax.specs.Numbers.{constantOf}
-use Rattle.front_words.specs.LaidTree.{nodes, Node, Laid}
+use Rattle.front_words.specs.LaidTree.{nodes, LaidNode, Laid}
 use Rattle.front_words.proofs.NodeWords.{put-is, put-arg}
-use Rattle.front_parser.specs.ReaderScratch.{Kept, FinishPre, FinishPost}
-use Rattle.front_parser.specs.RecordFront.{BytePost, TwoPost, Whole, ReadHeaderPost, HeadedBy, Stops, none, deep, many, cut, BeginPost}
-use Rattle.front_parser.specs.RecordKinds.{LeafKind, is-number, is-truth, is-name, is-table, HasTerms, of-two, ShapeOfPost, LookAheadPost, Fixed, Leaf, a-number, a-truth, a-name, a-table, ValueIs, ValuedBy, Valued}
+use Rattle.front_parser.specs.ReaderScratch.{NodesKept, FinishPre, FinishPost}
+use Rattle.front_parser.specs.RecordFront.{BytePost, TwoPost, RecordFront, ReadHeaderPost, HeadedBy, Stops, none, deep, many, cut, BeginPost}
+use Rattle.front_parser.specs.RecordKinds.{LeafKind, is-number, is-truth, is-name, is-table, HasTerms, of-two, ShapeOfPost, LookAheadPost, Fixed, LeafRecord, a-number, a-truth, a-name, a-table, ValueIs, ValuedBy, Valued}
 use Rattle.front_parser.specs.ReaderContracts.{ContentRead}
 use Rattle.front_parser.specs.declared.ParseState.{ParseState}
 use Rattle.front_parser.specs.declared.Filled.{Filled}
@@ -63,7 +63,7 @@ headed-whole {l} h t c u =
       };
     }
 
-pub headed : {l : Bytes} {h : RecordHeader} → ReadHeaderPost l h → {k e : ℕ} → h ≡ RecordHeader.Record k e → Whole l k e
+pub headed : {l : Bytes} {h : RecordHeader} → ReadHeaderPost l h → {k e : ℕ} → h ≡ RecordHeader.Record k e → RecordFront l k e
 headed {l} H e = subst (HeadedBy l) e (H .is)
 
 pub not-headed : {l : Bytes} {h : RecordHeader} → ReadHeaderPost l h → h ≡ RecordHeader.Short → isWhole l ≡ false
@@ -107,20 +107,20 @@ stops-refuses {l} {p} (deep h e) q = part-deep (p .levels) q l (p .left) h e
 stops-refuses {l} {p} (many h e) q = part-many (p .levels) q l (p .left) h e
 stops-refuses {l} {p} (cut h i w) q = part-cut (p .levels) q l (p .left) h i w
 
-pub begin-record : {l : Bytes} {p b : ParseState} {k e : ℕ} → (p .levels ≡ 0 → ⊥) → (p .left ≡ 0 → ⊥) → Whole l k e →
+pub begin-record : {l : Bytes} {p b : ParseState} {k e : ℕ} → (p .levels ≡ 0 → ⊥) → (p .left ≡ 0 → ⊥) → RecordFront l k e →
     b .levels ≡ p .levels - 1 → b .left ≡ p .left - 1 → b .node ≡ p .node → b .depth ≡ p .depth → BeginPost l p (Begun.Record k e b)
 begin-record h i w bv bl bn bd =
     record { is = record { header = w; levels = omega arith; left = omega arith; node = bn; depth = bd } }
 
 -- ---- the scratch words
-pub kept-refl : {a : ℕ} {s : List ℕ} → Kept a s s
+pub kept-refl : {a : ℕ} {s : List ℕ} → NodesKept a s s
 kept-refl = record { long = refl; below = λ i h. refl; above = λ i h. refl }
 
-pub kept-trans : {a b : ℕ} {s t u : List ℕ} → a ≤ b → Kept a s t → Kept b t u → Kept a s u
+pub kept-trans : {a b : ℕ} {s t u : List ℕ} → a ≤ b → NodesKept a s t → NodesKept b t u → NodesKept a s u
 kept-trans h K L =
     record { long = L .long ∙ K .long; below = λ i l. L .below i (omega arith) ∙ K .below i l; above = λ i l. L .above i l ∙ K .above i l }
 
-kept-put : {s : List ℕ} (i w : ℕ) → i < 256 → Kept i s (set s (nodesAt + i) w)
+kept-put : {s : List ℕ} (i w : ℕ) → i < 256 → NodesKept i s (set s (nodesAt + i) w)
 kept-put {s} i w h =
     record {
       long = length-set s (nodesAt + i) w;
@@ -246,7 +246,7 @@ truth-is {c} {b} h t o =
     record {
       is = record {
         tree = truth (eqb b 1);
-        leaf = subst (λ (x : ℕ). Leaf truthK x (truth (eqb b 1))) (bit b o) (a-truth (eqb b 1));
+        leaf = subst (λ (x : ℕ). LeafRecord truthK x (truth (eqb b 1))) (bit b o) (a-truth (eqb b 1));
         is = λ R q n. rw (eq-eqb (length c) 1 h, le-leb (byte c 0) 1 (omega (arith, t .is))) (ap (λ (x : ℕ). yields (term (truth (eqb x 1))) [] n) (sym (t .is)));
         small = omega arith;
       };
@@ -301,14 +301,14 @@ leaf-small is-truth = omega arith
 leaf-small is-name = omega arith
 leaf-small is-table = omega arith
 
-leaf-one : {K : Kind} {a : ℕ} {t : Term} → Leaf K a t → nodes t ≡ 1
+leaf-one : {K : Kind} {a : ℕ} {t : Term} → LeafRecord K a t → nodes t ≡ 1
 unfolding nodes
 leaf-one (a-number a) = refl
 leaf-one (a-truth b) = refl
 leaf-one (a-name a) = refl
 leaf-one (a-table a) = refl
 
-leaf-laid : {K : Kind} {a : ℕ} {t : Term} {s : List ℕ} {d i : ℕ} → Leaf K a t → Node s d i i K → argAt s i ≡ a → Laid s d i t
+leaf-laid : {K : Kind} {a : ℕ} {t : Term} {s : List ℕ} {d i : ℕ} → LeafRecord K a t → LaidNode s d i i K → argAt s i ≡ a → Laid s d i t
 leaf-laid (a-number a) N e = (N, ap constantOf e)
 leaf-laid (a-truth b) N e = (N, e)
 leaf-laid (a-name a) N e = (N, e)

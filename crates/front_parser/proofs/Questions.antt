@@ -16,8 +16,8 @@ use Rattle.front_words.specs.NodeWord.{argOf}
 use Rattle.front_words.specs.NodeTree.{monoidAt, treeAt}
 use Rattle.front_words.specs.LaidTree.{nodes, nodesQ, Laid, LaidQ}
 use Rattle.front_words.proofs.NodeWords.{some-nodes, node-same, laid-tree}
-use Rattle.front_parser.specs.ReaderScratch.{Kept, Room, FinishPre, FinishPost}
-use Rattle.front_parser.specs.RecordFront.{Whole, Began, BytePost}
+use Rattle.front_parser.specs.ReaderScratch.{NodesKept, NodeRoom, FinishPre, FinishPost}
+use Rattle.front_parser.specs.RecordFront.{RecordFront, Began, BytePost}
 use Rattle.front_parser.specs.ReaderContracts.{behindOf, qualifies, nodesP, LaidP, rounds, FrontFound, TermsPost, ItemBy, QualifierPost, PartsFound, PartsBy, PartsPost, ComprehensionFound, ComprehensionBy, ComprehensionPost, ReadQuestionPost}
 use Rattle.front_parser.specs.declared.ParseState.{ParseState}
 use Rattle.front_parser.specs.declared.Filled.{Filled}
@@ -83,7 +83,7 @@ laid-front (generates x t) h s d a qs L M = (L .0, L .1, L .2, subst (λ (i : �
 laid-front (binds x t) h s d a qs L M = (L .0, L .1, L .2, subst (λ (i : ℕ). LaidQ s d i qs) (sym (add-assoc a (nodes t) 1)) M)
 laid-front (holds t) h s d a qs L M = (L .0, L .1, subst (λ (i : ℕ). LaidQ s d i qs) (sym (add-assoc a (nodes t) 1)) M)
 
-part-kept : (t : Part) {s s′ : List ℕ} {b : ℕ} (d a : ℕ) → Kept b s s′ → a + nodesP t ≤ b → LaidP s d a t → LaidP s′ d a t
+part-kept : (t : Part) {s s′ : List ℕ} {b : ℕ} (d a : ℕ) → NodesKept b s s′ → a + nodesP t ≤ b → LaidP s d a t → LaidP s′ d a t
 part-kept (term t) d a K h L = laid-kept t d a K h L
 part-kept (generates x t) d a K h L = let e = nodes-kept K (a + nodes t) (omega arith) in (laid-kept t d a K (omega arith) (L .0), node-same e (L .1), ap argOf e ∙ L .2)
 part-kept (binds x t) d a K h L = let e = nodes-kept K (a + nodes t) (omega arith) in (laid-kept t d a K (omega arith) (L .0), node-same e (L .1), ap argOf e ∙ L .2)
@@ -118,7 +118,7 @@ module _ {l : Bytes} {s s′ : List ℕ} {p : ParseState} {i : Item} (I : Qualif
         (λ m k q. on-qualifier (F .part) (F .sort) m (drop used l) left (λ r j. E.parts (readPart (p .levels)) m k r j) ∙
         ap (inFront (inFrontOf (F .part))) (ap (λ (r : Bytes). E.parts (readPart (p .levels)) m k r left) (sym (after-is l used)) ∙ h m k (omega (arith, F .spent, some-part (F .part)))))
 
-    next-by : {s″ : List ℕ} (r : Filled) → Kept j s′ s″ → PartsBy (after l used) s″ (behindOf p left j) r → PartsBy l s″ p r
+    next-by : {s″ : List ℕ} (r : Filled) → NodesKept j s′ s″ → PartsBy (after l used) s″ (behindOf p left j) r → PartsBy l s″ p r
     unfolding inFront andThen
     next-by (Filled.Refused x) K P = next-rounds P
     next-by {s″} (Filled.Read rest end) K P =
@@ -173,10 +173,10 @@ module _ {l : Bytes} {s s′ : List ℕ} {p : ParseState} {i : Item} (I : Qualif
 pub record PartsUpto (l : Bytes) (s₀ : List ℕ) (p : ParseState) (s : List ℕ) (a : ℕ) (q : ParseState) : Type 0 where
   pub within : a ≤ length l
   pub long : length s ≡ length s₀
-  pub room : Room 0 s q
+  pub room : NodeRoom 0 s q
   pub back : (s′ : List ℕ) (r : Filled) → PartsPost (after l a) s q s′ r → PartsPost l s₀ p s′ r
 
-pub parts-first : {l : Bytes} {s : List ℕ} {p : ParseState} → Room 0 s p → PartsUpto l s p s 0 p
+pub parts-first : {l : Bytes} {s : List ℕ} {p : ParseState} → NodeRoom 0 s p → PartsUpto l s p s 0 p
 parts-first {l} {s} {p} M = record { within = omega arith; long = refl; room = M; back = λ s′ r P. subst (λ (b : Bytes). PartsPost b s p s′ r) (after-is l 0) P }
 
 module _ {l : Bytes} {s₀ s s′ : List ℕ} {p q : ParseState} {a : ℕ} {i : Item} (U : PartsUpto l s₀ p s a q) (Q : QualifierPost (after l a) s q s′ i) where
@@ -297,7 +297,7 @@ module _ {l : Bytes} {s : List ℕ} (h : length l ≤ 4096) where
   unfolding readQuestion require
   question-cut w = record { is = rw (le-leb (length l) 4096 h, w); kept = kept-refl }
 
-  pub question-kind : {k e : ℕ} → Whole l k e → (k ≡ 14 → ⊥) → ReadQuestionPost l s s (Answer.Refused 22)
+  pub question-kind : {k e : ℕ} → RecordFront l k e → (k ≡ 14 → ⊥) → ReadQuestionPost l s s (Answer.Refused 22)
   unfolding readQuestion require
   question-kind W n = record { is = rw (le-leb (length l) 4096 h, W .whole, ne-eqb (kindOf l) 14 (λ e. n (W .kind ∙ e))); kept = kept-refl }
 
@@ -305,7 +305,7 @@ module _ {l : Bytes} {s : List ℕ} (h : length l ≤ 4096) where
 abbrev pub first : ParseState
 first = record { levels = 31; left = 255; node = 0; depth = 0 }
 
-module _ {l : Bytes} {s s′ : List ℕ} {k e : ℕ} {r : Filled} (h : length l ≤ 4096) (W : Whole l k e) (ke : k ≡ 14) (C : ComprehensionPost (inner l e) s first s′ r) where
+module _ {l : Bytes} {s s′ : List ℕ} {k e : ℕ} {r : Filled} (h : length l ≤ 4096) (W : RecordFront l k e) (ke : k ≡ 14) (C : ComprehensionPost (inner l e) s first s′ r) where
   question-by : {x : E.Read Question} → comprehends (readPart 31) (inner l e) 255 ≡ x → readQuestion l ≡ andThen x (λ s. require 22 (eqb (length (behind l)) 0) (got (s .is)))
   unfolding readQuestion require
   question-by {x} p =
@@ -346,26 +346,26 @@ module _ {l : Bytes} {s s′ : List ℕ} {k e : ℕ} {r : Filled} (h : length l 
       }
 
 -- ---- room for what follows
-pub room-inside : {l : Bytes} {s : List ℕ} {p b : ParseState} {k e : ℕ} → Room 0 s p → Began l p k e b → Room 1 s b
+pub room-inside : {l : Bytes} {s : List ℕ} {p b : ParseState} {k e : ℕ} → NodeRoom 0 s p → Began l p k e b → NodeRoom 1 s b
 room-inside M B = record { words = M .words; nodes = omega (arith, B .node, B .left, M .nodes); deep = omega (arith, B .levels, B .depth, M .deep) }
 
-pub room-terms : {s : List ℕ} {p : ParseState} → Room 1 s p → Room 0 s p
+pub room-terms : {s : List ℕ} {p : ParseState} → NodeRoom 1 s p → NodeRoom 0 s p
 room-terms M = record { words = M .words; nodes = M .nodes; deep = omega (arith, M .deep) }
 
-pub room-parts : {s : List ℕ} {p : ParseState} → Room 1 s p → Room 0 s (insideOf p)
+pub room-parts : {s : List ℕ} {p : ParseState} → NodeRoom 1 s p → NodeRoom 0 s (insideOf p)
 room-parts M = record { words = M .words; nodes = M .nodes; deep = omega (arith, M .deep) }
 
-pub finishing-terms : {most : ℕ} {l : Bytes} {s s′ : List ℕ} {p : ParseState} {t : Several} {count left i k x : ℕ} → Room 1 s p → TermsPost most l s p s′ t → t ≡ Several.Read count left i →
+pub finishing-terms : {most : ℕ} {l : Bytes} {s s′ : List ℕ} {p : ParseState} {t : Several} {count left i k x : ℕ} → NodeRoom 1 s p → TermsPost most l s p s′ t → t ≡ Several.Read count left i →
     k < 32 → x < 8589934592 → FinishPre s′ k x p i
 finishing-terms M T e hk hx =
     let F = terms-found T e .0 in
     let n = F .end in
     record { words = omega (arith, T .kept .long, M .words); kind = hk; arg = hx; start = omega arith; below = omega (arith, F .spent, M .nodes); deep = omega (arith, M .deep) }
 
-pub few-terms : {most : ℕ} {l : Bytes} {s s′ : List ℕ} {p : ParseState} {t : Several} {count left i : ℕ} → Room 1 s p → TermsPost most l s p s′ t → t ≡ Several.Read count left i → count < 8589934592
+pub few-terms : {most : ℕ} {l : Bytes} {s s′ : List ℕ} {p : ParseState} {t : Several} {count left i : ℕ} → NodeRoom 1 s p → TermsPost most l s p s′ t → t ≡ Several.Read count left i → count < 8589934592
 few-terms M T e = let F = terms-found T e .0 in omega (arith, F .many, F .spent, M .nodes, count-nodes (F .trees))
 
-pub finishing-parts : (p : ParseState) {l : Bytes} {s s′ : List ℕ} {r : Filled} {left i b : ℕ} → Room 1 s p → PartsPost l s (insideOf p) s′ r → r ≡ Filled.Read left i → b ≤ 8 → FinishPre s′ 14 b p i
+pub finishing-parts : (p : ParseState) {l : Bytes} {s s′ : List ℕ} {r : Filled} {left i b : ℕ} → NodeRoom 1 s p → PartsPost l s (insideOf p) s′ r → r ≡ Filled.Read left i → b ≤ 8 → FinishPre s′ 14 b p i
 finishing-parts p {l} {s′ = s′} M P e h =
     let F = subst (PartsBy l s′ (insideOf p)) e (P .is) in
     let n = F .end in

@@ -14,10 +14,10 @@ use Rattle.base_scratch.specs.Map.{nodesAt}
 use Rattle.front_words.specs.NodeWord.{nodeWord}
 use Rattle.front_words.specs.LaidTree.{nodes, nodesL, nodesQ, Laid, LaidL, LaidQ}
 use Rattle.front_words.proofs.NodeWords.{three, laid-same, laid-same-terms, laid-same-quals}
-use Rattle.front_parser.specs.ReaderScratch.{Kept}
-use Rattle.front_parser.specs.RecordFront.{Whole, Began, BeginPost, BeginsBy}
+use Rattle.front_parser.specs.ReaderScratch.{NodesKept}
+use Rattle.front_parser.specs.RecordFront.{RecordFront, Began, BeginPost, BeginsBy}
 use Rattle.front_parser.specs.RecordKinds.{LeafKind, HasTerms, of-field, of-record, of-two, of-not, of-choice, of-open, ShapeOfPost, ShapedBy, LookAheadPost, LooksBy}
-use Rattle.front_parser.specs.ReaderContracts.{LaidP, Found, FillsBy, ContentRead, CompoundPost, FrontFound, TermBy, TermPost, headOf, ItemBy, QualifierPost, ComprehensionBy, ComprehensionPost}
+use Rattle.front_parser.specs.ReaderContracts.{LaidP, PartRead, FillsBy, ContentRead, CompoundPost, FrontFound, TermBy, TermPost, headOf, ItemBy, QualifierPost, ComprehensionBy, ComprehensionPost}
 use Rattle.front_parser.specs.declared.ParseState.{ParseState}
 use Rattle.front_parser.specs.declared.Arity.{Arity}
 use Rattle.front_parser.specs.declared.Filled.{Filled}
@@ -54,22 +54,22 @@ length-inner l e h = simp (length-take, length-drop) (omega arith)
 pub after-after : (l : Bytes) (a b : ℕ) → after (after l a) b ≡ after l (a + b)
 after-after l a b = after-is (after l a) b ∙ ap (λ (r : Bytes). drop b r) (after-is l a) ∙ drop-drop b a l ∙ sym (after-is l (a + b))
 
-pub inner-is : {l : Bytes} {k e : ℕ} → Whole l k e → inner l e ≡ contentOf l
+pub inner-is : {l : Bytes} {k e : ℕ} → RecordFront l k e → inner l e ≡ contentOf l
 inner-is {l} {e = e} W =
     let n : e - 4 ≡ lengthOf l = omega (arith, W .end) in
     ap (λ (n : ℕ). take n (drop 4 l)) n
 
 -- ---- what lies in scratch stays there under later nodes
-pub nodes-kept : {b : ℕ} {s s′ : List ℕ} → Kept b s s′ → (i : ℕ) → i < b → nodeWord s′ i ≡ nodeWord s i
+pub nodes-kept : {b : ℕ} {s s′ : List ℕ} → NodesKept b s s′ → (i : ℕ) → i < b → nodeWord s′ i ≡ nodeWord s i
 nodes-kept K i h = K .below (nodesAt + i) (omega arith)
 
-pub laid-kept : (t : Term) {s s′ : List ℕ} {b : ℕ} (d a : ℕ) → Kept b s s′ → a + nodes t ≤ b → Laid s d a t → Laid s′ d a t
+pub laid-kept : (t : Term) {s s′ : List ℕ} {b : ℕ} (d a : ℕ) → NodesKept b s s′ → a + nodes t ≤ b → Laid s d a t → Laid s′ d a t
 laid-kept t {s} {s′} {b} d a K h L = laid-same s s′ b (nodes-kept K) t d a h L
 
-pub terms-kept : (ts : Terms) {s s′ : List ℕ} {b : ℕ} (d a : ℕ) → Kept b s s′ → a + nodesL ts ≤ b → LaidL s d a ts → LaidL s′ d a ts
+pub terms-kept : (ts : Terms) {s s′ : List ℕ} {b : ℕ} (d a : ℕ) → NodesKept b s s′ → a + nodesL ts ≤ b → LaidL s d a ts → LaidL s′ d a ts
 terms-kept ts {s} {s′} {b} d a K h L = laid-same-terms s s′ b (nodes-kept K) ts d a h L
 
-pub quals-kept : (qs : Quals) {s s′ : List ℕ} {b : ℕ} (d a : ℕ) → Kept b s s′ → a + nodesQ qs ≤ b → LaidQ s d a qs → LaidQ s′ d a qs
+pub quals-kept : (qs : Quals) {s s′ : List ℕ} {b : ℕ} (d a : ℕ) → NodesKept b s s′ → a + nodesQ qs ≤ b → LaidQ s d a qs → LaidQ s′ d a qs
 quals-kept qs {s} {s′} {b} d a K h L = laid-same-quals s s′ b (nodes-kept K) qs d a h L
 
 -- ---- a record that begins
@@ -89,7 +89,7 @@ module _ {l : Bytes} {p b : ParseState} {k e : ℕ} (B : Began l p k e b) where
       (ap (λ (n : ℕ). getD kinds n unknown) (sym (B .header .kind))) (sym (inner-is (B .header))) (ap (λ (n : ℕ). drop n l) (sym (B .header .end))))
 
   -- what was found in the content was found at the front
-  front-found : (q : Bool) {t : Bool} {s : List ℕ} {left i : ℕ} → Found t (content (readPart (b .levels)) q (getD kinds k unknown) (inner l e) (b .left)) [] s (b .depth) (b .node) (b .left + 1) left i →
+  front-found : (q : Bool) {t : Bool} {s : List ℕ} {left i : ℕ} → PartRead t (content (readPart (b .levels)) q (getD kinds k unknown) (inner l e) (b .left)) [] s (b .depth) (b .node) (b .left + 1) left i →
       FrontFound t (readPart (p .levels) q l (p .left)) l s p e left i
   unfolding andThen
   front-found q {s = s} F =
@@ -110,8 +110,8 @@ module _ {l : Bytes} {p b : ParseState} {k e : ℕ} (B : Began l p k e b) where
   unfolding andThen
   front-refused q h = opened q ∙ ap (λ (x : E.Read Part). andThen x (λ s. yields (s .is) (drop e l) (s .left))) h
 
-  front-kept : {s s′ : List ℕ} → Kept (b .node) s s′ → Kept (p .node) s s′
-  front-kept {s} {s′} K = subst (λ (a : ℕ). Kept a s s′) (B .node) K
+  front-kept : {s s′ : List ℕ} → NodesKept (b .node) s s′ → NodesKept (p .node) s s′
+  front-kept {s} {s′} K = subst (λ (a : ℕ). NodesKept a s s′) (B .node) K
 
 -- ---- term
 pub term-none : {l : Bytes} {s : List ℕ} {p : ParseState} {g : RecordStart} {x : ℕ} → BeginPost l p g → g ≡ RecordStart.Refused x → TermPost l s p s (TermFront.Refused x)

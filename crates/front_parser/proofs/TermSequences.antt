@@ -12,11 +12,11 @@ use Rattle.spec_encoding.specs.Record.{Bytes, Result, refused, got, andThen, re
 use Rattle.spec_encoding.specs.Reader as E
 use Rattle.spec_encoding.specs.Reader.{Kind, record′, Part, term, generates, binds, holds, Step, Reader, yields, oneTerm, filled, named, content, readPart}
 use Rattle.front_words.specs.NodeTree.{argAt}
-use Rattle.front_words.specs.LaidTree.{nodes, nodesL, countL, Node, Laid, LaidL}
+use Rattle.front_words.specs.LaidTree.{nodes, nodesL, countL, LaidNode, Laid, LaidL}
 use Rattle.front_words.proofs.NodeWords.{some-nodes}
-use Rattle.front_parser.specs.ReaderScratch.{Kept, Room, FinishPost}
+use Rattle.front_parser.specs.ReaderScratch.{NodesKept, NodeRoom, FinishPost}
 use Rattle.front_parser.specs.RecordKinds.{HasTerms, of-field, of-record, of-two, of-not, of-choice, of-open, of-generator, of-binding, of-condition, fixedOk, fixedOf, FixedIs, FixedBy, Fixed}
-use Rattle.front_parser.specs.ReaderContracts.{behindOf, qualifies, nodesP, LaidP, Found, CompoundPost, FrontFound, TermBy, TermPost, TermsFound, TermsBy, TermsPost}
+use Rattle.front_parser.specs.ReaderContracts.{behindOf, qualifies, nodesP, LaidP, PartRead, CompoundPost, FrontFound, TermBy, TermPost, TermsFound, TermsBy, TermsPost}
 use Rattle.front_parser.specs.declared.ParseState.{ParseState}
 use Rattle.front_parser.specs.declared.Arity.{Arity}
 use Rattle.front_parser.specs.declared.Filled.{Filled}
@@ -46,7 +46,7 @@ tree-of (generates x t) h i l e r = absurd (let z : _≡_ {A = ℕ} 0 1 = cc in 
 tree-of (binds x t) h i l e r = absurd (let z : _≡_ {A = ℕ} 0 1 = cc in omega arith)
 tree-of (holds t) h i l e r = absurd (let z : _≡_ {A = ℕ} 0 1 = cc in omega arith)
 
-pub tree-found : {x : E.Read Part} {rest : Bytes} {s : List ℕ} {d a b left e : ℕ} → Found false x rest s d a b left e → TreeFound x rest s d a b left e
+pub tree-found : {x : E.Read Part} {rest : Bytes} {s : List ℕ} {d a b left e : ℕ} → PartRead false x rest s d a b left e → TreeFound x rest s d a b left e
 tree-found F = tree-of (F .part) (F .sort) (F .is) (F .laid) (F .end) (F .spent)
 
 module _ {A : Type 0} (R : Reader) (l : Bytes) (n : ℕ) (k : Term → Bytes → ℕ → E.Read A) where
@@ -121,7 +121,7 @@ module _ {l : Bytes} {s s′ : List ℕ} {p : ParseState} {f : TermFront} {most 
         terms-more R most (most - 1) l (p .left) some (omega arith) ∙ one-got R l (p .left) _ (t .is) ∙
         ap (λ (x : E.Read Terms). andThen x (λ s. yields (tcons (t .tree) (s .is)) (s .rest) (s .left))) (ap (λ (r : Bytes). E.terms R (most - 1) r left) (sym (after-is l used)) ∙ h)
 
-    terms-last : {s″ : List ℕ} {r : Several} → TermsPost (most - 1) (after l used) s′ (behindOf p left i) s″ r → Kept (p .node) s s″
+    terms-last : {s″ : List ℕ} {r : Several} → TermsPost (most - 1) (after l used) s′ (behindOf p left i) s″ r → NodesKept (p .node) s s″
     terms-last S = kept-trans (omega (arith, tree-found (first-found .found) .end)) (T .kept) (S .kept)
 
     terms-rest-refused : {s″ : List ℕ} {r : Several} {x : ℕ} → TermsPost (most - 1) (after l used) s′ (behindOf p left i) s″ r → r ≡ Several.Refused x →
@@ -159,8 +159,8 @@ module _ {l : Bytes} {s s′ : List ℕ} {p : ParseState} {f : TermFront} {most 
     terms-rest (Several.Read count rest end) S = terms-read S refl
     terms-rest (Several.Refused x) S = terms-rest-refused S refl
 
-pub room-behind : {q : Bool} {x : E.Read Part} {l : Bytes} {s s′ : List ℕ} {p : ParseState} {used left i : ℕ} → Room 0 s p → Kept (p .node) s s′ → FrontFound q x l s′ p used left i →
-    Room 0 s′ (behindOf p left i)
+pub room-behind : {q : Bool} {x : E.Read Part} {l : Bytes} {s s′ : List ℕ} {p : ParseState} {used left i : ℕ} → NodeRoom 0 s p → NodesKept (p .node) s s′ → FrontFound q x l s′ p used left i →
+    NodeRoom 0 s′ (behindOf p left i)
 room-behind M K F =
     record { words = omega (arith, K .long, M .words); nodes = omega (arith, F .found .end, F .found .spent, M .nodes); deep = M .deep }
 
@@ -168,10 +168,10 @@ room-behind M K F =
 pub record TermsUpto (most : ℕ) (l : Bytes) (s₀ : List ℕ) (p : ParseState) (s : List ℕ) (a : ℕ) (q : ParseState) (n : ℕ) : Type 0 where
   pub within : a ≤ length l
   pub long : length s ≡ length s₀
-  pub room : Room 0 s q
+  pub room : NodeRoom 0 s q
   pub back : (s′ : List ℕ) (r : Several) → TermsPost (most - n) (after l a) s q s′ r → TermsPost most l s₀ p s′ (besides n r)
 
-pub upto-first : {most : ℕ} {l : Bytes} {s : List ℕ} {p : ParseState} → Room 0 s p → TermsUpto most l s p s 0 p 0
+pub upto-first : {most : ℕ} {l : Bytes} {s : List ℕ} {p : ParseState} → NodeRoom 0 s p → TermsUpto most l s p s 0 p 0
 upto-first {most} {l} {s} {p} M = record {
   within = omega arith;
   long = refl;
@@ -399,15 +399,15 @@ record Made (x : Result Part) (q : Bool) (s : List ℕ) (d a n : ℕ) : Type 0 w
   laid : LaidP s d a part
   size : nodesP part ≡ n + 1
 
-pub node-at : {s : List ℕ} {d a i j : ℕ} {K : Kind} → Node s d a i K → i ≡ j → Node s d a j K
-node-at {s} {d} {a} {K = K} N e = subst (λ (j : ℕ). Node s d a j K) e N
+pub node-at : {s : List ℕ} {d a i j : ℕ} {K : Kind} → LaidNode s d a i K → i ≡ j → LaidNode s d a j K
+node-at {s} {d} {a} {K = K} N e = subst (λ (j : ℕ). LaidNode s d a j K) e N
 
 pub arg-at : (s : List ℕ) {i j x : ℕ} → argAt s i ≡ x → i ≡ j → argAt s j ≡ x
 arg-at s {x = x} h e = subst (λ (j : ℕ). argAt s j ≡ x) e h
 
 module _ {s : List ℕ} {d a i : ℕ} where
   -- the record's own node stands behind its terms: the argument is what stands before them, or else their count
-  made : {K : Kind} {q : Bool} {l m j : ℕ} (H : HasTerms K q l m j) (x : ℕ) (ts : Terms) → l ≤ countL ts → countL ts ≤ m → LaidL s d a ts → Node s d a i K → i ≡ a + nodesL ts →
+  made : {K : Kind} {q : Bool} {l m j : ℕ} (H : HasTerms K q l m j) (x : ℕ) (ts : Terms) → l ≤ countL ts → countL ts ≤ m → LaidL s d a ts → LaidNode s d a i K → i ≡ a + nodesL ts →
       (j ≡ 0 → argAt s i ≡ countL ts) → ((j ≡ 0 → ⊥) → argAt s i ≡ x) → Made (make H x ts) q s d a (nodesL ts)
   unfolding make one pair triple chosen opening some nodes nodesL countL
   made of-field x ts lo hi L N e z f =

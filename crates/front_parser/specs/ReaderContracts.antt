@@ -10,8 +10,8 @@ use Rattle.spec_encoding.specs.Record.{Bytes, Result, refused, got}
 use Rattle.spec_encoding.specs.Reader as E
 use Rattle.spec_encoding.specs.Reader.{kinds, unknown, generator, binding, condition, Part, term, generates, binds, holds, yields, comprehends, readPart, readQuestion}
 use Rattle.front_words.specs.NodeTree.{argAt, treeAt}
-use Rattle.front_words.specs.LaidTree.{nodes, nodesL, nodesQ, countL, Node, Laid, LaidL, LaidQ}
-use Rattle.front_parser.specs.ReaderScratch.{Kept}
+use Rattle.front_words.specs.LaidTree.{nodes, nodesL, nodesQ, countL, LaidNode, Laid, LaidL, LaidQ}
+use Rattle.front_parser.specs.ReaderScratch.{NodesKept}
 use Rattle.front_parser.specs.RecordKinds.{HasTerms}
 use Rattle.front_parser.specs.declared.ParseState.{ParseState}
 use Rattle.front_parser.specs.declared.Arity.{Arity}
@@ -45,13 +45,13 @@ nodesP (holds t) = nodes t + 1
 
 abbrev pub LaidP : List ℕ → ℕ → ℕ → Part → Type 0
 LaidP s d a (term t) = Laid s d a t
-LaidP s d a (generates x t) = Laid s d a t × Node s d a (a + nodes t) generator × (argAt s (a + nodes t) ≡ x)
-LaidP s d a (binds x t) = Laid s d a t × Node s d a (a + nodes t) binding × (argAt s (a + nodes t) ≡ x)
-LaidP s d a (holds t) = Laid s d a t × Node s d a (a + nodes t) condition
+LaidP s d a (generates x t) = Laid s d a t × LaidNode s d a (a + nodes t) generator × (argAt s (a + nodes t) ≡ x)
+LaidP s d a (binds x t) = Laid s d a t × LaidNode s d a (a + nodes t) binding × (argAt s (a + nodes t) ≡ x)
+LaidP s d a (holds t) = Laid s d a t × LaidNode s d a (a + nodes t) condition
 
 -- A part was read: a qualifier or a term, as q says; it lies from node a to e, at depth d, and its nodes were taken from
 -- the b records that might still be begun.
-pub record Found (q : Bool) (x : E.Read Part) (rest : Bytes) (s : List ℕ) (d a b left e : ℕ) : Type 0 where
+pub record PartRead (q : Bool) (x : E.Read Part) (rest : Bytes) (s : List ℕ) (d a b left e : ℕ) : Type 0 where
   pub part : Part
   pub sort : qualifies part ≡ q
   pub is : x ≡ yields part rest left
@@ -61,21 +61,21 @@ pub record Found (q : Bool) (x : E.Read Part) (rest : Bytes) (s : List ℕ) (d a
 
 -- ---- a record's content; its own node is one of those that were spent
 abbrev pub FillsBy : Bool → E.Read Part → List ℕ → ParseState → Filled → Type 0
-FillsBy q x s p (Filled.Read left e) = Found q x [] s (p .depth) (p .node) (p .left + 1) left e
+FillsBy q x s p (Filled.Read left e) = PartRead q x [] s (p .depth) (p .node) (p .left + 1) left e
 FillsBy q x s p (Filled.Refused k) = x ≡ refused k
 
 pub record ContentRead (k : ℕ) (c : Bytes) (s : List ℕ) (p : ParseState) (s′ : List ℕ) (r : Filled) : Type 0 where
   pub is : FillsBy false (E.content (readPart (p .levels)) false (getD kinds k unknown) c (p .left)) s′ p r
-  pub kept : Kept (p .node) s s′
+  pub kept : NodesKept (p .node) s s′
 
 pub record CompoundPost (k : ℕ) (h : Arity) (c : Bytes) (s : List ℕ) (p : ParseState) (s′ : List ℕ) (r : Filled) : Type 0 where
   pub is : (q : Bool) → HasTerms (getD kinds k unknown) q (h .least) (h .most) (h .skip) →
       FillsBy q (E.content (readPart (p .levels)) true (getD kinds k unknown) c (p .left)) s′ p r
-  pub kept : Kept (p .node) s s′
+  pub kept : NodesKept (p .node) s s′
 
 -- ---- the term at the front
 pub record FrontFound (q : Bool) (x : E.Read Part) (l : Bytes) (s : List ℕ) (p : ParseState) (used left e : ℕ) : Type 0 where
-  pub found : Found q x (drop used l) s (p .depth) (p .node) (p .left) left e
+  pub found : PartRead q x (drop used l) s (p .depth) (p .node) (p .left) left e
   pub some : 4 ≤ used
   pub within : used ≤ length l
 
@@ -85,7 +85,7 @@ TermBy x l s p (TermFront.Refused k) = x ≡ refused k
 
 pub record TermPost (l : Bytes) (s : List ℕ) (p : ParseState) (s′ : List ℕ) (r : TermFront) : Type 0 where
   pub is : TermBy (readPart (p .levels) false l (p .left)) l s′ p r
-  pub kept : Kept (p .node) s s′
+  pub kept : NodesKept (p .node) s s′
 
 -- ---- terms to the end of the bytes
 pub record TermsFound (x : E.Read Terms) (s : List ℕ) (p : ParseState) (count left e : ℕ) : Type 0 where
@@ -102,7 +102,7 @@ TermsBy x s p most (Several.Refused k) = x ≡ refused k
 
 pub record TermsPost (most : ℕ) (l : Bytes) (s : List ℕ) (p : ParseState) (s′ : List ℕ) (r : Several) : Type 0 where
   pub is : TermsBy (E.terms (readPart (p .levels)) most l (p .left)) s′ p most r
-  pub kept : Kept (p .node) s s′
+  pub kept : NodesKept (p .node) s s′
 
 -- ---- a qualifier or the head at the front
 abbrev pub headOf : TermFront → Item
@@ -116,7 +116,7 @@ ItemBy x l s p (Item.Refused k) = x ≡ refused k
 
 pub record QualifierPost (l : Bytes) (s : List ℕ) (p : ParseState) (s′ : List ℕ) (r : Item) : Type 0 where
   pub is : ItemBy (readPart (p .levels) true l (p .left)) l s′ p r
-  pub kept : Kept (p .node) s s′
+  pub kept : NodesKept (p .node) s s′
 
 -- ---- qualifiers and a head to the end of the bytes, for any monoid and any rounds that suffice
 abbrev pub rounds : ParseState → Bytes → (Monoid → E.Read Question) → Type 0
@@ -137,7 +137,7 @@ PartsBy l s p (Filled.Refused k) = rounds p l (λ m. refused k)
 
 pub record PartsPost (l : Bytes) (s : List ℕ) (p : ParseState) (s′ : List ℕ) (r : Filled) : Type 0 where
   pub is : PartsBy l s′ p r
-  pub kept : Kept (p .node) s s′
+  pub kept : NodesKept (p .node) s s′
 
 -- ---- the content of kind 14
 pub record ComprehensionFound (x : E.Read Question) (s : List ℕ) (p : ParseState) (left e : ℕ) : Type 0 where
@@ -153,10 +153,10 @@ ComprehensionBy x s p (Filled.Refused k) = x ≡ refused k
 
 pub record ComprehensionPost (c : Bytes) (s : List ℕ) (p : ParseState) (s′ : List ℕ) (r : Filled) : Type 0 where
   pub is : ComprehensionBy (comprehends (readPart (p .levels)) c (p .left)) s′ p r
-  pub kept : Kept (p .node) s s′
+  pub kept : NodesKept (p .node) s s′
 
 -- ---- the question: its tree is what the words hold, and every node lies as `Laid` says, its depth included
-pub record Held (x : Result Question) (s : List ℕ) (n : ℕ) : Type 0 where
+pub record QuestionLaid (x : Result Question) (s : List ℕ) (n : ℕ) : Type 0 where
   pub question : Question
   pub is : x ≡ got question
   pub some : 1 ≤ n
@@ -166,10 +166,10 @@ pub record Held (x : Result Question) (s : List ℕ) (n : ℕ) : Type 0 where
   pub count : n ≡ nodes (asTerm question)
 
 abbrev pub QuestionBy : Result Question → List ℕ → Read → Type 0
-QuestionBy x s (Answer.Question n) = Held x s n
+QuestionBy x s (Answer.Question n) = QuestionLaid x s n
 QuestionBy x s (Answer.Refused k) = x ≡ refused k
 
 -- only the words of the 256 nodes may differ
 pub record ReadQuestionPost (l : Bytes) (s s′ : List ℕ) (r : Read) : Type 0 where
   pub is : QuestionBy (readQuestion l) s′ r
-  pub kept : Kept 0 s s′
+  pub kept : NodesKept 0 s s′

@@ -18,14 +18,14 @@ pub record TwoPost (l : Bytes) (i r : ℕ) : Type 0 where
   pub is : r ≡ two l i
   pub small : r < 65536
 
-pub record Whole (l : Bytes) (k e : ℕ) : Type 0 where
+pub record RecordFront (l : Bytes) (k e : ℕ) : Type 0 where
   pub whole : isWhole l ≡ true
   pub kind : k ≡ kindOf l
   pub end : e ≡ 4 + lengthOf l
   pub within : e ≤ length l
 
 abbrev pub HeadedBy : Bytes → RecordHeader → Type 0
-HeadedBy l (RecordHeader.Record k e) = Whole l k e
+HeadedBy l (RecordHeader.Record k e) = RecordFront l k e
 HeadedBy l RecordHeader.Short = isWhole l ≡ false
 
 pub record ReadHeaderPost (l : Bytes) (r : RecordHeader) : Type 0 where
@@ -33,7 +33,7 @@ pub record ReadHeaderPost (l : Bytes) (r : RecordHeader) : Type 0 where
 
 -- the record at the front begins, and its content's reader stands at b: one level further down, one record fewer left
 pub record Began (l : Bytes) (p : ParseState) (k e : ℕ) (b : ParseState) : Type 0 where
-  pub header : Whole l k e
+  pub header : RecordFront l k e
   pub levels : p .levels ≡ suc (b .levels)
   pub left : p .left ≡ suc (b .left)
   pub node : b .node ≡ p .node

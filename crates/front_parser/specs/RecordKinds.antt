@@ -75,15 +75,15 @@ pub record Fixed (skip : ℕ) (c : Bytes) (r : ArgumentRead) : Type 0 where
   pub is : FixedBy skip c r
 
 -- a term without terms inside, and its node's argument
-pub data Leaf : Kind → ℕ → Term → Type 0 where
-  a-number : (a : ℕ) → Leaf number a (num (constantOf a))
-  a-truth : (b : Bool) → Leaf truthK (pick b 1 0) (truth b)
-  a-name : (a : ℕ) → Leaf nameK a (name a)
-  a-table : (a : ℕ) → Leaf tableK a (table a)
+pub data LeafRecord : Kind → ℕ → Term → Type 0 where
+  a-number : (a : ℕ) → LeafRecord number a (num (constantOf a))
+  a-truth : (b : Bool) → LeafRecord truthK (pick b 1 0) (truth b)
+  a-name : (a : ℕ) → LeafRecord nameK a (name a)
+  a-table : (a : ℕ) → LeafRecord tableK a (table a)
 
 pub record ValueIs (K : Kind) (c : Bytes) (a : ℕ) : Type 0 where
   pub tree : Term
-  pub leaf : Leaf K a tree
+  pub leaf : LeafRecord K a tree
   pub is : (R : Reader) (q : Bool) (n : ℕ) → content R q K c n ≡ yields (term tree) [] n
   pub small : a < 8589934592
 

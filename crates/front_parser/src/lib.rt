@@ -7,7 +7,7 @@ ghost use mathlib.Core.Path.{_≡_};
 ghost use Prim.Native.Nat.{_+_, _≤_, _<_};
 ghost use lib.ListN.{length};
 ghost use Rattle.base_scratch.specs.Map.{scratchSize};
-ghost use Rattle.front_parser.specs.ReaderScratch.{Room};
+ghost use Rattle.front_parser.specs.ReaderScratch.{NodeRoom};
 ghost use Rattle.front_parser.specs.ReaderContracts.{behindOf, TermPost, TermsPost, CompoundPost, ContentRead, headOf, QualifierPost, PartsPost, ComprehensionPost, ReadQuestionPost};
 use base_refusals::BROKEN_RECORD;
 use base_refusals::QUESTION_TOO_LONG;
@@ -96,7 +96,7 @@ fn behind(p: ParseState, left: usize, node: usize) -> ParseState
 
 // The record at the front, where a term must stand.
 fn term(l: &[u8], s: &mut [u64], p: ParseState) -> TermFront
-    requires { ⌜ Room 0 (now s) p ⌝ }
+    requires { ⌜ NodeRoom 0 (now s) p ⌝ }
     ensures { λ r. ⌜ TermPost (now (l .entry)) (now (s .entry)) p (now (s .exit)) r ⌝ }
 {
     match begin(l, p) {
@@ -110,7 +110,7 @@ fn term(l: &[u8], s: &mut [u64], p: ParseState) -> TermFront
 
 // A term's content, by its kind.
 fn content(k: u64, c: &[u8], s: &mut [u64], p: ParseState) -> Filled
-    requires { ⌜ Room 1 (now s) p ⌝ }
+    requires { ⌜ NodeRoom 1 (now s) p ⌝ }
     ensures { λ r. ⌜ ContentRead k (now (c .entry)) (now (s .entry)) p (now (s .exit)) r ⌝ }
 {
     match shape_of(k) {
@@ -123,7 +123,7 @@ fn content(k: u64, c: &[u8], s: &mut [u64], p: ParseState) -> Filled
 
 // Content that is terms, behind a field's index, a calendar's number or a name: kinds 4 to 13, document 02's and the qualifiers.
 fn compound(k: u64, h: Arity, c: &[u8], s: &mut [u64], p: ParseState) -> Filled
-    requires { ⌜ (k < 32) × Room 1 (now s) p ⌝ }
+    requires { ⌜ (k < 32) × NodeRoom 1 (now s) p ⌝ }
     ensures { λ r. ⌜ CompoundPost k h (now (c .entry)) (now (s .entry)) p (now (s .exit)) r ⌝ }
 {
     let skip = h.skip;
@@ -146,7 +146,7 @@ fn compound(k: u64, h: Arity, c: &[u8], s: &mut [u64], p: ParseState) -> Filled
 
 // Terms one behind the other, at most so many, up to the end of the bytes. A loop: a call for each would need stack for each.
 fn terms(l: &[u8], s: &mut [u64], p: ParseState, most: usize) -> Several
-    requires { ⌜ Room 0 (now s) p ⌝ }
+    requires { ⌜ NodeRoom 0 (now s) p ⌝ }
     ensures { λ r. ⌜ TermsPost most (now (l .entry)) (now (s .entry)) p (now (s .exit)) r ⌝ }
 {
     let mut at: usize = 0;
@@ -172,7 +172,7 @@ fn terms(l: &[u8], s: &mut [u64], p: ParseState, most: usize) -> Several
 
 // The content of kind 14: a monoid, qualifiers, a head.
 fn comprehension(c: &[u8], s: &mut [u64], p: ParseState) -> Filled
-    requires { ⌜ Room 1 (now s) p ⌝ }
+    requires { ⌜ NodeRoom 1 (now s) p ⌝ }
     ensures { λ r. ⌜ ComprehensionPost (now (c .entry)) (now (s .entry)) p (now (s .exit)) r ⌝ }
 {
     if c.len() == 0 {
@@ -199,7 +199,7 @@ fn comprehension(c: &[u8], s: &mut [u64], p: ParseState) -> Filled
 
 // "Any count of qualifiers, then one head term", which fills the rest. A loop, as in `terms`.
 fn parts(l: &[u8], s: &mut [u64], p: ParseState) -> Filled
-    requires { ⌜ Room 0 (now s) p ⌝ }
+    requires { ⌜ NodeRoom 0 (now s) p ⌝ }
     ensures { λ r. ⌜ PartsPost (now (l .entry)) (now (s .entry)) p (now (s .exit)) r ⌝ }
 {
     let mut at: usize = 0;
@@ -225,7 +225,7 @@ fn parts(l: &[u8], s: &mut [u64], p: ParseState) -> Filled
 
 // The record at the front, where a qualifier may stand; what is no qualifier is the head.
 fn qualifier(l: &[u8], s: &mut [u64], p: ParseState) -> Item
-    requires { ⌜ Room 0 (now s) p ⌝ }
+    requires { ⌜ NodeRoom 0 (now s) p ⌝ }
     ensures { λ r. ⌜ QualifierPost (now (l .entry)) (now (s .entry)) p (now (s .exit)) r ⌝ }
 {
     match begin(l, p) {

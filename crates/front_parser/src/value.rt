@@ -2,7 +2,7 @@
 ghost use Prim.Native.Nat.{_+_, _<_};
 ghost use lib.ListN.{getD};
 ghost use Rattle.spec_encoding.specs.Reader.{kinds, unknown, number, truthK, nameK, tableK};
-ghost use Rattle.front_parser.specs.ReaderScratch.{Room, FinishPre, FinishPost};
+ghost use Rattle.front_parser.specs.ReaderScratch.{NodeRoom, FinishPre, FinishPost};
 ghost use Rattle.front_parser.specs.RecordKinds.{ShapeOfPost, LookAheadPost, Valued, LeafKind, Fixed};
 ghost use Rattle.front_parser.specs.ReaderContracts.{ContentRead};
 use super::bytes::byte;
@@ -236,7 +236,7 @@ pub fn finish(s: &mut [u64], k: u64, a: u64, p: ParseState, left: usize, i: usiz
 }
 
 pub fn leaf(k: u64, c: &[u8], s: &mut [u64], p: ParseState) -> Filled
-    requires { ⌜ LeafKind k × Room 1 (now s) p ⌝ }
+    requires { ⌜ LeafKind k × NodeRoom 1 (now s) p ⌝ }
     ensures { λ r. ⌜ ContentRead k (now (c .entry)) (now (s .entry)) p (now (s .exit)) r ⌝ }
 {
     match argument(k, c) {

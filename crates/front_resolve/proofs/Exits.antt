@@ -39,10 +39,10 @@ use Rattle.front_resolve.specs.declared.Form.the-variants.{Number, Truth
 use Rattle.front_resolve.specs.declared.Head.{Head}
 use Rattle.front_resolve.specs.declared.Next.{Next}
 use Rattle.front_resolve.specs.declared.Next.the-variants as Ne
-use Rattle.front_resolve.specs.Place.{Place, under, odd, bit, envOf, offsets, semN, formSem, FormAt, Fine, From, Heads, FollowPost, SplicePost, Projected, Steps, Stepped, formFor}
+use Rattle.front_resolve.specs.Resolved.{Resolved, under, odd, bit, envOf, offsets, semN, formSem, FormAt, Fine, From, Heads, FollowPost, SplicePost, Projected, Steps, Stepped, formFor}
 use Rattle.base_syntax.specs.Numbers.{binOf}
 
-abbrev pub place : Form → ℕ → ℕ → List ℕ → Place
+abbrev pub place : Form → ℕ → ℕ → List ℕ → Resolved
 place f i d l = record { form = f; node = i; depth = d; env = l }
 
 -- what a node comes to, its decoded form known
@@ -132,7 +132,7 @@ module _ {s : List ℕ} {i D : ℕ} {l : List ℕ} where
           from = stays Bad l z tt;
         }
 
-    pub h-name : {r : Place} → d < D → FollowPost s x d l r → Heads s i D l r
+    pub h-name : {r : Resolved} → d < D → FollowPost s x d l r → Heads s i D l r
     h-name k F =
         let x-before = looked-inside H in
         record {
@@ -145,7 +145,7 @@ module _ {s : List ℕ} {i D : ℕ} {l : List ℕ} where
               };
         }
 
-  pub h-field : {k c : ℕ} {h r : Place} → LookPost s i (Nd.Field k c) → Heads s c D l h → Projected s k h r → Heads s i D l r
+  pub h-field : {k c : ℕ} {h r : Resolved} → LookPost s i (Nd.Field k c) → Heads s c D l h → Projected s k h r → Heads s i D l r
   h-field {k} {c} H R P =
       let c-before = looked-inside H in
       let b = R .from .below in
@@ -191,7 +191,7 @@ module _ {s : List ℕ} {x d : ℕ} {l : List ℕ} where
         from = record { below = omega arith; level = λ n L p e. e ∙ sym (one-more d); fine = record { form = tt; long = z } };
       }
 
-  pub f-bind : {c : ℕ} {r : Place} → BoundByPost s x (Bi.Bind c) → Heads s c (d + 1) l r → FollowPost s x d l r
+  pub f-bind : {c : ℕ} {r : Resolved} → BoundByPost s x (Bi.Bind c) → Heads s c (d + 1) l r → FollowPost s x d l r
   f-bind {c} B R =
       let q = B .is .0 in
       let c-before = B .is .1 in
@@ -205,7 +205,7 @@ module _ {s : List ℕ} {x d : ℕ} {l : List ℕ} where
             };
       }
 
-  pub f-gen : {c w m : ℕ} {h r : Place} → BoundByPost s x (Bi.Gen c) → Heads s c (d + 1) l h → w ≡ getD l d 0 → m ≡ offsets s x (odd w) (w / 2) → SplicePost s h (odd w) m r → FollowPost s x d l r
+  pub f-gen : {c w m : ℕ} {h r : Resolved} → BoundByPost s x (Bi.Gen c) → Heads s c (d + 1) l h → w ≡ getD l d 0 → m ≡ offsets s x (odd w) (w / 2) → SplicePost s h (odd w) m r → FollowPost s x d l r
   unfolding envOf
   f-gen {c} {w} {m} {h} B R e o S =
       let q = B .is .0 in
@@ -250,21 +250,21 @@ env-set l D n v k = fun-ext λ d. go d (eqb D d) refl
     go d false p = rw (p, upd) (ap entry (getD-set-other l D d (2 * n + bit v) 0 (λ e. eqb-false D d p (sym e))))
 
 -- ---- steps
-pub stepped-by : {s : List ℕ} {i j : ℕ} {l : List ℕ} {P Q : Place → Type 0} {r : Next} → j ≤ i → ((q : Place) → P q → Q q) → Stepped s j l P r → Stepped s i l Q r
+pub stepped-by : {s : List ℕ} {i j : ℕ} {l : List ℕ} {P Q : Resolved → Type 0} {r : Next} → j ≤ i → ((q : Resolved) → P q → Q q) → Stepped s j l P r → Stepped s i l Q r
 stepped-by {s} {i} {j} {l} {P} {Q} {r} h f S = record { is = go r (S .is); long = S .long }
   where
     go : (x : Next) → Steps s j l P x → Steps s i l Q x
     go (Ne.On k D) a = (omega (arith, h, a .0), λ q H. f q (a .1 q H))
     go (Ne.At k) a = f (under l k) a
 
-pub step-cast : {s : List ℕ} {j : ℕ} {l : List ℕ} {P : Place → Type 0} {r r′ : Next} → Stepped s j l P r → r ≡ r′ → Stepped s j l P r′
+pub step-cast : {s : List ℕ} {j : ℕ} {l : List ℕ} {P : Resolved → Type 0} {r r′ : Next} → Stepped s j l P r → r ≡ r′ → Stepped s j l P r′
 step-cast {s} {j} {l} {P} S e = subst (Stepped s j l P) e S
 
 -- node i comes to what node j at depth d in the environment e comes to
 pub record Leads (s : List ℕ) (i D : ℕ) (l : List ℕ) (j d : ℕ) (e : List ℕ) : Type 0 where
   pub below : j ≤ i
   pub long : length e ≡ levels
-  pub on : (r : Place) → Heads s j d e r → Heads s i D l r
+  pub on : (r : Resolved) → Heads s j d e r → Heads s i D l r
 
 module _ {s : List ℕ} {i D : ℕ} {l : List ℕ} {j d : ℕ} {e : List ℕ} (L : Leads s i D l j d e) {m : List ℕ} where
   pub leads-on : {k b : ℕ} → Stepped s j m (Heads s j d e) (Ne.On k b) → Leads s i D l k b m
@@ -331,17 +331,17 @@ module _ (K : ℕ → Collection) (s : List ℕ) (i D : ℕ) (e : Env) where
   no-field Bad h k = refl
 
 -- a form at the place h
-abbrev at : (ℕ → Collection) → List ℕ → Place → Form → Sem
+abbrev at : (ℕ → Collection) → List ℕ → Resolved → Form → Sem
 at K s h f = formSem K s (h .node) (h .depth) (envOf (h .env)) f
 
-fine-at : {s : List ℕ} {h : Place} {f : Form} → Fine s h → h .form ≡ f → FormAt s (h .node) (h .depth) f
+fine-at : {s : List ℕ} {h : Resolved} {f : Form} → Fine s h → h .form ≡ f → FormAt s (h .node) (h .depth) f
 fine-at {s} {h} F e = subst (FormAt s (h .node) (h .depth)) e (F .form)
 
 -- where a comprehension's head stands, and how deep it may be
-pub comp-inside : {s : List ℕ} {h : Place} {m : Monoid} {k : ℕ} → Fine s h → h .form ≡ Comp m k → (k < h .node) × (h .depth < levels)
+pub comp-inside : {s : List ℕ} {h : Resolved} {m : Monoid} {k : ℕ} → Fine s h → h .form ≡ Comp m k → (k < h .node) × (h .depth < levels)
 comp-inside {s} {h} F e = let w = fine-at F e in (subst (Inside (h .node)) (w .0) (post-order s (h .node)) .1, w .1)
 
-module _ {s : List ℕ} {h : Place} {v : Bool} {n : ℕ} where
+module _ {s : List ℕ} {h : Resolved} {v : Bool} {n : ℕ} where
   pub s-junk : Fine s h → OneOf unranged (tagOf form.the-type (h .form)) → SplicePost s h v n (place Bad (h .node) (h .depth) (h .env))
   s-junk F w = record { is = λ K. no-range K s (h .node) (h .depth) (envOf (h .env)) (h .form) w v n; from = stays Bad (h .env) (F .long) tt }
 
@@ -349,7 +349,7 @@ module _ {s : List ℕ} {h : Place} {v : Bool} {n : ℕ} where
   unfolding ranges
   s-table e F q = record { is = λ K. ap (λ x. ranges (at K s h x) v n .head) (sym e); from = stays (Row n) (h .env) (F .long) q }
 
-  pub s-comp : {m : Monoid} {k : ℕ} {b : Bool} {l : List ℕ} {r : Place} → h .form ≡ Comp m k → Fine s h → b ≡ v || idempotent (monoidOf m) → l ≡ set (h .env) (h .depth) (2 * n + bit b)
+  pub s-comp : {m : Monoid} {k : ℕ} {b : Bool} {l : List ℕ} {r : Resolved} → h .form ≡ Comp m k → Fine s h → b ≡ v || idempotent (monoidOf m) → l ≡ set (h .env) (h .depth) (2 * n + bit b)
       → Heads s k (h .depth + 1) l r → SplicePost s h v n r
   unfolding ranges
   s-comp {m} {k} {b} {l} e F u p R =
@@ -368,7 +368,7 @@ module _ {s : List ℕ} {h : Place} {v : Bool} {n : ℕ} where
       }
 
 -- the environment keeps its length
-pub entered : {s : List ℕ} {h : Place} (d n : ℕ) {l : List ℕ} → Fine s h → l ≡ set (h .env) d n → length l ≡ levels
+pub entered : {s : List ℕ} {h : Resolved} (d n : ℕ) {l : List ℕ} → Fine s h → l ≡ set (h .env) d n → length l ≡ levels
 entered {h = h} d n F e = ap (λ (l : List ℕ). length l) e ∙ length-set (h .env) d n ∙ F .long
 
 -- ---- project
@@ -392,7 +392,7 @@ nth-depth dep D k [] a = tt
 nth-depth dep D zero (c ∷ cs) a = a .0
 nth-depth dep D (suc k) (c ∷ cs) a = nth-depth dep D k cs (a .1)
 
-module _ {s : List ℕ} {k : ℕ} {h : Place} where
+module _ {s : List ℕ} {k : ℕ} {h : Resolved} where
   pub p-junk : Fine s h → OneOf fieldless (tagOf form.the-type (h .form)) → Projected s k h (place Bad (h .node) (h .depth) (h .env))
   p-junk F w = record { is = λ K. no-field K s (h .node) (h .depth) (envOf (h .env)) (h .form) w k; from = stays Bad (h .env) (F .long) tt }
 
@@ -408,7 +408,7 @@ module _ {s : List ℕ} {k : ℕ} {h : Place} where
         from = stays Bad (h .env) (F .long) tt;
       }
 
-  pub p-part : {c : ℕ} {r : Place} → h .form ≡ Record → Fine s h → ChildPost s (h .node) k (Fd.At c) → Heads s c (h .depth) (h .env) r → Projected s k h r
+  pub p-part : {c : ℕ} {r : Resolved} → h .form ≡ Record → Fine s h → ChildPost s (h .node) k (Fd.At c) → Heads s c (h .depth) (h .env) r → Projected s k h r
   unfolding part found-sem found-depth
   p-part {c} e F P R =
       let c-before = P .before in

@@ -7,10 +7,10 @@ ghost use Rattle.spec_normal_form.specs.Normal.{idempotent};
 ghost use Rattle.front_theory.specs.NodeForms.{levels};
 ghost use Rattle.front_theory.specs.CappedOffsets.{limit};
 ghost use Rattle.base_syntax.specs.MonoidWord.{monoidOf};
-ghost use Rattle.front_resolve.specs.Place.{under, odd, bit, offsets, Fine, FormAt, Heads, FollowPost, SplicePost, Stepped, ProjectPost, formFor};
+ghost use Rattle.front_resolve.specs.Resolved.{under, odd, bit, offsets, Fine, FormAt, Heads, FollowPost, SplicePost, Stepped, ProjectPost, formFor};
+use base_syntax::BinOp;
 use base_syntax::Fun;
 use base_syntax::Monoid;
-use base_syntax::Op;
 use front_nodes::Binder;
 use front_nodes::Found;
 use front_nodes::QueryNode;
@@ -26,7 +26,7 @@ pub enum Form {
     Row(u64),
     Cell(usize, u64),
     Record,
-    Two(Op, usize, usize),
+    Two(BinOp, usize, usize),
     Not(usize),
     Comp(Monoid, usize),
     Table(usize),

@@ -12,7 +12,7 @@ use borrow.Author.Tests.{lt-ltb, le-ltb, ltb-true, ltb-false, eqb-true, eqb-fals
 use Rattle.spec_calculus.specs.Lists.{pick}
 use Rattle.spec_encoding.specs.Reader.{Kind, kinds, unknown, number, truthK, nameK, fieldK, record′, not, tableK, comprehension, generator, binding, condition, choiceK, openK, two-terms}
 use Rattle.base_scratch.specs.Map.{nodesAt, bindersAt, shapesAt}
-use Rattle.front_words.specs.NodeWord.{kindOf, argOf, nodeWord}
+use Rattle.front_words.specs.NodeWord.{nodeKindOf, argOf, nodeWord}
 use Rattle.front_words.specs.NodeTree.{kindAt, argAt}
 use Rattle.front_scope.specs.Binders.{bindsName, cleared, noted, notedUpTo, bindersOf}
 use Rattle.front_scope.proofs.KindNumbers.{code, two-code, code-of, kind-outside}
@@ -52,7 +52,7 @@ binds-so condition h l = absurd (omega arith)
 binds-so unknown h l = absurd (omega arith)
 binds-so (two-terms o) h l = let t = two-code o in absurd (omega arith)
 
-module _ (s : List ℕ) (i : ℕ) {k x : ℕ} (ek : k ≡ kindOf (nodeWord s i)) (ex : x ≡ argAt s i) where
+module _ (s : List ℕ) (i : ℕ) {k x : ℕ} (ek : k ≡ nodeKindOf (nodeWord s i)) (ex : x ≡ argAt s i) where
   pub noted-not : (16 ≤ k → k ≤ 17 → ⊥) → s ≡ noted s i
   unfolding noted pick
   noted-not h = rw (binds-not (kindAt s i) (kind-outside s i ek 16 17 (omega arith) h))
@@ -64,7 +64,7 @@ module _ (s : List ℕ) (i : ℕ) {k x : ℕ} (ek : k ≡ kindOf (nodeWord s i))
   pub noted-here : 16 ≤ k → k ≤ 17 → x < 256 → {t : List ℕ} → t ≡ set s (bindersAt + x) (i + 1) → t ≡ noted s i
   unfolding noted pick
   noted-here a b h e =
-      let z = code-of (kindOf (nodeWord s i)) (omega arith) in
+      let z = code-of (nodeKindOf (nodeWord s i)) (omega arith) in
       rw (binds-so (kindAt s i) (omega arith) (omega arith), lt-ltb (argAt s i) 256 (omega arith), ← ex) e
 
 -- ---- one turn of a loop
@@ -172,4 +172,4 @@ module _ (x : ℕ) (small : x < 256) where
   binder-word s long (suc n) h =
       let kept = nodes-kept s n n (omega arith) in
       noted-word (bindersOf s n) (omega (arith, noted-up-length (cleared s 256) n, cleared-length s 256)) n ∙
-      ap₂ (λ b w. pick b (n + 1) w) (ap (λ w. bindsName (getD kinds (kindOf w) unknown) && eqb (argOf w) x) kept) (binder-word s long n (omega arith))
+      ap₂ (λ b w. pick b (n + 1) w) (ap (λ w. bindsName (getD kinds (nodeKindOf w) unknown) && eqb (argOf w) x) kept) (binder-word s long n (omega arith))

@@ -6,10 +6,10 @@ use native.Mathlib.Omega.{arith}
 use lib.ListN.{length, getD}
 use Rattle.spec_calculus.specs.Syntax.{Bin, plus, minus, times, equal, less, and, or}
 use Rattle.spec_encoding.specs.Reader.{Kind, kinds, unknown, number, truthK, nameK, fieldK, record′, not, tableK, comprehension, generator, binding, condition, choiceK, openK, two-terms}
-use Rattle.front_words.specs.NodeWord.{kindOf, nodeWord}
+use Rattle.front_words.specs.NodeWord.{nodeKindOf, nodeWord}
 use Rattle.front_words.specs.NodeTree.{kindAt}
 
-pub kind-is : (s : List ℕ) (i : ℕ) {k : ℕ} (m : ℕ) → k ≡ kindOf (nodeWord s i) → k ≡ m → kindAt s i ≡ getD kinds m unknown
+pub kind-is : (s : List ℕ) (i : ℕ) {k : ℕ} (m : ℕ) → k ≡ nodeKindOf (nodeWord s i) → k ≡ m → kindAt s i ≡ getD kinds m unknown
 kind-is s i m e h = ap (λ x. getD kinds x unknown) (sym e ∙ h)
 
 -- a kind of two terms
@@ -78,14 +78,14 @@ code-is m k l =
     same : {A : Type 0} → A → A
     same a = a
 
-module _ (s : List ℕ) (i : ℕ) {k : ℕ} (e : k ≡ kindOf (nodeWord s i)) where
+module _ (s : List ℕ) (i : ℕ) {k : ℕ} (e : k ≡ nodeKindOf (nodeWord s i)) where
   -- another kind than that of code m
   pub kind-not : (m : ℕ) → 1 ≤ m → (k ≡ m → ⊥) → code (kindAt s i) ≡ m → ⊥
-  kind-not m l h p = h (e ∙ code-is m (kindOf (nodeWord s i)) l p)
+  kind-not m l h p = h (e ∙ code-is m (nodeKindOf (nodeWord s i)) l p)
 
   -- a kind outside a range of codes
   pub kind-outside : (a b : ℕ) → 1 ≤ a → (a ≤ k → k ≤ b → ⊥) → a ≤ code (kindAt s i) → code (kindAt s i) ≤ b → ⊥
-  kind-outside a b l h p q = let z = code-is (code (kindAt s i)) (kindOf (nodeWord s i)) (omega arith) refl in h (omega arith) (omega arith)
+  kind-outside a b l h p q = let z = code-is (code (kindAt s i)) (nodeKindOf (nodeWord s i)) (omega arith) refl in h (omega arith) (omega arith)
 
   pub two-kind-at : (k ≡ 3 → ⊥) → (k ≡ 4 → ⊥) → (k ≡ 5 → ⊥) → 3 ≤ k → k < 13 → (o : Bin) × (kindAt s i ≡ two-terms o)
   two-kind-at a b c l h = let t = two-kind k (omega arith) (omega arith) in (t .0, kind-is s i k e refl ∙ t .1)

@@ -14,9 +14,9 @@ use Rattle.spec_calculus.specs.Syntax.{choice, isOpen, Term, Terms, Quals, num,
 use Rattle.spec_calculus.proofs.Lists.{All, all-append}
 use Rattle.spec_checks.specs.Scope.{inScope, binders, bindersL, bindersQ, member, distinct, namesHold}
 use Rattle.spec_encoding.specs.Reader.{Kind, kinds, unknown}
-use Rattle.front_words.specs.LaidTree.{nodes, nodesL, nodesQ, Node, Laid, LaidL, LaidQ}
+use Rattle.front_words.specs.LaidTree.{nodes, nodesL, nodesQ, LaidNode, Laid, LaidL, LaidQ}
 use Rattle.base_scratch.specs.Map.{bindersAt, shapesAt}
-use Rattle.front_words.specs.NodeWord.{kindOf, argOf}
+use Rattle.front_words.specs.NodeWord.{nodeKindOf, argOf}
 use Rattle.front_words.specs.NodeTree.{kindAt, argAt}
 use Rattle.front_scope.specs.Binders.{bindsName, boundBy, bindersOf}
 use Rattle.front_scope.specs.ScopePass.{Small, SmallL, SmallQ}
@@ -35,11 +35,11 @@ bound-split s a m (suc k) =
     (ap₂ (λ l i. l ++ boundBy s i) (bound-split s a m k) (sym (add-assoc a m k)) ∙ append-assoc (boundIn s a m) (boundIn s (a + m) k) (boundBy s (a + m + k)))
 
 -- a node that binds no name, and one that binds x
-none-here : {s : List ℕ} {d a i : ℕ} {K : Kind} → Node s d a i K → bindsName K ≡ false → boundBy s i ≡ []
+none-here : {s : List ℕ} {d a i : ℕ} {K : Kind} → LaidNode s d a i K → bindsName K ≡ false → boundBy s i ≡ []
 unfolding guard
 none-here {s} {i = i} N h = ap (λ b. guard b (argAt s i ∷ [])) (ap bindsName (N .kind) ∙ h)
 
-one-here : {s : List ℕ} {d a i x : ℕ} {K : Kind} → Node s d a i K → bindsName K ≡ true → argAt s i ≡ x → boundBy s i ≡ x ∷ []
+one-here : {s : List ℕ} {d a i x : ℕ} {K : Kind} → LaidNode s d a i K → bindsName K ≡ true → argAt s i ≡ x → boundBy s i ≡ x ∷ []
 unfolding guard
 one-here {s} {i = i} N h e = ap₂ (λ b y. guard b (y ∷ [])) (ap bindsName (N .kind) ∙ h) e
 
@@ -48,14 +48,14 @@ unfolding boundIn
 bound-next s a n = ap (boundIn s a) (add-one n)
 
 -- a leaf, and the node over a part whose names are l
-leaf-bound : {s : List ℕ} {d a : ℕ} {K : Kind} → Node s d a a K → bindsName K ≡ false → boundIn s a 1 ≡ []
+leaf-bound : {s : List ℕ} {d a : ℕ} {K : Kind} → LaidNode s d a a K → bindsName K ≡ false → boundIn s a 1 ≡ []
 unfolding boundIn
 leaf-bound {s} {a = a} N h = ap (boundBy s) (add-zero a) ∙ none-here N h
 
-moved : {s : List ℕ} {d a i j : ℕ} {K : Kind} → i ≡ j → Node s d a i K → Node s d a j K
-moved {s} {d} {a} {K = K} e N = subst (λ x. Node s d a x K) e N
+moved : {s : List ℕ} {d a i j : ℕ} {K : Kind} → i ≡ j → LaidNode s d a i K → LaidNode s d a j K
+moved {s} {d} {a} {K = K} e N = subst (λ x. LaidNode s d a x K) e N
 
-over : {s l : List ℕ} {d a : ℕ} {K : Kind} (n : ℕ) → boundIn s a n ≡ l → Node s d a (a + n) K → bindsName K ≡ false → boundIn s a (n + 1) ≡ l
+over : {s l : List ℕ} {d a : ℕ} {K : Kind} (n : ℕ) → boundIn s a n ≡ l → LaidNode s d a (a + n) K → bindsName K ≡ false → boundIn s a (n + 1) ≡ l
 over {s} {l} {a = a} n e N h = bound-next s a n ∙ ap₂ (λ m b. m ++ b) e (none-here N h) ∙ append-nil l
 
 -- two parts, one behind the other
@@ -63,7 +63,7 @@ both : (s : List ℕ) (a m k : ℕ) {l r : List ℕ} → boundIn s a m ≡ l →
 both s a m k p q = bound-split s a m k ∙ ap₂ (λ l r. l ++ r) p q
 
 -- a term of nodes n, then the node that binds x, then others
-binder-then : (s : List ℕ) (d a n k x : ℕ) {K : Kind} {l r : List ℕ} → boundIn s a n ≡ l → Node s d a (a + n) K → bindsName K ≡ true → argAt s (a + n) ≡ x →
+binder-then : (s : List ℕ) (d a n k x : ℕ) {K : Kind} {l r : List ℕ} → boundIn s a n ≡ l → LaidNode s d a (a + n) K → bindsName K ≡ true → argAt s (a + n) ≡ x →
     boundIn s (a + n + 1) k ≡ r → boundIn s a (n + 1 + k) ≡ l ++ x ∷ r
 binder-then s d a n k x {l = l} {r} p N h e q =
     both s a (n + 1) k (bound-next s a n ∙ ap₂ (λ m b. m ++ b) p (one-here N h e)) (ap (λ i. boundIn s i k) (sym (add-assoc a n 1)) ∙ q) ∙
@@ -235,7 +235,7 @@ pub binders-right : {s : List ℕ} {d n : ℕ} (q : Question) → Laid s d 0 (as
 binders-right {s} {d} {n} q L e h long N small i l b =
     let w = nodes-kept s n i (omega arith) in
     let a = ap argOf w in
-    let k : bindsName (kindAt s i) ≡ true = ap (λ v. bindsName (getD kinds (kindOf v) unknown)) (sym w) ∙ b in
+    let k : bindsName (kindAt s i) ≡ true = ap (λ v. bindsName (getD kinds (nodeKindOf v) unknown)) (sym w) ∙ b in
     let W = ap (boundIn s 0) (sym e) ∙ laid-bound (asTerm q) s d 0 L in
     let m : member (argAt s i) (binders (asTerm q)) ≡ true = ap (member (argAt s i)) (sym W) ∙ bound-member s (argAt s i) n i l (k, refl) in
     let c = of-all (λ x. x < 256) (binders (asTerm q)) (argAt s i) (small-binders (asTerm q) small) m in

@@ -4,7 +4,7 @@ ghost use mathlib.Core.Bool.{false, _&&_};
 ghost use Prim.Native.Nat.{_+_, _≤_, _<_, _^_};
 ghost use lib.ListN.{length, getD};
 ghost use Rattle.base_scratch.specs.Map.{names as mostNames};
-ghost use Rattle.front_words.specs.NodeWord.{kindOf, nodeWord};
+ghost use Rattle.front_words.specs.NodeWord.{nodeKindOf, nodeWord};
 ghost use Rattle.front_words.specs.NodeTree.{argAt};
 ghost use Rattle.front_scope.specs.Binders.{cleared, noted, bindersOf};
 ghost use Rattle.front_scope.specs.ScopePass.{names, Full, binds};
@@ -26,7 +26,7 @@ use front_words::put_binder;
 use front_words::start_at;
 
 fn kind_at(s: &[u64], i: usize) -> u64
-    ensures { λ r. ⌜ r ≡ kindOf (nodeWord (now (s .entry)) i) ⌝ }
+    ensures { λ r. ⌜ r ≡ nodeKindOf (nodeWord (now (s .entry)) i) ⌝ }
 {
     front_words::kind(front_words::node_word(s, i))
 }

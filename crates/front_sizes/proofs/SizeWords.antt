@@ -8,7 +8,7 @@ use lib.ListN.{length, getD, set, List·getD-eq-default}
 use lib.Seq.{getD-set-same, getD-set-other, set-out}
 use Rattle.spec_calculus.specs.Lists.{pick}
 use Rattle.front_sizes.specs.declared.FormSize.{FormSize}
-use Rattle.front_sizes.specs.SizeWords.{place, wordAt, pack, Small, pairOf, firstPair, secondPair, thirdPair, termCount, conditionCount, splicedCount, stored}
+use Rattle.front_sizes.specs.SizeWords.{place, wordAt, pack, SmallSize, pairOf, firstPair, secondPair, thirdPair, termCount, conditionCount, splicedCount, stored}
 
 -- ---- unpacking
 count : ℕ → ℕ → FormSize
@@ -18,7 +18,7 @@ pub pair-same : (w : ℕ) (c : FormSize) → w % 1024 ≡ c .size → w / 1024 %
 unfolding count
 pair-same w c p q = ap (λ (x : ℕ). count x (w / 1024 % 1024)) p ∙ ap (count (c .size)) q
 
-module _ (a b c : FormSize) (A : Small a) (B : Small b) (C : Small c) where
+module _ (a b c : FormSize) (A : SmallSize a) (B : SmallSize b) (C : SmallSize c) where
   pub pack-first : firstPair (pack a b c) ≡ a
   pack-first = pair-same (pack a b c) a (omega arith) (omega arith)
 
@@ -60,7 +60,7 @@ unfolding stored pick
 offset-stays s i {v} {w} e p = (ap (λ (x : ℕ). x / 1099511627776 % 1024) p ∙ ap (stored s i) (sym e), omega arith)
 
 -- ---- what is put is read back, and nothing else changes
-module _ (s : List ℕ) (i : ℕ) (a b c : FormSize) (A : Small a) (B : Small b) (C : Small c) where
+module _ (s : List ℕ) (i : ℕ) (a b c : FormSize) (A : SmallSize a) (B : SmallSize b) (C : SmallSize c) where
   module _ (room : place i 0 < length s) where
     first-put : wordAt (set s (place i 0) (pack a b c)) i 0 ≡ pack a b c
     first-put = getD-set-same s (place i 0) (pack a b c) 0 room

@@ -25,7 +25,7 @@ abbrev pub pack : FormSize → FormSize → FormSize → ℕ
 pack a b c = packPair a + 1048576 * (packPair b + 1048576 * packPair c)
 
 -- what a pair takes
-pub record Small (c : FormSize) : Type 0 where
+pub record SmallSize (c : FormSize) : Type 0 where
   pub size : c .size < 1024
   pub gens : c .gens < 1024
 

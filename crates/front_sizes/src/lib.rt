@@ -2,7 +2,7 @@
 ghost use mathlib.Core.Path.{_≡_};
 ghost use Prim.Native.Nat.{_+_, _<_};
 ghost use lib.ListN.{set};
-ghost use Rattle.front_sizes.specs.SizeWords.{place, wordAt, pairOf, pack, Small, termCount, conditionCount, splicedCount, stored};
+ghost use Rattle.front_sizes.specs.SizeWords.{place, wordAt, pairOf, pack, SmallSize, termCount, conditionCount, splicedCount, stored};
 use base_scratch::SIZES;
 use base_scratch::load;
 use base_scratch::store;
@@ -85,7 +85,7 @@ pub fn offset(s: &[u64], i: usize, v: bool) -> u64
 
 // Three pairs as a word.
 fn packed(a: FormSize, b: FormSize, c: FormSize) -> u64
-    requires { ⌜ Small a × Small b × Small c ⌝ }
+    requires { ⌜ SmallSize a × SmallSize b × SmallSize c ⌝ }
     ensures { λ r. ⌜ r ≡ pack a b c ⌝ }
 {
     let low = a.size + COUNTS * a.gens;
@@ -106,7 +106,7 @@ fn put(s: &mut [u64], i: usize, k: usize, w: u64)
 
 // Node i as a term, and as a condition where "some" does not give way and where it does.
 pub fn put_first(s: &mut [u64], i: usize, term: FormSize, stays: FormSize, yields: FormSize)
-    requires { ⌜ Small term × Small stays × Small yields ⌝ }
+    requires { ⌜ SmallSize term × SmallSize stays × SmallSize yields ⌝ }
     ensures { λ r. ⌜ now (s .exit) ≡ set (now (s .entry)) (place i 0) (pack term stays yields) ⌝ }
 {
     put(s, i, 0, packed(term, stays, yields));
@@ -114,7 +114,7 @@ pub fn put_first(s: &mut [u64], i: usize, term: FormSize, stays: FormSize, yield
 
 // Node i spliced, where "some" does not give way and where it does, and its offsets.
 pub fn put_second(s: &mut [u64], i: usize, stays: FormSize, yields: FormSize, offsets: FormSize)
-    requires { ⌜ Small stays × Small yields × Small offsets ⌝ }
+    requires { ⌜ SmallSize stays × SmallSize yields × SmallSize offsets ⌝ }
     ensures { λ r. ⌜ now (s .exit) ≡ set (now (s .entry)) (place i 1) (pack stays yields offsets) ⌝ }
 {
     put(s, i, 1, packed(stays, yields, offsets));

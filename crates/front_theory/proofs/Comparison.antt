@@ -35,11 +35,11 @@ seen ρ more = record { number = ρ; flag = λ b. b; more = more; joined = λ b 
 abbrev pub Close : View → ℕ → ℕ → Type 0
 Close U n j = U .number n ≡ U .number j
 
-abbrev pub Alike : View → Form → Form → Type 0
-Alike U t u = renumber (U .number) t ≡ renumber (U .number) u
+abbrev pub SameForm : View → Form → Form → Type 0
+SameForm U t u = renumber (U .number) t ≡ renumber (U .number) u
 
-abbrev pub AlikeC : View → Clauses → Clauses → Type 0
-AlikeC U w q = renumberC (U .number) w ≡ renumberC (U .number) q
+abbrev pub SameClauses : View → Clauses → Clauses → Type 0
+SameClauses U w q = renumberC (U .number) w ≡ renumberC (U .number) q
 
 -- What is written from numbers not told apart is not told apart. Clauses are compared at the same flag, heads at flags not
 -- told apart: how many generators a head writes does not depend on the flag with which it was spliced.
@@ -48,36 +48,36 @@ unfoldable mutual
   Near U (row g) y = (k : ℕ) × Close U g k × (y ≡ row k)
   Near U (fields ds) y = (es : Sems) × NearL U ds es × (y ≡ fields es)
   Near U (both a b) y = (c : Sem) × (d : Sem) × Near U a c × Near U b d × (y ≡ both c d)
-  Near U (nested m q h) y = (r : Bool → ℕ → Clauses) × (k : Bool → ℕ → Sem) × ((b : Bool) (n j : ℕ) → Close U n j → AlikeC U (q b n) (r b j))
+  Near U (nested m q h) y = (r : Bool → ℕ → Clauses) × (k : Bool → ℕ → Sem) × ((b : Bool) (n j : ℕ) → Close U n j → SameClauses U (q b n) (r b j))
       × ((b c : Bool) (n j : ℕ) → U .flag b ≡ U .flag c → Close U n j → Near U (h b n) (k c j)) × (y ≡ nested m r k)
-  Near U (plain f) y = (g : ℕ → Form) × ((n j : ℕ) → Close U n j → Alike U (f n) (g j)) × (y ≡ plain g)
+  Near U (plain f) y = (g : ℕ → Form) × ((n j : ℕ) → Close U n j → SameForm U (f n) (g j)) × (y ≡ plain g)
 
   pub NearL : View → Sems → Sems → Type 0
   NearL U snil es = es ≡ snil
   NearL U (scons d ds) es = (c : Sem) × (cs : Sems) × Near U d c × NearL U ds cs × (es ≡ scons c cs)
 
 -- forms not told apart have as many generators, nodes and words
-pub alike-counts : (U : View) (t u : Form) → Alike U t u → counts t ≡ counts u
+pub alike-counts : (U : View) (t u : Form) → SameForm U t u → counts t ≡ counts u
 alike-counts U t u e = sym (renumber-counts (U .number) t) ∙ ap counts e ∙ renumber-counts (U .number) u
 
-pub alike-countsC : (U : View) (w q : Clauses) → AlikeC U w q → countsC w ≡ countsC q
+pub alike-countsC : (U : View) (w q : Clauses) → SameClauses U w q → countsC w ≡ countsC q
 alike-countsC U w q e = sym (renumber-countsC (U .number) w) ∙ ap countsC e ∙ renumber-countsC (U .number) q
 
 module _ (U : View) where
   -- the numbers behind them are not told apart
-  after : (n j : ℕ) (t u : Form) → Close U n j → Alike U t u → Close U (n + gens t) (j + gens u)
+  after : (n j : ℕ) (t u : Form) → Close U n j → SameForm U t u → Close U (n + gens t) (j + gens u)
   after n j t u c e = U .more n j (gens t) c ∙ ap (λ (a : Counts). U .number (j + a .generators)) (alike-counts U t u e)
 
-  pub afterC : (n j : ℕ) (w q : Clauses) → Close U n j → AlikeC U w q → Close U (n + gensC w) (j + gensC q)
+  pub afterC : (n j : ℕ) (w q : Clauses) → Close U n j → SameClauses U w q → Close U (n + gensC w) (j + gensC q)
   afterC n j w q c e = U .more n j (gensC w) c ∙ ap (λ (a : Counts). U .number (j + a .generators)) (alike-countsC U w q e)
 
-  pub append-near : (w q w′ q′ : Clauses) → AlikeC U w w′ → AlikeC U q q′ → AlikeC U (w ⊕ q) (w′ ⊕ q′)
+  pub append-near : (w q w′ q′ : Clauses) → SameClauses U w w′ → SameClauses U q q′ → SameClauses U (w ⊕ q) (w′ ⊕ q′)
   append-near w q w′ q′ a b = renumber-append (U .number) w q ∙ ap₂ (λ x y. x ⊕ y) a b ∙ sym (renumber-append (U .number) w′ q′)
 
   mutual
     unfolding Near quote renumber
 
-    pub quote-near : (d y : Sem) → Near U d y → (n j : ℕ) → Close U n j → Alike U (quote d n) (quote y j)
+    pub quote-near : (d y : Sem) → Near U d y → (n j : ℕ) → Close U n j → SameForm U (quote d n) (quote y j)
     quote-near (row g) y s n j c = rw (s .2) (ap Nf.row (s .1))
     quote-near (fields ds) y s n j c = rw (s .2) (ap Nf.rec (quotes-near ds (s .0) (s .1) n j c))
     quote-near (both a b) y s n j c = let p = quote-near a (s .0) (s .2) n j c in
@@ -91,22 +91,22 @@ module _ (U : View) where
     quotes-near (scons d ds) es s n j c = let p = quote-near d (s .0) (s .2) n j c in
         rw (s .4) (ap₂ fcons p (quotes-near ds (s .1) (s .3) (n + gens (quote d n)) (j + gens (quote (s .0) j)) (after n j (quote d n) (quote (s .0) j) c p)))
 
-  one-near : (t u : Form) → Alike U t u → AlikeC U (one t) (one u)
+  one-near : (t u : Form) → SameForm U t u → SameClauses U (one t) (one u)
   unfolding renumber
   one-near t u e = ap (λ x. Nf.cond x done) e
 
   -- the two ways in which a comprehension stands as a condition
   nested-condition : (m : Monoid) (q r : Bool → ℕ → Clauses) (h k : Bool → ℕ → Sem) (b : Bool) (n j : ℕ)
-      → AlikeC U (q b n ⊕ condition (h b n) b (n + gensC (q b n))) (r b j ⊕ condition (k b j) b (j + gensC (r b j)))
-      → AlikeC U (one (quote (nested m q h) n)) (one (quote (nested m r k) j))
-      → AlikeC U (condition (nested m q h) b n) (condition (nested m r k) b j)
+      → SameClauses U (q b n ⊕ condition (h b n) b (n + gensC (q b n))) (r b j ⊕ condition (k b j) b (j + gensC (r b j)))
+      → SameClauses U (one (quote (nested m q h) n)) (one (quote (nested m r k) j))
+      → SameClauses U (condition (nested m q h) b n) (condition (nested m r k) b j)
   nested-condition m q r h k b n j x y = go (givesWay m b) refl
     where
-      go : (v : Bool) → givesWay m b ≡ v → AlikeC U (condition (nested m q h) b n) (condition (nested m r k) b j)
+      go : (v : Bool) → givesWay m b ≡ v → SameClauses U (condition (nested m q h) b n) (condition (nested m r k) b j)
       go true p = ap (renumberC (U .number)) (condition-gives-way m q h b n p) ∙ x ∙ sym (ap (renumberC (U .number)) (condition-gives-way m r k b j p))
       go false p = ap (renumberC (U .number)) (condition-stays m q h b n p) ∙ y ∙ sym (ap (renumberC (U .number)) (condition-stays m r k b j p))
 
-  pub condition-near : (d y : Sem) → Near U d y → (b : Bool) (n j : ℕ) → Close U n j → AlikeC U (condition d b n) (condition y b j)
+  pub condition-near : (d y : Sem) → Near U d y → (b : Bool) (n j : ℕ) → Close U n j → SameClauses U (condition d b n) (condition y b j)
   unfolding Near condition quote renumber
   condition-near (row g) y s b n j c = rw (s .2) (one-near (Nf.row g) (Nf.row (s .0)) (ap Nf.row (s .1)))
   condition-near (fields ds) y s b n j c = rw (s .2) (one-near (quote (fields ds) n) (quote (fields (s .0)) j) (quote-near (fields ds) (fields (s .0)) (s .0, s .1, refl) n j c))
@@ -124,14 +124,14 @@ module _ (U : View) where
       (one-near (quote (nested m q h) n) (quote (nested m (s .0) (s .1)) j) (quote-near (nested m q h) (nested m (s .0) (s .1)) (s .0, s .1, s .2, s .3, refl) n j c)))
   condition-near (plain f) y s b n j c = rw (s .2) (one-near (f n) (s .0 j) (s .1 n j c))
 
-  pub plain-near : (f g : ℕ → Form) → ((n j : ℕ) → Close U n j → Alike U (f n) (g j)) → Near U (plain f) (plain g)
+  pub plain-near : (f g : ℕ → Form) → ((n j : ℕ) → Close U n j → SameForm U (f n) (g j)) → Near U (plain f) (plain g)
   unfolding Near
   plain-near f g e = (g, e, refl)
 
   pub nothing-near : Near U nothing nothing
   nothing-near = plain-near (λ n. Nf.num (pos 0)) (λ n. Nf.num (pos 0)) (λ n j c. refl)
 
-  pub ranges-clauses : (d y : Sem) → Near U d y → (b : Bool) (n j : ℕ) → Close U n j → AlikeC U (ranges d b n .clauses) (ranges y b j .clauses)
+  pub ranges-clauses : (d y : Sem) → Near U d y → (b : Bool) (n j : ℕ) → Close U n j → SameClauses U (ranges d b n .clauses) (ranges y b j .clauses)
   unfolding Near ranges
   ranges-clauses (row g) y s b n j c = rw (s .2)
   ranges-clauses (fields ds) y s b n j c = rw (s .2)
@@ -188,7 +188,7 @@ module _ (U : View) where
   unfolding renumber
   applied-near f ds es s = plain-near (λ n. Nf.app f (quotes ds n)) (λ n. Nf.app f (quotes es n)) (λ n j c. ap (Nf.app f) (quotes-near ds es s n j c))
 
-  pub nested-near : (m : Monoid) (q r : Bool → ℕ → Clauses) (h k : Bool → ℕ → Sem) → ((b : Bool) (n j : ℕ) → Close U n j → AlikeC U (q b n) (r b j))
+  pub nested-near : (m : Monoid) (q r : Bool → ℕ → Clauses) (h k : Bool → ℕ → Sem) → ((b : Bool) (n j : ℕ) → Close U n j → SameClauses U (q b n) (r b j))
       → ((b c : Bool) (n j : ℕ) → U .flag b ≡ U .flag c → Close U n j → Near U (h b n) (k c j)) → Near U (nested m q h) (nested m r k)
   unfolding Near
   nested-near m q r h k x y = (r, k, x, y, refl)
@@ -244,7 +244,7 @@ module _ (U : View) (off off′ : Offsets) (O : CloseO U off off′) where
   bound-near A B x d e e′ nbad h E p = nothing-near U
 
 module _ (U : View) where
-  pub qual-near : (A B : At) (x D : ℕ) (e e′ : Env) (v : Bool) (n j : ℕ) (y : Node) → NearA U x A B → CloseE U D e e′ → Close U n j → Inside x y → AlikeC U (qualOf A D e v n y) (qualOf B D e′ v j y)
+  pub qual-near : (A B : At) (x D : ℕ) (e e′ : Env) (v : Bool) (n j : ℕ) (y : Node) → NearA U x A B → CloseE U D e e′ → Close U n j → Inside x y → SameClauses U (qualOf A D e v n y) (qualOf B D e′ v j y)
   qual-near A B x D e e′ v n j (ngen c) h E q p = ranges-clauses U (A c D e) (B c D e′) (h c p D e e′ E) v n j q
   qual-near A B x D e e′ v n j (ncond c) h E q p = condition-near U (A c D e) (B c D e′) (h c p D e e′ E) v n j q
   qual-near A B x D e e′ v n j (nbind c) h E q p = refl
@@ -271,7 +271,7 @@ module _ (U : View) where
   pick-near false d y s = nothing-near U
 
 module _ (K : ℕ → Collection) (N : Nodes) (P : PostOrder N) (U : View) (off off′ : Offsets) (O : CloseO U off off′) where
-  pub clauses-near : (A B : At) (i : ℕ) → NearA U i A B → (cs : List ℕ) → Below i cs → (D : ℕ) (e e′ : Env) → CloseE U D e e′ → (v : Bool) (n j : ℕ) → Close U n j → AlikeC U (clausesOf N A D e v n cs) (clausesOf N B D e′ v j cs)
+  pub clauses-near : (A B : At) (i : ℕ) → NearA U i A B → (cs : List ℕ) → Below i cs → (D : ℕ) (e e′ : Env) → CloseE U D e e′ → (v : Bool) (n j : ℕ) → Close U n j → SameClauses U (clausesOf N A D e v n cs) (clausesOf N B D e′ v j cs)
   unfolding clausesOf Below
   clauses-near A B i h [] b D e e′ E v n j q = refl
   clauses-near A B i h (c ∷ cs) b D e e′ E v n j q =

@@ -11,15 +11,15 @@ use Rattle.spec_normal_form.specs.Normal.{Sem, Sems, row, fields, both, nested,
 use Rattle.front_theory.specs.NodeTable.{Nodes, PostOrder}
 use Rattle.front_theory.specs.NodeForms.{Entry, Env, enter, Offsets, boundOf, semOf, semAt, sem}
 use Rattle.front_theory.proofs.Renumbering.{renumber-same, renumber-sameC}
-use Rattle.front_theory.proofs.Comparison.{View, seen, Alike, AlikeC, Near, NearL, CloseO, NearA, bound-near, sem-near, at-near}
+use Rattle.front_theory.proofs.Comparison.{View, seen, SameForm, SameClauses, Near, NearL, CloseO, NearA, bound-near, sem-near, at-near}
 
 abbrev pub exact : View
 exact = seen (λ n. n) (λ n j k e. ap (λ a. a + k) e)
 
-pub alike-equal : (t u : Form) → Alike exact t u → t ≡ u
+pub alike-equal : (t u : Form) → SameForm exact t u → t ≡ u
 alike-equal t u e = sym (renumber-same t) ∙ e ∙ renumber-same u
 
-alike-equalC : (w q : Clauses) → AlikeC exact w q → w ≡ q
+alike-equalC : (w q : Clauses) → SameClauses exact w q → w ≡ q
 alike-equalC w q e = sym (renumber-sameC w) ∙ e ∙ renumber-sameC q
 
 mutual

@@ -17,7 +17,7 @@ use Rattle.front_theory.specs.NodeForms.{Entry, Env, enter, outside, Off
 use Rattle.front_theory.specs.QuestionNodes.{Slots, slot, noNames, firstOf, restOf, behind, Holds, HoldsL, HoldsQ, PlacedQ, Placed}
 use Rattle.front_theory.proofs.FormCounts.{Counts, counts}
 use Rattle.front_theory.proofs.Renumbering.{renumber, renumberC}
-use Rattle.front_theory.proofs.Comparison.{View, seen, Close, AlikeC, Near, NearL, alike-counts, alike-countsC, afterC, append-near, quote-near, condition-near, ranges-clauses, ranges-head, plain-near, part-near, binary-near, negate-near, fields-near, nested-near, table-near}
+use Rattle.front_theory.proofs.Comparison.{View, seen, Close, SameClauses, Near, NearL, alike-counts, alike-countsC, afterC, append-near, quote-near, condition-near, ranges-clauses, ranges-head, plain-near, part-near, binary-near, negate-near, fields-near, nested-near, table-near}
 use Rattle.front_theory.proofs.Locality.{agree-enter, at-enter, bound-local}
 use Rattle.front_theory.proofs.StaticCounts.{qual-count}
 use Rattle.front_theory.specs.NodeTable.{napp}
@@ -76,8 +76,8 @@ module _ (K : ℕ → Collection) (N : Nodes) (P : PostOrder N) (dep : ℕ → �
   bind-bound x c D e u p l h f k = subst (λ y. Near view (boundOf off (upTo f) x D e y) u) (sym p) (h f (omega (arith, l, k)))
 
   -- the first qualifier, then the others
-  cons-clauses : (f x : ℕ) (cs ds : List ℕ) (D : ℕ) (e : Env) (v : Bool) (n : ℕ) (w r : Clauses) → cs ≡ x ∷ ds → AlikeC view (qualOf (upTo f) D e v n (N x)) w
-      → AlikeC view (clausesOf N (upTo f) D e v (n + gensC (qualOf (upTo f) D e v n (N x))) ds) r → AlikeC view (clausesOf N (upTo f) D e v n cs) (w ⊕ r)
+  cons-clauses : (f x : ℕ) (cs ds : List ℕ) (D : ℕ) (e : Env) (v : Bool) (n : ℕ) (w r : Clauses) → cs ≡ x ∷ ds → SameClauses view (qualOf (upTo f) D e v n (N x)) w
+      → SameClauses view (clausesOf N (upTo f) D e v (n + gensC (qualOf (upTo f) D e v n (N x))) ds) r → SameClauses view (clausesOf N (upTo f) D e v n cs) (w ⊕ r)
   unfolding clausesOf
   cons-clauses f x cs ds D e v n w r p q h =
       let a = qualOf (upTo f) D e v n (N x) in
@@ -88,14 +88,14 @@ module _ (K : ℕ → Collection) (N : Nodes) (P : PostOrder N) (dep : ℕ → �
   bind-clauses f x c cs ds D e v n p q =
       ap (clausesOf N (upTo f) D e v n) p ∙ ap (λ y. let w = qualOf (upTo f) D e v n y in w ⊕ clausesOf N (upTo f) D e v (n + gensC w) ds) q ∙ ap (λ a. clausesOf N (upTo f) D e v a ds) (omega arith)
 
-  gen-clauses : (f x c D : ℕ) (e : Env) (v : Bool) (n j : ℕ) (u : Sem) → N x ≡ ngen c → Near view (semAt K N off f c D e) u → Close view n j → AlikeC view (qualOf (upTo f) D e v n (N x)) (ranges u v j .clauses)
+  gen-clauses : (f x c D : ℕ) (e : Env) (v : Bool) (n j : ℕ) (u : Sem) → N x ≡ ngen c → Near view (semAt K N off f c D e) u → Close view n j → SameClauses view (qualOf (upTo f) D e v n (N x)) (ranges u v j .clauses)
   gen-clauses f x c D e v n j u p h q = ap (λ y. renumberC ρ (qualOf (upTo f) D e v n y)) p ∙ ranges-clauses view (semAt K N off f c D e) u h v n j q
 
-  cond-clauses : (f x c D : ℕ) (e : Env) (v : Bool) (n j : ℕ) (u : Sem) → N x ≡ ncond c → Near view (semAt K N off f c D e) u → Close view n j → AlikeC view (qualOf (upTo f) D e v n (N x)) (condition u v j)
+  cond-clauses : (f x c D : ℕ) (e : Env) (v : Bool) (n j : ℕ) (u : Sem) → N x ≡ ncond c → Near view (semAt K N off f c D e) u → Close view n j → SameClauses view (qualOf (upTo f) D e v n (N x)) (condition u v j)
   cond-clauses f x c D e v n j u p h q = ap (λ y. renumberC ρ (qualOf (upTo f) D e v n y)) p ∙ condition-near view (semAt K N off f c D e) u h v n j q
 
   -- the number behind the qualifier of node x: what the offsets count, and what `walk` counts
-  further : (f x : ℕ) → x ≤ f → (D : ℕ) (e : Env) (v : Bool) (n₀ n j a : ℕ) (w : Clauses) → dep x ≡ D → Close view (n₀ + a) j → AlikeC view (qualOf (upTo f) D e v n (N x)) w
+  further : (f x : ℕ) → x ≤ f → (D : ℕ) (e : Env) (v : Bool) (n₀ n j a : ℕ) (w : Clauses) → dep x ≡ D → Close view (n₀ + a) j → SameClauses view (qualOf (upTo f) D e v n (N x)) w
       → Close view (n₀ + (a + countOf K N x (dep x) v)) (j + gensC w)
   further f x l D e v n₀ n j a w p q h =
       let c = countOf K N x (dep x) v in
@@ -143,7 +143,7 @@ module _ (K : ℕ → Collection) (N : Nodes) (P : PostOrder N) (dep : ℕ → �
         let x = idempotent m in
         let b = inside i (ncomp m (H .0) (H .1)) (H .2) in
         let G = subst (λ y. PlacedQ ρ K N dep off (qualifiers y) (λ v. 0)) (H .2) (O i) in
-        let W : (v : Bool) (n j : ℕ) → Close view n j → AlikeC view (clausesOf N (upTo f) (suc D) (enter D n (v || x) e) (v || x) n (H .0)) (walk K qs (v || x) (λ ε. norm K h ε) δ j .clauses)
+        let W : (v : Bool) (n j : ℕ) → Close view n j → SameClauses view (clausesOf N (upTo f) (suc D) (enter D n (v || x) e) (v || x) n (H .0)) (walk K qs (v || x) (λ ε. norm K h ε) δ j .clauses)
         × Near view (semAt K N off f (H .1) (suc D) (enter D n (v || x) e)) (walk K qs (v || x) (λ ε. norm K h ε) δ j .head)
         = λ v n j c. let z : n + 0 ≡ n = omega arith in
         walk-at qs (H .0) D S (λ a. 0) (H .4) G (v || x) (λ ε. norm K h ε) δ (enter D n (v || x) e) (fits-enter δ e D S n (v || x) F)
@@ -167,7 +167,7 @@ module _ (K : ℕ → Collection) (N : Nodes) (P : PostOrder N) (dep : ℕ → �
     pub walk-at : (qs : Quals) (cs : List ℕ) (D : ℕ) (S : Slots) (g : Bool → ℕ) → HoldsQ N dep qs cs D S → PlacedQ ρ K N dep off cs g → (v : Bool) (hd : SemEnv → Sem) (δ : SemEnv) (e : Env) → Fits δ e (suc D) S
         → (n₀ : ℕ) → Open e D n₀ v → (n j : ℕ) → Close view n j → Close view (n₀ + g v) j → (i : ℕ) → Below i cs → (f : ℕ) → i ≤ f
         → (d : Sem) → ((ε : SemEnv) → Fits ε e (suc D) (behind qs cs D S) → Near view d (hd ε))
-        → AlikeC view (clausesOf N (upTo f) (suc D) e v n cs) (walk K qs v hd δ j .clauses) × Near view d (walk K qs v hd δ j .head)
+        → SameClauses view (clausesOf N (upTo f) (suc D) e v n cs) (walk K qs v hd δ j .clauses) × Near view d (walk K qs v hd δ j .head)
     walk-at qnil cs D S g H G v hd δ e F n₀ o n j c q i b f l d h = (ap (λ a. renumberC ρ (clausesOf N (upTo f) (suc D) e v n a)) H, h δ F)
     walk-at (gen x t qs) cs D S g H G v hd δ e F n₀ o n j c q i b f l d h =
         let y = firstOf cs in

@@ -30,18 +30,18 @@ use Rattle.base_syntax.specs.declared.Monoid.the-variants as Mo
 use Rattle.base_syntax.specs.MonoidWord.{monoidOf}
 use Rattle.base_syntax.specs.declared.Fun.{Fun}
 use Rattle.base_syntax.specs.declared.Fun.the-variants.{Choice, Open}
-use Rattle.base_syntax.specs.Numbers.{funOf, numberOf}
+use Rattle.base_syntax.specs.Numbers.{funOf, monoidCode}
 use Rattle.front_theory.specs.NodeTable.{Nodes}
 use Rattle.front_theory.specs.NodeTable as Nd
 use Rattle.base_scratch.specs.Map.{shapesAt}
-use Rattle.front_words.specs.NodeWord.{kindOf, argOf, nodeWord}
+use Rattle.front_words.specs.NodeWord.{nodeKindOf, argOf, nodeWord}
 use Rattle.front_words.specs.NodeTree.{startAt}
 use Rattle.base_tables.specs.Description.{collectionNumber}
 use Rattle.front_typing.specs.declared.TypeHead.{TypeHead}
 use Rattle.front_typing.specs.declared.TypeHead.the-variants.{Wrong, Number, Truth, Record, Row, Table, Coll}
-use Rattle.front_typing.specs.declared.Made.{Made}
-use Rattle.front_typing.specs.declared.Made.the-variants as Ma
-use Rattle.front_typing.specs.NodeTypes.{Rule}
+use Rattle.front_typing.specs.declared.NodeMakes.{NodeMakes}
+use Rattle.front_typing.specs.declared.NodeMakes.the-variants as Ma
+use Rattle.front_typing.specs.NodeTypes.{StandsRule}
 use Rattle.front_typing.specs.Shapes.{Known, fits, isNumber, isTruth, partsOf, collects, collectionOf, headOf, partShape, fieldShape, elementShape, stands, truthShape, alikeShape, choiceShape, choiceOf, openShape, openOf, appShape, allFit, qualFits, qualsFit, shapeBy}
 use Rattle.front_typing.specs.ShapeWords.{shapeIn, shapesIn, collectionBy, knownIn, rules, Plain, MadeBy, MakerPost, fieldAt, elementAt, mayRange, qualFitsAt, shapeWord, shapeOf, shaped, shapedUpTo, Judges}
 
@@ -84,7 +84,7 @@ in-none w a b c d e f = go (w % 8) a b c d e f
     go (suc (suc (suc (suc (suc (suc (suc k))))))) a b c d e f = refl
 
 -- ---- monoids
-may-bag : (m : Monoid) → ltb 1 (numberOf m) ≡ mayStand bag (monoidOf m)
+may-bag : (m : Monoid) → ltb 1 (monoidCode m) ≡ mayStand bag (monoidOf m)
 unfolding mayStand
 may-bag Mo.List = refl
 may-bag Mo.Bag = refl
@@ -95,7 +95,7 @@ may-bag Mo.Min = refl
 may-bag Mo.Some = refl
 may-bag Mo.All = refl
 
-may-set : (m : Monoid) → (numberOf m ≡ 3 → ⊥) → ltb 4 (numberOf m) ≡ mayStand set (monoidOf m)
+may-set : (m : Monoid) → (monoidCode m ≡ 3 → ⊥) → ltb 4 (monoidCode m) ≡ mayStand set (monoidOf m)
 unfolding mayStand
 may-set Mo.List h = refl
 may-set Mo.Bag h = refl
@@ -106,7 +106,7 @@ may-set Mo.Min h = refl
 may-set Mo.Some h = refl
 may-set Mo.All h = refl
 
-may-set-set : (m : Monoid) → numberOf m ≡ 3 → true ≡ mayStand set (monoidOf m)
+may-set-set : (m : Monoid) → monoidCode m ≡ 3 → true ≡ mayStand set (monoidOf m)
 unfolding mayStand
 may-set-set Mo.List h = absurd (omega arith)
 may-set-set Mo.Bag h = absurd (omega arith)
@@ -117,7 +117,7 @@ may-set-set Mo.Min h = refl
 may-set-set Mo.Some h = refl
 may-set-set Mo.All h = refl
 
-module _ (m : Monoid) {c k : ℕ} (e : k ≡ numberOf m) where
+module _ (m : Monoid) {c k : ℕ} (e : k ≡ monoidCode m) where
   pub stand-bag : c ≡ 2 → ltb 1 k ≡ mayStand (collectionBy c) (monoidOf m)
   stand-bag h = ap (λ x. ltb 1 x) e ∙ may-bag m ∙ ap (λ x. mayStand (collectionBy x) (monoidOf m)) (sym h)
 
@@ -187,7 +187,7 @@ plain-none (Nd.napp f cs) p = (refl, refl, refl)
 plain-none Nd.nbad p = (refl, refl, refl)
 
 -- ---- a collection's number
-pub number-low : (m : Monoid) → numberOf m < 4 → numberOf m ≡ collectionNumber (collects (monoidOf m))
+pub number-low : (m : Monoid) → monoidCode m < 4 → monoidCode m ≡ collectionNumber (collects (monoidOf m))
 unfolding collectionNumber
 number-low Mo.List h = refl
 number-low Mo.Bag h = refl
@@ -198,7 +198,7 @@ number-low Mo.Min h = absurd (omega arith)
 number-low Mo.Some h = absurd (omega arith)
 number-low Mo.All h = absurd (omega arith)
 
-pub number-high : (m : Monoid) → 4 ≤ numberOf m → 1 ≡ collectionNumber (collects (monoidOf m))
+pub number-high : (m : Monoid) → 4 ≤ monoidCode m → 1 ≡ collectionNumber (collects (monoidOf m))
 unfolding collectionNumber
 number-high Mo.List h = absurd (omega arith)
 number-high Mo.Bag h = absurd (omega arith)
@@ -224,7 +224,7 @@ nth-nothing σ k [] e = refl
 nth-nothing σ zero (d ∷ cs) e = absurd (let z : _≡_ {A = ℕ} 0 1 = cc in omega arith)
 nth-nothing σ (suc k) (d ∷ cs) e = nth-nothing σ k cs e
 
-module _ {s : List ℕ} {j : ℕ} {r : Made} (H : MakerPost s j r) where
+module _ {s : List ℕ} {j : ℕ} {r : NodeMakes} (H : MakerPost s j r) where
   pub head-comp : {m : Monoid} {h : ℕ} → r ≡ Ma.Comp m h → h ≡ headOf (nodesOf s j)
   head-comp e = sym (ap headOf (subst (MadeBy s j) e (H .is)))
 
@@ -358,7 +358,7 @@ unfolding pick allFit
 no-parts s i e = rw e
 
 module _ {s : List ℕ} {i : ℕ} where
-  pub parts-begin : (i ≡ 0 → ⊥) → {w n : ℕ} → w ≡ nodeWord s i → n ≡ countOf (getD kinds (kindOf w) unknown) (argOf w) → Parts s i n i
+  pub parts-begin : (i ≡ 0 → ⊥) → {w n : ℕ} → w ≡ nodeWord s i → n ≡ countOf (getD kinds (nodeKindOf w) unknown) (argOf w) → Parts s i n i
   unfolding pick
   parts-begin h {w} {n} p q =
       record { is = rw (lt-ltb 0 i (omega arith)) (ap (λ x. allFit (shapesIn s) (siblings s x i [])) (sym (count-is s i p q))) }
@@ -433,7 +433,7 @@ module _ (b : Bool) (s : List ℕ) (i : ℕ) {n x : QueryNode} (H : LookPost s i
 abbrev pub terms : List ℕ
 terms = 0 ∷ 1 ∷ 2 ∷ 3 ∷ 4 ∷ 5 ∷ 6 ∷ 7 ∷ 8 ∷ 12 ∷ 13 ∷ []
 
-module _ (J : Rule) (I : Known) (N : Nodes) (σ : ℕ → TypeHead) (m : Sy.Monoid) where
+module _ (J : StandsRule) (I : Known) (N : Nodes) (σ : ℕ → TypeHead) (m : Sy.Monoid) where
   no-qual : (s : List ℕ) (c : ℕ) (n : QueryNode) → OneOf terms (tagOf node.the-type n) → false ≡ qualFits J I N σ m (nodeNamed s c n)
   no-qual s c (No.Number z) h = refl
   no-qual s c (No.Truth b) h = refl
@@ -458,14 +458,14 @@ module _ (J : Rule) (I : Known) (N : Nodes) (σ : ℕ → TypeHead) (m : Sy.Mono
 pub qual-other : (b : Bool) (m : Sy.Monoid) {s : List ℕ} {c : ℕ} {n : QueryNode} → LookPost s c n → OneOf terms (tagOf node.the-type n) → false ≡ qualFitsAt b s m c
 qual-other b m {s} {c} {n} H h = no-qual (rules b) (knownIn s) (nodesOf s) (shapesIn s) m s c n h ∙ ap (qualFits (rules b) (knownIn s) (nodesOf s) (shapesIn s) m) (sym (H .is))
 
-abbrev pub fitting : Rule → List ℕ → Sy.Monoid → List ℕ → Bool
+abbrev pub fitting : StandsRule → List ℕ → Sy.Monoid → List ℕ → Bool
 fitting J s m l = qualsFit J (knownIn s) (nodesOf s) (shapesIn s) m l
 
 -- what is left to look at: the qualifiers that end at e
-pub record Quals (J : Rule) (s : List ℕ) (m : Sy.Monoid) (i e : ℕ) : Type 0 where
+pub record Quals (J : StandsRule) (s : List ℕ) (m : Sy.Monoid) (i e : ℕ) : Type 0 where
   pub is : fitting J s m (qualifiersOf s i) ≡ fitting J s m (chain s (startAt s i) e)
 
-module _ {J : Rule} {s : List ℕ} {m : Sy.Monoid} {i : ℕ} where
+module _ {J : StandsRule} {s : List ℕ} {m : Sy.Monoid} {i : ℕ} where
   pub quals-begin : {c e : ℕ} → c ≡ i - 1 → e ≡ startAt s c → Quals J s m i e
   quals-begin p q = record { is = ap (λ x. fitting J s m (chain s (startAt s i) x)) (sym (q ∙ ap (startAt s) p)) }
 

@@ -12,9 +12,9 @@ use Rattle.spec_checks.specs.Types.{Ty, number, record′, coll, Typed, wrong, 
 use Rattle.spec_checks.specs.Types as Ty
 use Rattle.front_theory.specs.NodeTable.{Node, Nodes, nnum, ntruth, nname, nfield, nrec, nbin, nnegate, napp, ncomp, ntable, ngen, nbind, ncond, nbad, Below, Inside, PostOrder}
 use Rattle.front_theory.specs.QuestionNodes.{Slots, slot, noNames, firstOf, restOf, behind, Holds, HoldsL, HoldsQ}
-use Rattle.front_typing.specs.NodeTypes.{Rule, typesBy, behindQual, behindQuals, typeBy, typeUpTo, nodeType}
+use Rattle.front_typing.specs.NodeTypes.{StandsRule, typesBy, behindQual, behindQuals, typeBy, typeUpTo, nodeType}
 
-module _ (J : Rule) (T : Tables) (N : Nodes) (P : PostOrder N) where
+module _ (J : StandsRule) (T : Tables) (N : Nodes) (P : PostOrder N) where
   -- ---- only the nodes before a node matter
   module _ (τ τ′ : ℕ → Typed) (i : ℕ) (same : (j : ℕ) → j < i → τ j ≡ τ′ j) where
     types-local : (cs : List ℕ) → Below i cs → typesBy τ cs ≡ typesBy τ′ cs

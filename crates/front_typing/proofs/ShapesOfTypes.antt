@@ -15,7 +15,7 @@ use Rattle.spec_checks.proofs.Judgement.{cons-typed}
 use Rattle.front_theory.specs.NodeTable.{Node, Nodes, nnum, ntruth, nname, nfield, nrec, nbin, nnegate, napp, ncomp, ntable, ngen, nbind, ncond, nbad, Below, Inside, PostOrder}
 use Rattle.front_typing.specs.declared.TypeHead.{TypeHead}
 use Rattle.front_typing.specs.declared.TypeHead.the-variants.{Wrong, Number, Truth, Record, Row, Table, Coll}
-use Rattle.front_typing.specs.NodeTypes.{Rule, typesBy, behindQual, behindQuals, tableType, typeBy, nodeType}
+use Rattle.front_typing.specs.NodeTypes.{StandsRule, typesBy, behindQual, behindQuals, tableType, typeBy, nodeType}
 use Rattle.front_typing.specs.Shapes.{Known, fits, isNumber, isTruth, collectionOf, partShape, fieldShape, elementShape, stands, twoNumbers, twoTruths, binShape, truthShape, alikeShape, choiceShape, choiceOf, openShape, openOf, appShape, compShape, allFit, qualFits, qualsFit, shapeBy}
 use Rattle.front_typing.proofs.NodeTypes.{node-type}
 
@@ -149,7 +149,7 @@ many-chosen (has a) (has b) (has c) wrong r = refl
 many-chosen (has a) (has b) (has c) (has d) wrongs = refl
 many-chosen (has a) (has b) (has c) (has d) (hass ts) = refl
 
-module _ (J : Rule) (T : Tables) (N : Nodes) where
+module _ (J : StandsRule) (T : Tables) (N : Nodes) where
   abbrev τ : ℕ → Typed
   τ i = nodeType J T N i
 

@@ -10,15 +10,15 @@ use Rattle.spec_checks.specs.Types.{Typed, wrong, has, Typeds, hass, ynil, reco
 use Rattle.front_theory.specs.NodeTable.{Node, Nodes, nnum, ntruth, nname, nfield, nrec, nbin, nnegate, napp, ncomp, ntable, ngen, nbind, ncond, nbad}
 
 -- which collections' generators may stand in a monoid
-abbrev pub Rule : Type 0
-Rule = Collection → Monoid → Bool
+abbrev pub StandsRule : Type 0
+StandsRule = Collection → Monoid → Bool
 
 unfoldable pub typesBy : (ℕ → Typed) → List ℕ → Typeds
 typesBy τ [] = hass ynil
 typesBy τ (c ∷ cs) = consType (τ c) (typesBy τ cs)
 
 -- t behind a qualifier of a comprehension of m
-abbrev pub behindQual : Rule → (ℕ → Typed) → Monoid → Node → Typed → Typed
+abbrev pub behindQual : StandsRule → (ℕ → Typed) → Monoid → Node → Typed → Typed
 behindQual J τ m (ngen c) t = ranges (λ a. J a m) (τ c) (λ u. t)
 behindQual J τ m (nbind c) t = typedAs (τ c) (λ u. t)
 behindQual J τ m (ncond c) t = ofTruth (τ c) t
@@ -34,7 +34,7 @@ behindQual J τ m (ncomp n cs h) t = wrong
 behindQual J τ m (ntable k) t = wrong
 behindQual J τ m nbad t = wrong
 
-unfoldable pub behindQuals : Rule → Nodes → (ℕ → Typed) → Monoid → List ℕ → Typed → Typed
+unfoldable pub behindQuals : StandsRule → Nodes → (ℕ → Typed) → Monoid → List ℕ → Typed → Typed
 behindQuals J N τ m [] t = t
 behindQuals J N τ m (c ∷ cs) t = behindQual J τ m (N c) (behindQuals J N τ m cs t)
 
@@ -43,7 +43,7 @@ abbrev pub tableType : Tables → ℕ → Typed
 tableType T k = pick (isThere T k) (has (coll (kindOf T k) (record′ (cells (columnsOf T k))))) wrong
 
 -- a node's type, where τ has the types of the nodes before it
-abbrev pub typeBy : Rule → Tables → Nodes → (ℕ → Typed) → Node → Typed
+abbrev pub typeBy : StandsRule → Tables → Nodes → (ℕ → Typed) → Node → Typed
 typeBy J T N τ (nnum z) = has number
 typeBy J T N τ (ntruth b) = has truth
 typeBy J T N τ (nname x d) = τ x
@@ -60,9 +60,9 @@ typeBy J T N τ (ncond c) = ofTruth (τ c) (has truth)
 typeBy J T N τ nbad = wrong
 
 -- the type of node i, where at most f steps back are gone
-unfoldable pub typeUpTo : Rule → Tables → Nodes → ℕ → ℕ → Typed
+unfoldable pub typeUpTo : StandsRule → Tables → Nodes → ℕ → ℕ → Typed
 typeUpTo J T N zero i = wrong
 typeUpTo J T N (suc f) i = typeBy J T N (λ j. typeUpTo J T N f j) (N i)
 
-unfoldable pub nodeType : Rule → Tables → Nodes → ℕ → Typed
+unfoldable pub nodeType : StandsRule → Tables → Nodes → ℕ → Typed
 nodeType J T N i = typeUpTo J T N (suc i) i

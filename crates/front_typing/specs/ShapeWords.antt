@@ -16,9 +16,9 @@ use Rattle.base_scratch.specs.Map.{shapesAt}
 use Rattle.base_tables.specs.Description.{collectionIn, columnsIn, presentIn, tableIn}
 use Rattle.front_typing.specs.declared.TypeHead.{TypeHead}
 use Rattle.front_typing.specs.declared.TypeHead.the-variants.{Wrong, Number, Truth, Record, Row, Table, Coll}
-use Rattle.front_typing.specs.declared.Made.{Made}
-use Rattle.front_typing.specs.declared.Made.the-variants as Ma
-use Rattle.front_typing.specs.NodeTypes.{Rule}
+use Rattle.front_typing.specs.declared.NodeMakes.{NodeMakes}
+use Rattle.front_typing.specs.declared.NodeMakes.the-variants as Ma
+use Rattle.front_typing.specs.NodeTypes.{StandsRule}
 use Rattle.front_typing.specs.Shapes.{Known, fits, partsOf, partShape, fieldShape, elementShape, stands, compShape, allFit, qualFits, qualsFit, shapeBy}
 
 -- a shape's word: its class, and above it the number that it has; no number is that large
@@ -50,7 +50,7 @@ abbrev pub knownIn : List ℕ → Known
 knownIn s = record { has = presentIn s; columns = λ k. columnsIn (tableIn s k); kind = λ k. collectionBy (collectionIn (tableIn s k)) }
 
 -- 25 looks at types alone; 26 asks the same with the rule on generators switched on
-abbrev pub rules : Bool → Rule
+abbrev pub rules : Bool → StandsRule
 rules false c m = true
 rules true c m = mayStand c m
 
@@ -72,12 +72,12 @@ Plain (ncond c) = Unit {0}
 Plain nbad = Unit {0}
 
 -- what node j makes: a record, or a comprehension with its monoid and its head
-abbrev pub MadeBy : List ℕ → ℕ → Made → Type 0
+abbrev pub MadeBy : List ℕ → ℕ → NodeMakes → Type 0
 MadeBy s j Ma.Record = nodesOf s j ≡ nrec (childrenOf s j)
 MadeBy s j (Ma.Comp m h) = nodesOf s j ≡ ncomp (monoidOf m) (qualifiersOf s j) h
 MadeBy s j Ma.Other = Plain (nodesOf s j)
 
-pub record MakerPost (s : List ℕ) (j : ℕ) (r : Made) : Type 0 where
+pub record MakerPost (s : List ℕ) (j : ℕ) (r : NodeMakes) : Type 0 where
   pub is : MadeBy s j r
 
 -- the rules of specs/Shapes over the words

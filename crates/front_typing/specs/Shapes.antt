@@ -9,7 +9,7 @@ use Rattle.spec_calculus.specs.Syntax.{Collection, list, Monoid, of, sum, max, 
 use Rattle.front_theory.specs.NodeTable.{Node, Nodes, nnum, ntruth, nname, nfield, nrec, nbin, nnegate, napp, ncomp, ntable, ngen, nbind, ncond, nbad}
 use Rattle.front_typing.specs.declared.TypeHead.{TypeHead}
 use Rattle.front_typing.specs.declared.TypeHead.the-variants.{Wrong, Number, Truth, Record, Row, Table, Coll}
-use Rattle.front_typing.specs.NodeTypes.{Rule}
+use Rattle.front_typing.specs.NodeTypes.{StandsRule}
 
 -- what is known of the tables
 pub record Known : Type 0 where
@@ -124,7 +124,7 @@ elementShape N σ (Record j) = Wrong
 elementShape N σ (Row t) = Wrong
 
 -- whether a generator over this may stand in m
-unfoldable pub stands : Rule → Known → Nodes → Monoid → TypeHead → Bool
+unfoldable pub stands : StandsRule → Known → Nodes → Monoid → TypeHead → Bool
 stands J I N m (Table t) = J (I .kind t) m
 stands J I N m (Coll j) = J (collectionOf (N j)) m
 stands J I N m Wrong = false
@@ -201,7 +201,7 @@ allFit σ [] = true
 allFit σ (c ∷ cs) = fits (σ c) && allFit σ cs
 
 -- whether a qualifier fits into a comprehension of m
-abbrev pub qualFits : Rule → Known → Nodes → (ℕ → TypeHead) → Monoid → Node → Bool
+abbrev pub qualFits : StandsRule → Known → Nodes → (ℕ → TypeHead) → Monoid → Node → Bool
 qualFits J I N σ m (ngen c) = stands J I N m (σ c)
 qualFits J I N σ m (nbind c) = fits (σ c)
 qualFits J I N σ m (ncond c) = isTruth (σ c)
@@ -217,12 +217,12 @@ qualFits J I N σ m (ncomp n cs h) = false
 qualFits J I N σ m (ntable k) = false
 qualFits J I N σ m nbad = false
 
-unfoldable pub qualsFit : Rule → Known → Nodes → (ℕ → TypeHead) → Monoid → List ℕ → Bool
+unfoldable pub qualsFit : StandsRule → Known → Nodes → (ℕ → TypeHead) → Monoid → List ℕ → Bool
 qualsFit J I N σ m [] = true
 qualsFit J I N σ m (c ∷ cs) = qualFits J I N σ m (N c) && qualsFit J I N σ m cs
 
 -- the shape of node i, where σ has the shapes of the nodes before it
-abbrev pub shapeBy : Rule → Known → Nodes → (ℕ → TypeHead) → ℕ → Node → TypeHead
+abbrev pub shapeBy : StandsRule → Known → Nodes → (ℕ → TypeHead) → ℕ → Node → TypeHead
 shapeBy J I N σ i (nnum z) = Number
 shapeBy J I N σ i (ntruth b) = Truth
 shapeBy J I N σ i (nname x d) = σ x

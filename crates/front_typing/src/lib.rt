@@ -12,9 +12,9 @@ ghost use Rattle.front_typing.specs.ShapeWords.{numbered as numberedWord
 use base_scratch::SHAPES;
 use base_scratch::load_at;
 use base_scratch::store;
+use base_syntax::BinOp;
 use base_syntax::Fun;
 use base_syntax::Monoid;
-use base_syntax::Op;
 use front_nodes::Found;
 use front_nodes::QueryNode;
 
@@ -31,7 +31,7 @@ pub enum TypeHead {
 }
 
 // What a node makes that a shape can refer to.
-pub enum Made {
+pub enum NodeMakes {
     Record,
     Comp(Monoid, usize),
     Other,
@@ -135,13 +135,13 @@ fn table(s: &[u64], k: usize) -> TypeHead
 // ---- what a shape refers to
 
 // What node j makes.
-fn maker(s: &[u64], j: usize) -> Made
+fn maker(s: &[u64], j: usize) -> NodeMakes
     ensures { λ r. ⌜ MakerPost (now (s .entry)) j r ⌝ }
 {
     match front_nodes::look(s, j) {
-        QueryNode::Record => Made::Record,
-        QueryNode::Comp(m, h) => Made::Comp(m, h),
-        _ => Made::Other,
+        QueryNode::Record => NodeMakes::Record,
+        QueryNode::Comp(m, h) => NodeMakes::Comp(m, h),
+        _ => NodeMakes::Other,
     }
 }
 
@@ -160,9 +160,9 @@ fn part(s: &[u64], j: usize, k: usize) -> TypeHead
     ensures { λ r. ⌜ r ≡ partAt (now (s .entry)) j k ⌝ }
 {
     match maker(s, j) {
-        Made::Record => operand(s, j, k),
-        Made::Comp(_, _) => TypeHead::Wrong,
-        Made::Other => TypeHead::Wrong,
+        NodeMakes::Record => operand(s, j, k),
+        NodeMakes::Comp(_, _) => TypeHead::Wrong,
+        NodeMakes::Other => TypeHead::Wrong,
     }
 }
 
@@ -171,9 +171,9 @@ fn head(s: &[u64], j: usize) -> usize
     ensures { λ r. ⌜ r ≡ headOf (nodesOf (now (s .entry)) j) ⌝ }
 {
     match maker(s, j) {
-        Made::Comp(_, h) => h,
-        Made::Record => 0,
-        Made::Other => 0,
+        NodeMakes::Comp(_, h) => h,
+        NodeMakes::Record => 0,
+        NodeMakes::Other => 0,
     }
 }
 
@@ -190,9 +190,9 @@ fn gathered(s: &[u64], j: usize) -> u64
     ensures { λ r. ⌜ r ≡ collectionNumber (collectionOf (nodesOf (now (s .entry)) j)) ⌝ }
 {
     match maker(s, j) {
-        Made::Comp(m, _) => collection_of(m),
-        Made::Record => 1,
-        Made::Other => 1,
+        NodeMakes::Comp(m, _) => collection_of(m),
+        NodeMakes::Record => 1,
+        NodeMakes::Other => 1,
     }
 }
 
@@ -310,17 +310,17 @@ fn truth(a: TypeHead) -> TypeHead
     TypeHead::Wrong
 }
 
-fn binary(o: Op, a: TypeHead, b: TypeHead) -> TypeHead
+fn binary(o: BinOp, a: TypeHead, b: TypeHead) -> TypeHead
     ensures { λ r. ⌜ r ≡ binShape (binOf o) a b ⌝ }
 {
     match o {
-        Op::Plus => two_numbers(a, b, TypeHead::Number),
-        Op::Minus => two_numbers(a, b, TypeHead::Number),
-        Op::Times => two_numbers(a, b, TypeHead::Number),
-        Op::Equal => two_numbers(a, b, TypeHead::Truth),
-        Op::Less => two_numbers(a, b, TypeHead::Truth),
-        Op::And => two_truths(a, b, TypeHead::Truth),
-        Op::Or => two_truths(a, b, TypeHead::Truth),
+        BinOp::Plus => two_numbers(a, b, TypeHead::Number),
+        BinOp::Minus => two_numbers(a, b, TypeHead::Number),
+        BinOp::Times => two_numbers(a, b, TypeHead::Number),
+        BinOp::Equal => two_numbers(a, b, TypeHead::Truth),
+        BinOp::Less => two_numbers(a, b, TypeHead::Truth),
+        BinOp::And => two_truths(a, b, TypeHead::Truth),
+        BinOp::Or => two_truths(a, b, TypeHead::Truth),
     }
 }
 

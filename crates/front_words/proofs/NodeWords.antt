@@ -17,14 +17,14 @@ use Rattle.spec_calculus.specs.Lending.{unlent}
 use Rattle.spec_encoding.specs.Reader.{Kind, kinds, unknown, number, truthK, nameK, fieldK, record′, not, tableK, comprehension, generator, binding, condition, choiceK, openK, two-terms}
 use Rattle.base_scratch.specs.Map.{nodesAt, bindersAt, names}
 use Rattle.front_words.specs.Binders.{binderWord}
-use Rattle.front_words.specs.NodeWord.{kindOf, argOf, startOf, depthOf, pack, nodeWord}
+use Rattle.front_words.specs.NodeWord.{nodeKindOf, argOf, startOf, depthOf, pack, nodeWord}
 use Rattle.front_words.specs.NodeTree.{monoidAt, kindAt, argAt, startAt, termBy, qualBy, treeAt, termsAt, qualsAt}
 use Rattle.base_syntax.specs.Numbers.{constantOf}
-use Rattle.front_words.specs.LaidTree.{nodes, nodesL, nodesQ, Node, Laid, LaidL, LaidQ}
+use Rattle.front_words.specs.LaidTree.{nodes, nodesL, nodesQ, LaidNode, Laid, LaidL, LaidQ}
 
 -- ---- unpacking a packed word
 module _ (k a s d : ℕ) (hk : k < 32) (ha : a < 8589934592) (hs : s < 512) (hd : d < 64) where
-  pub kind-pack : kindOf (pack k a s d) ≡ k
+  pub kind-pack : nodeKindOf (pack k a s d) ≡ k
   kind-pack = omega arith
 
   pub arg-pack : argOf (pack k a s d) ≡ a
@@ -39,7 +39,7 @@ module _ (k a s d : ℕ) (hk : k < 32) (ha : a < 8589934592) (hs : s < 512) (hd 
 -- ---- the tree depends only on the words below its end
 module _ (s s′ : List ℕ) (b : ℕ) (some : 1 ≤ b) (same : (i : ℕ) → i < b → nodeWord s′ i ≡ nodeWord s i) where
   kind-same : (i : ℕ) → i < b → kindAt s′ i ≡ kindAt s i
-  kind-same i h = ap (λ (w : ℕ). getD kinds (kindOf w) unknown) (same i h)
+  kind-same i h = ap (λ (w : ℕ). getD kinds (nodeKindOf w) unknown) (same i h)
 
   arg-same : (i : ℕ) → i < b → argAt s′ i ≡ argAt s i
   arg-same i h = ap argOf (same i h)
@@ -115,9 +115,9 @@ module _ (s s′ : List ℕ) (b : ℕ) (some : 1 ≤ b) (same : (i : ℕ) → i 
         quals-same f lo (startAt s (e - 1)) (qualBy (λ j. treeAt f s j) s (e - 1) (kindAt s (e - 1)) qs) (omega arith))
 
 -- ---- a tree that lies in the words
-pub node-same : {s s′ : List ℕ} {d a i : ℕ} {K : Kind} → nodeWord s′ i ≡ nodeWord s i → Node s d a i K → Node s′ d a i K
+pub node-same : {s s′ : List ℕ} {d a i : ℕ} {K : Kind} → nodeWord s′ i ≡ nodeWord s i → LaidNode s d a i K → LaidNode s′ d a i K
 node-same e N =
-    record { kind = ap (λ (w : ℕ). getD kinds (kindOf w) unknown) e ∙ N .kind; start = ap startOf e ∙ N .start; depth = ap depthOf e ∙ N .depth }
+    record { kind = ap (λ (w : ℕ). getD kinds (nodeKindOf w) unknown) e ∙ N .kind; start = ap startOf e ∙ N .start; depth = ap depthOf e ∙ N .depth }
 
 -- it lies there still where the words below its end are the same
 module _ (s s′ : List ℕ) (b : ℕ) (same : (i : ℕ) → i < b → nodeWord s′ i ≡ nodeWord s i) where
@@ -178,7 +178,7 @@ some-nodes (comp m qs h) = omega arith
 some-nodes (table k) = omega arith
 
 -- the node behind which a tree ends, and where it says that the tree begins
-last-start : {s : List ℕ} {d a i : ℕ} {K : Kind} → Node s d a i K → a ≤ i → (j : ℕ) → i ≡ j → startAt s j ≡ a
+last-start : {s : List ℕ} {d a i : ℕ} {K : Kind} → LaidNode s d a i K → a ≤ i → (j : ℕ) → i ≡ j → startAt s j ≡ a
 last-start {s} {i = i} N h j e = ap (λ (x : ℕ). min (startOf (nodeWord s x)) x) (sym e) ∙ omega (arith, N .start)
 
 pub laid-start : (t : Term) (s : List ℕ) (d a : ℕ) → Laid s d a t → startAt s (a + nodes t - 1) ≡ a
@@ -195,7 +195,7 @@ laid-start (comp m qs h) s d a L = last-start (L .2) (omega arith) _ (omega arit
 laid-start (table k) s d a L = last-start (L .0) (omega arith) _ (omega arith)
 
 -- a node's tree, by its kind
-node-tree : {s : List ℕ} {d a i : ℕ} {K : Kind} {t : Term} → Node s d a i K → (e : ℕ) → i + 1 ≡ e → (f : ℕ) → 0 < f →
+node-tree : {s : List ℕ} {d a i : ℕ} {K : Kind} {t : Term} → LaidNode s d a i K → (e : ℕ) → i + 1 ≡ e → (f : ℕ) → 0 < f →
     ((g : ℕ) → f ≡ suc g → termBy (λ j. treeAt g s j) (λ lo j ts. termsAt g s lo j ts) (λ lo j qs. qualsAt g s lo j qs) s i K ≡ t) →
     treeAt f s e ≡ t
 unfolding treeAt
@@ -336,10 +336,10 @@ module _ (s : List ℕ) (i k a b d : ℕ) (hk : k < 32) (ha : a < 8589934592) (h
   put-word : nodeWord (set s (nodesAt + i) (pack k a b d)) i ≡ pack k a b d
   put-word = getD-set-same s (nodesAt + i) (pack k a b d) 0 room
 
-  pub put-is : Node (set s (nodesAt + i) (pack k a b d)) d b i (getD kinds k unknown)
+  pub put-is : LaidNode (set s (nodesAt + i) (pack k a b d)) d b i (getD kinds k unknown)
   put-is =
       record {
-        kind = ap (λ (w : ℕ). getD kinds (kindOf w) unknown) put-word ∙ ap (λ (x : ℕ). getD kinds x unknown) (kind-pack k a b d hk ha hb hd);
+        kind = ap (λ (w : ℕ). getD kinds (nodeKindOf w) unknown) put-word ∙ ap (λ (x : ℕ). getD kinds x unknown) (kind-pack k a b d hk ha hb hd);
         start = ap startOf put-word ∙ start-pack k a b d hk ha hb hd;
         depth = ap depthOf put-word ∙ depth-pack k a b d hk ha hb hd;
       }

@@ -54,7 +54,7 @@ AsRead choice ts = Unit {0}
 AsRead (isOpen n c) ts = (c ≡ []) × (countL ts ≡ 1)
 
 -- node i: its kind, the first node of its subtree, and how many comprehensions are around it
-pub record Node (s : List ℕ) (d a i : ℕ) (K : Kind) : Type 0 where
+pub record LaidNode (s : List ℕ) (d a i : ℕ) (K : Kind) : Type 0 where
   pub kind : kindAt s i ≡ K
   pub start : startOf (nodeWord s i) ≡ a
   pub depth : depthOf (nodeWord s i) ≡ d
@@ -63,18 +63,18 @@ pub record Node (s : List ℕ) (d a i : ℕ) (K : Kind) : Type 0 where
 -- qualifiers and the head of a comprehension one more than it.
 abbrev mutual
   pub Laid : List ℕ → ℕ → ℕ → Term → Type 0
-  Laid s d a (num z) = Node s d a a number × (constantOf (argAt s a) ≡ z)
-  Laid s d a (truth b) = Node s d a a truthK × (argAt s a ≡ pick b 1 0)
-  Laid s d a (name x) = Node s d a a nameK × (argAt s a ≡ x)
-  Laid s d a (field i t) = Laid s d a t × Node s d a (a + nodes t) fieldK × (argAt s (a + nodes t) ≡ i)
-  Laid s d a (rec ts) = LaidL s d a ts × Node s d a (a + nodesL ts) record′ × (argAt s (a + nodesL ts) ≡ countL ts)
-  Laid s d a (app f ts) = LaidL s d a ts × Node s d a (a + nodesL ts) (operator f) × (argAt s (a + nodesL ts) ≡ argued f ts) × AsRead f ts
-  Laid s d a (bin o t u) = Laid s d a t × Laid s d (a + nodes t) u × Node s d a (a + nodes t + nodes u) (two-terms o)
-  Laid s d a (negate t) = Laid s d a t × Node s d a (a + nodes t) not
+  Laid s d a (num z) = LaidNode s d a a number × (constantOf (argAt s a) ≡ z)
+  Laid s d a (truth b) = LaidNode s d a a truthK × (argAt s a ≡ pick b 1 0)
+  Laid s d a (name x) = LaidNode s d a a nameK × (argAt s a ≡ x)
+  Laid s d a (field i t) = Laid s d a t × LaidNode s d a (a + nodes t) fieldK × (argAt s (a + nodes t) ≡ i)
+  Laid s d a (rec ts) = LaidL s d a ts × LaidNode s d a (a + nodesL ts) record′ × (argAt s (a + nodesL ts) ≡ countL ts)
+  Laid s d a (app f ts) = LaidL s d a ts × LaidNode s d a (a + nodesL ts) (operator f) × (argAt s (a + nodesL ts) ≡ argued f ts) × AsRead f ts
+  Laid s d a (bin o t u) = Laid s d a t × Laid s d (a + nodes t) u × LaidNode s d a (a + nodes t + nodes u) (two-terms o)
+  Laid s d a (negate t) = Laid s d a t × LaidNode s d a (a + nodes t) not
   Laid s d a (comp m qs h) =
-      LaidQ s (d + 1) a qs × Laid s (d + 1) (a + nodesQ qs) h × Node s d a (a + nodesQ qs + nodes h) comprehension ×
+      LaidQ s (d + 1) a qs × Laid s (d + 1) (a + nodesQ qs) h × LaidNode s d a (a + nodesQ qs + nodes h) comprehension ×
       (monoidAt (argAt s (a + nodesQ qs + nodes h)) ≡ m) × (1 ≤ argAt s (a + nodesQ qs + nodes h)) × (argAt s (a + nodesQ qs + nodes h) ≤ 8)
-  Laid s d a (table k) = Node s d a a tableK × (argAt s a ≡ k)
+  Laid s d a (table k) = LaidNode s d a a tableK × (argAt s a ≡ k)
 
   pub LaidL : List ℕ → ℕ → ℕ → Terms → Type 0
   LaidL s d a tnil = Unit {0}
@@ -82,6 +82,6 @@ abbrev mutual
 
   pub LaidQ : List ℕ → ℕ → ℕ → Quals → Type 0
   LaidQ s d a qnil = Unit {0}
-  LaidQ s d a (gen x t qs) = Laid s d a t × Node s d a (a + nodes t) generator × (argAt s (a + nodes t) ≡ x) × LaidQ s d (a + nodes t + 1) qs
-  LaidQ s d a (bind x t qs) = Laid s d a t × Node s d a (a + nodes t) binding × (argAt s (a + nodes t) ≡ x) × LaidQ s d (a + nodes t + 1) qs
-  LaidQ s d a (cond t qs) = Laid s d a t × Node s d a (a + nodes t) condition × LaidQ s d (a + nodes t + 1) qs
+  LaidQ s d a (gen x t qs) = Laid s d a t × LaidNode s d a (a + nodes t) generator × (argAt s (a + nodes t) ≡ x) × LaidQ s d (a + nodes t + 1) qs
+  LaidQ s d a (bind x t qs) = Laid s d a t × LaidNode s d a (a + nodes t) binding × (argAt s (a + nodes t) ≡ x) × LaidQ s d (a + nodes t + 1) qs
+  LaidQ s d a (cond t qs) = Laid s d a t × LaidNode s d a (a + nodes t) condition × LaidQ s d (a + nodes t + 1) qs

@@ -12,7 +12,7 @@ use Rattle.spec_calculus.specs.Lending.{unlent}
 use Rattle.spec_encoding.specs.Reader.{Kind, kinds, unknown, number, truthK, nameK, fieldK, record′, not, tableK, comprehension, generator, binding, condition, choiceK, openK, two-terms}
 use Rattle.base_syntax.specs.MonoidWord.{monoidOf}
 use Rattle.base_syntax.specs.Numbers.{monoidNumbered, constantOf}
-use Rattle.front_words.specs.NodeWord.{kindOf, argOf, startOf, nodeWord}
+use Rattle.front_words.specs.NodeWord.{nodeKindOf, argOf, startOf, nodeWord}
 
 -- monoids 1 to 8
 abbrev pub monoidAt : ℕ → Monoid
@@ -20,7 +20,7 @@ monoidAt k = monoidOf (monoidNumbered k)
 
 -- the kind and the argument of node i, and where the subtree of the node that ends at e begins, below e in any case
 abbrev pub kindAt : List ℕ → ℕ → Kind
-kindAt s i = getD kinds (kindOf (nodeWord s i)) unknown
+kindAt s i = getD kinds (nodeKindOf (nodeWord s i)) unknown
 
 abbrev pub argAt : List ℕ → ℕ → ℕ
 argAt s i = argOf (nodeWord s i)

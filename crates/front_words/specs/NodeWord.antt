@@ -5,8 +5,8 @@ use Prim.Native.Nat.{ℕ, _+_, _*_, _/_, _%_}
 use lib.ListN.{getD}
 use Rattle.base_scratch.specs.Map.{nodesAt}
 
-abbrev pub kindOf : ℕ → ℕ
-kindOf w = w % 32
+abbrev pub nodeKindOf : ℕ → ℕ
+nodeKindOf w = w % 32
 
 abbrev pub argOf : ℕ → ℕ
 argOf w = w / 32 % 8589934592

@@ -4,7 +4,7 @@ ghost use Prim.Native.Nat.{_+_, _≤_, _<_};
 ghost use lib.ListN.{set};
 ghost use Rattle.base_scratch.specs.Map.{nodesAt, names};
 ghost use Rattle.front_words.specs.Binders.{binderWord, putBinder};
-ghost use Rattle.front_words.specs.NodeWord.{kindOf, argOf, startOf, depthOf, pack, nodeWord};
+ghost use Rattle.front_words.specs.NodeWord.{nodeKindOf, argOf, startOf, depthOf, pack, nodeWord};
 ghost use Rattle.front_words.specs.NodeTree.{startAt};
 use base_scratch::BINDERS;
 use base_scratch::NAMES;
@@ -35,7 +35,7 @@ pub fn node_word(s: &[u64], i: usize) -> u64
 }
 
 pub fn kind(w: u64) -> u64
-    ensures { λ r. ⌜ r ≡ kindOf w ⌝ }
+    ensures { λ r. ⌜ r ≡ nodeKindOf w ⌝ }
 {
     w % KINDS
 }

@@ -12,7 +12,7 @@ use Rattle.spec_calculus.specs.Syntax.{and}
 use Rattle.spec_calculus.specs.Syntax as Sy
 use Rattle.base_syntax.specs.declared.Monoid.{Monoid}
 use Rattle.base_syntax.specs.MonoidWord.{monoidOf}
-use Rattle.base_syntax.specs.declared.Op.{Op}
+use Rattle.base_syntax.specs.declared.BinOp.{BinOp}
 use Rattle.base_syntax.specs.declared.Fun.{Fun}
 use Rattle.base_syntax.specs.declared.Fun.the-variants.{Choice, Open}
 use Rattle.base_syntax.specs.Numbers.{binOf, funOf, lentOf}
@@ -103,7 +103,7 @@ pub term-record : {s : List ℕ} {i e lim p q r t : ℕ} {o o₁ o₂ o₃ : Lis
 unfolding showTerm
 term-record H A B C = term-lays H (λ f l. lays-two A (lays-two (B .is f (omega (arith, H .inside .0, H .inside .1))) C))
 
-pub term-binary : {s : List ℕ} {i j lim p q r t u v : ℕ} {w : Op} {o o₁ o₂ o₃ o₄ o₅ : List ℕ} → Looks s i (N.Binary w j) → Lays lim (openText w) o p o₁ q → Text (left (i + 1)) (λ f. showTerm (termIn f s (i + 1))) lim o₁ q o₂ r → Lays lim (ascii " ") o₂ r o₃ t →
+pub term-binary : {s : List ℕ} {i j lim p q r t u v : ℕ} {w : BinOp} {o o₁ o₂ o₃ o₄ o₅ : List ℕ} → Looks s i (N.Binary w j) → Lays lim (openText w) o p o₁ q → Text (left (i + 1)) (λ f. showTerm (termIn f s (i + 1))) lim o₁ q o₂ r → Lays lim (ascii " ") o₂ r o₃ t →
     Text (left j) (λ f. showTerm (termIn f s j)) lim o₃ t o₄ u → Lays lim (ascii ")") o₄ u o₅ v → Text (left i) (λ f. showTerm (termIn f s i)) lim o p o₅ v
 unfolding showTerm
 term-binary {s} {i} {j} {lim} {p} {q} {r} {t} {u} {v} {w} H A B C D E = term-lays H (λ f l. lays-as
@@ -310,7 +310,7 @@ ops-none {s} {i} {lim} {p} {n} {o} H h = ops-lays H (λ f l. lays-as (ap showOps
 pub ops-record : {s : List ℕ} {i e lim p r : ℕ} {o o′ : List ℕ} → Looks s i (N.Record e) → Text (left (i + 1) + 1) (λ f. showOps (opsInF f s (i + 1) e)) lim o p o′ r → Text (left i) (λ f. showOps (opsIn f s i)) lim o p o′ r
 ops-record H A = ops-lays H (λ f l. A .is f (omega (arith, H .inside .0, H .inside .1)))
 
-pub ops-binary : {s : List ℕ} {i j lim p q r : ℕ} {w : Op} {o o₁ o₂ : List ℕ} → Looks s i (N.Binary w j) → Text (left (i + 1)) (λ f. showOps (opsIn f s (i + 1))) lim o p o₁ q → Text (left j) (λ f. showOps (opsIn f s j)) lim o₁ q o₂ r → Text (left i) (λ f. showOps (opsIn f s i)) lim o p o₂ r
+pub ops-binary : {s : List ℕ} {i j lim p q r : ℕ} {w : BinOp} {o o₁ o₂ : List ℕ} → Looks s i (N.Binary w j) → Text (left (i + 1)) (λ f. showOps (opsIn f s (i + 1))) lim o p o₁ q → Text (left j) (λ f. showOps (opsIn f s j)) lim o₁ q o₂ r → Text (left i) (λ f. showOps (opsIn f s i)) lim o p o₂ r
 ops-binary {s} {i} {j} H A B = ops-lays H (λ f l. lays-as (sym (show-append (opsIn f s (i + 1)) (opsIn f s j))) (lays-two (A .is f (omega (arith, H .inside .0, H .inside .1))) (B .is f (omega (arith, H .inside .0, H .inside .1)))))
 
 pub ops-operator : {s : List ℕ} {i e lim p r : ℕ} {w : Fun} {o o′ : List ℕ} → Looks s i (N.Operator w e) → Text (left (i + 1) + 1) (λ f. showOps (opsInF f s (i + 1) e)) lim o p o′ r → Text (left i) (λ f. showOps (opsIn f s i)) lim o p o′ r

@@ -16,13 +16,13 @@ use Rattle.form_prepared.specs.PreparedQuestion.{Prepared}
 use Rattle.spec_outcome.specs.Gives.{Settles}
 use Rattle.form_prepared.proofs.SettledOutcome.{settles-refused, settles-got}
 use Rattle.plan_marks.specs.PlanIn.{planAt, planIn}
-use Rattle.plan_marks.specs.Contract.{Laid, MakePlanPost}
+use Rattle.plan_marks.specs.Contract.{UnmarkedForm, MakePlanPost}
 use Rattle.plan_lines.specs.declared.Printed.the-variants.{Short, Length}
 use Rattle.base_text.specs.LaidText.{textLimit, Lays, Text}
 use Rattle.plan_lines.specs.PlanCall.{PlanLinesPost}
 use Rattle.base_text.proofs.LaidText.{lays-as, first-same, first-length, second-length, second-text}
 
-laid : {d : Bytes} {a : Accepted} {s : List ℕ} → Prepared d a s → Laid (a .form) s
+laid : {d : Bytes} {a : Accepted} {s : List ℕ} → Prepared d a s → UnmarkedForm (a .form) s
 laid P = record { fits = P .fits; lent = P .lent; few = P .few; held = P .held; blank = P .blank; long = omega (arith, P .long) }
 
 -- 33 and the buffer as it was, or the lines in it

@@ -6,7 +6,7 @@ use Prim.Native.Nat.{ℕ, pred, _+_, _<_}
 use Rattle.spec_calculus.specs.Lists.{pick}
 use Rattle.base_syntax.specs.declared.Monoid.{Monoid}
 use Rattle.base_syntax.specs.MonoidWord.{monoidOf}
-use Rattle.base_syntax.specs.declared.Op.{Op}
+use Rattle.base_syntax.specs.declared.BinOp.{BinOp}
 use Rattle.base_syntax.specs.declared.Fun.{Fun}
 use Rattle.base_syntax.specs.Numbers.{binOf, funOf}
 use Rattle.form_words.specs.NodeWord.{nodeAt}
@@ -27,7 +27,7 @@ abbrev pub cellText : ℕ → ℕ → List ℕ
 cellText c m = showTerm (pfield c (slotBy m))
 
 -- up to the first operand
-abbrev pub openText : Op → List ℕ
+abbrev pub openText : BinOp → List ℕ
 openText o = ascii "(" ++ (ascii (binName (binOf o)) ++ ascii " ")
 
 abbrev pub operatorText : Fun → List ℕ

@@ -14,15 +14,15 @@ use Rattle.plan_lines.specs.declared.Printed.the-variants.{Short, Length
 
 -- "An answer is 0 and its length ..; a refusal its number and length 0": "33: the plan call's byte buffer is shorter than the
 -- plan's lines"
-abbrev pub numberOf : Printed → ℕ
-numberOf Short = 33
-numberOf (Length n) = 0
+abbrev pub printedNumber : Printed → ℕ
+printedNumber Short = 33
+printedNumber (Length n) = 0
 
-abbrev pub lengthOf : Printed → ℕ
-lengthOf Short = 0
-lengthOf (Length n) = n
+abbrev pub printedLength : Printed → ℕ
+printedLength Short = 0
+printedLength (Length n) = n
 
 -- With whatever question stands in scratch: number, length and bytes are those of its plan's lines. Words from 2,048 on stay.
 pub record PlanLinesPost (s b s′ b′ : List ℕ) (r : Printed) : Type 0 where
-  pub is : (d : Bytes) (a : Accepted) → Prepared d a s → Settles (printed b a) b (numberOf r) (lengthOf r) b′
+  pub is : (d : Bytes) (a : Accepted) → Prepared d a s → Settles (printed b a) b (printedNumber r) (printedLength r) b′
   pub behind : (d : Bytes) (a : Accepted) → Prepared d a s → (j : ℕ) → scratchSize ≤ j → getD s′ j 0 ≡ getD s j 0

@@ -18,11 +18,11 @@ use Rattle.plan_machine.specs.MachineWords as Fl
 use Rattle.plan_machine.specs.AnswerText.{wordsTo, wordsToL, collects}
 use Rattle.plan_machine.proofs.Moves.{upd-miss, last-is}
 use Rattle.plan_machine.proofs.HeadOrder.{When}
-use Rattle.plan_machine.proofs.TextOverMoves.{Collection, merge-collection, start-collection}
+use Rattle.plan_machine.proofs.TextOverMoves.{IsCollection, merge-collection, start-collection}
 
 -- where a comprehension that is open collects, its accumulator is a collection
 abbrev Gathered : End → Value → Type 0
-Gathered e a = When (collects (e .monoid)) (Collection a)
+Gathered e a = When (collects (e .monoid)) (IsCollection a)
 
 abbrev pub Gathers : Program → Words → Path → Type 0
 Gathers q w Fl.start = Gathered (endOf q) (w .acc (before q))
@@ -57,7 +57,7 @@ module _ (T : Tables) (q : Program) where
   unfolding zeroOf
   zero-gathered i = go (collects (endOf i .monoid)) refl
     where
-      go : (b : Bool) → collects (endOf i .monoid) ≡ b → When b (Collection (start (endOf i .monoid)))
+      go : (b : Bool) → collects (endOf i .monoid) ≡ b → When b (IsCollection (start (endOf i .monoid)))
       go true h = start-collection (endOf i .monoid) h
       go false h = tt
 
@@ -79,7 +79,7 @@ module _ (T : Tables) (q : Program) where
   unfolding takes
   takes-gathered e π w a h = go (collects (e .monoid)) refl (meets (e .condition) (row T w π)) h
     where
-      go : (b : Bool) → collects (e .monoid) ≡ b → (d : Bool) → When b (Collection a) → When b (Collection (pick d (merge (e .monoid) a (evalP (e .head) (row T w π))) a))
+      go : (b : Bool) → collects (e .monoid) ≡ b → (d : Bool) → When b (IsCollection a) → When b (IsCollection (pick d (merge (e .monoid) a (evalP (e .head) (row T w π))) a))
       go true k true h = unfold pick in merge-collection (evalP (e .head) (row T w π)) (e .monoid) k a
       go true k false h = unfold pick in h
       go false k d h = tt
@@ -96,8 +96,8 @@ module _ (T : Tables) (q : Program) where
       (λ j k. sym (upd-miss (Fl.pos π) b (w .acc) j (λ x. omega (arith, x, l, k)))) g
 
   -- an inner collection that is used up
-  pub gathers-shut : (π : Path) (i p : Program) (w : Words) → collects (endOf i .monoid) ≡ true → Gathers q w (inP π i p) → Collection (w .acc (Fl.pos π + before i))
-  gathers-shut π i p w h g = subst (λ b. When b (Collection (w .acc (Fl.pos π + before i)))) h (g .0)
+  pub gathers-shut : (π : Path) (i p : Program) (w : Words) → collects (endOf i .monoid) ≡ true → Gathers q w (inP π i p) → IsCollection (w .acc (Fl.pos π + before i))
+  gathers-shut π i p w h g = subst (λ b. When b (IsCollection (w .acc (Fl.pos π + before i)))) h (g .0)
 
 -- the words are as many where a count is cut
 module _ (m : ℕ) where

@@ -13,7 +13,7 @@ use Rattle.spec_calculus.specs.Value.{Value, num, rec, fromList, asInt, 
 use Rattle.spec_calculus.proofs.Lists.{All, all-imp}
 
 -- a record of so many numbers, each within four signed bytes
-pub record Row (columns : ℕ) (v : Value) : Type 0 where
+pub record WellFormedRow (columns : ℕ) (v : Value) : Type 0 where
   pub cells : List ℤ
   pub is : v ≡ rec (fromList (map num cells))
   pub width : length cells ≡ columns
@@ -27,7 +27,7 @@ CellsWithin b v = (i : ℕ) → natAbs (asInt (fieldOf i v)) ≤ b i
 pub record RowsFit (t : Table) : Type 0 where
   pub columns-most : t .columns ≤ 8
   pub rows-most : length (t .rows) ≤ 1024
-  pub rows-are : All (Row (t .columns)) (t .rows)
+  pub rows-are : All (WellFormedRow (t .columns)) (t .rows)
   pub bounds-count : length (t .bounds) ≡ t .columns
   pub bounds-most : All (λ b. b ≤ 2 ^ 31) (t .bounds)
   pub rows-within : All (CellsWithin (λ i. getD (t .bounds) i 0)) (t .rows)
@@ -59,7 +59,7 @@ nth-cells [] (suc i) = refl
 nth-cells (z ∷ zs) zero = refl
 nth-cells (z ∷ zs) (suc i) = nth-cells zs i
 
-module _ {n : ℕ} {v : Value} (r : Row n v) where
+module _ {n : ℕ} {v : Value} (r : WellFormedRow n v) where
   -- Each field of a row is the number in its column; a field past the last column reads as 0.
   pub row-field : (i : ℕ) → fieldOf i v ≡ num (getD (r .cells) i (pos 0))
   unfolding fieldOf
@@ -93,7 +93,7 @@ module _ {T : Tables} (W : WellFormed T) (k : ℕ) where
   rows-at-most = fit-at T (W .tables-are) k .rows-most
 
   -- Every row of a table is a record of as many numbers as the table has columns, each of magnitude at most 2^31.
-  pub rows-well-formed : All (Row (columnsOf T k)) (rowsOf T k)
+  pub rows-well-formed : All (WellFormedRow (columnsOf T k)) (rowsOf T k)
   unfolding rowsOf columnsOf
   rows-well-formed = fit-at T (W .tables-are) k .rows-are
 

@@ -6,7 +6,7 @@ use Prim.Native.String.{String}
 use lib.IntN.{ℤ, pos, negsuc}
 use lib.ListN.{replicate}
 use Rattle.spec_calculus.specs.Syntax.{Collection, bag, set, Monoid, of, sum, max, min, some, all, plus, minus, times, equal, less, and, choice, Term, num, truth, name, field, rec, bin, app, comp, table, tnil, tcons, qnil, gen, cond, Question}
-use Rattle.spec_calculus.specs.Value.{Value, vnil, vcons, coll, Table, Tables, noTable}
+use Rattle.spec_calculus.specs.Value.{Value, vnil, vcons, coll, Table, Tables, noTable, noTables}
 use Rattle.spec_calculus.specs.Value as Va
 
 -- a question over tables, and what it gives: its value, its written words and G; the lines of its plan; or the refusal's number; the
@@ -38,10 +38,7 @@ twice = pair 1 90 ∷ pair 1 90 ∷ []
 abbrev pub bollards : List Value
 bollards = pair 1 50 ∷ pair 1 60 ∷ []
 
--- no table of the eight numbers, table 0 alone, tables 0 and 1 (document 02, E9)
-abbrev pub noneThere : Tables
-noneThere = replicate 8 noTable
-
+-- table 0 alone, tables 0 and 1 (document 02, E9)
 abbrev pub tableZero : Table → Tables
 tableZero t = t ∷ replicate 7 noTable
 
@@ -163,15 +160,15 @@ starred =
     -- "As a set comprehension over the same rows: 1 1 110, with G 5."
     ∷ answers (harbour twice bollards) (perBerth set load) (coll (vcons (pair 1 110) vnil)) (pos 1 ∷ pos 1 ∷ pos 110 ∷ []) 5
     -- "Sum without qualifiers of 7: 7."
-    ∷ answers noneThere (alone sum (num (pos 7))) (Va.num (pos 7)) (pos 7 ∷ []) 1
+    ∷ answers noTables (alone sum (num (pos 7))) (Va.num (pos 7)) (pos 7 ∷ []) 1
     -- "All over an empty table: true."
     ∷ answers (tableZero (tableOf bag [])) (over all (truth false)) (Va.truth true) (pos 1 ∷ []) 1
     -- "The case "max of −3" becomes −3." (document 02, E1)
-    ∷ answers noneThere (alone max (num (negsuc 2))) (Va.num (negsuc 2)) (negsuc 2 ∷ []) 1
+    ∷ answers noTables (alone max (num (negsuc 2))) (Va.num (negsuc 2)) (negsuc 2 ∷ []) 1
     -- "max over at least one qualifying row is the greatest head; over none it is 0" (02, E1), and min mirrored
     ∷ answers (tableZero (tableOf bag [])) (over max (field 1 (name 0))) (Va.num (pos 0)) (pos 0 ∷ []) 1
     ∷ answers (tableZero (tableOf bag [])) (over min (bin times (field 1 (name 0)) (field 1 (name 0)))) (Va.num (pos 0)) (pos 0 ∷ []) 1
-    ∷ answers noneThere (alone min (num (pos 3))) (Va.num (pos 3)) (pos 3 ∷ []) 1
+    ∷ answers noTables (alone min (num (pos 3))) (Va.num (pos 3)) (pos 3 ∷ []) 1
     -- of berth 1 alone; the 0 of berth 2, which has no bollards, is a head like any other
     ∷ answers (harbour twice bollards) highest (Va.num (negsuc 49)) (negsuc 49 ∷ []) 1
     ∷ answers (harbour berths bollards) highest (Va.num (pos 0)) (pos 0 ∷ []) 1
@@ -183,10 +180,10 @@ starred =
     ∷ answers (tableZero (tableOf set twice)) (over (of set) (field 1 (name 0))) (coll (vcons (Va.num (pos 90)) vnil)) (pos 1 ∷ pos 90 ∷ []) 3
     -- "a truth, then two numbers or two truths, meaning the first of the two where the truth is true and else the second" (02, E2)
     ∷ answers (harbour berths bollards) (over (of bag) (either (bin equal (field 0 (name 0)) (num (pos 1))) (field 1 (name 0)) (num (pos 7)))) (coll (vcons (Va.num (pos 7)) (vcons (Va.num (pos 90)) vnil))) (pos 2 ∷ pos 7 ∷ pos 90 ∷ []) 3
-    ∷ answers noneThere (alone all (either (truth false) (truth false) (truth true))) (Va.truth true) (pos 1 ∷ []) 1
-    ∷ refuses noneThere (alone (of bag) (either (truth true) (num (pos 1)) (truth true))) 25
-    ∷ refuses noneThere (alone sum (either (num (pos 1)) (num (pos 1)) (num (pos 2)))) 25
-    ∷ refuses noneThere (alone (of bag) (either (truth true) (rec (tcons (num (pos 1)) tnil)) (rec (tcons (num (pos 1)) tnil)))) 25
+    ∷ answers noTables (alone all (either (truth false) (truth false) (truth true))) (Va.truth true) (pos 1 ∷ []) 1
+    ∷ refuses noTables (alone (of bag) (either (truth true) (num (pos 1)) (truth true))) 25
+    ∷ refuses noTables (alone sum (either (num (pos 1)) (num (pos 1)) (num (pos 2)))) 25
+    ∷ refuses noTables (alone (of bag) (either (truth true) (rec (tcons (num (pos 1)) tnil)) (rec (tcons (num (pos 1)) tnil)))) 25
     -- "Comprehensions inside it are planned in written order; it prints as (if c a b)."
     ∷ answers (harbour berths bollards) loads (coll (vcons (Va.num (pos 60)) (vcons (Va.num (pos 110)) vnil))) (pos 2 ∷ pos 60 ∷ pos 110 ∷ []) 3
     ∷ prints (harbour berths bollards) loads "one\njoin 0 true\nouter 1 (= (. 0 $1) (. 0 $0))\nnest 1 sum 1 true\nouter 1 (= (. 0 $2) (. 0 $0))\nnest 2 sum (. 1 $2) true\nouter 1 true\nnest 3 max (. 1 $3) true\nreduce bag (if (< 1 $1) $2 $3) true\n"
@@ -195,11 +192,11 @@ starred =
     ∷ prints (harbour berths bollards) short "one\njoin 0 (if true (and (< 0 (. 1 $0)) (< (. 1 $0) 80)) false)\nreduce bag (. 0 $0) true\n"
     ∷ prints (harbour berths bollards) thrice "one\njoin 0 true\njoin 0 (if (< (. 0 $0) 2) true (< (. 0 $1) 2))\njoin 0 true\nreduce bag (. 0 $0) true\n"
     -- "Its bound is the larger one": 2^62, not the sum; of the second as of the first; and every number in it has its own
-    ∷ answers noneThere (alone sum (either (truth true) greatest greatest)) (Va.num (pos 4611686018427387904)) (pos 4611686018427387904 ∷ []) 1
-    ∷ refuses noneThere (alone sum (bin plus (either (truth true) (num (pos 1)) greatest) (num (pos 1)))) 28
-    ∷ refuses noneThere (alone sum (bin plus (either (truth false) greatest (num (pos 1))) (num (pos 1)))) 28
-    ∷ refuses noneThere (alone sum (either (truth true) (num (pos 1)) (bin plus greatest (num (pos 1))))) 28
-    ∷ refuses noneThere (alone sum (either (bin less (bin plus greatest (num (pos 1))) (num (pos 1))) (num (pos 1)) (num (pos 2)))) 28
+    ∷ answers noTables (alone sum (either (truth true) greatest greatest)) (Va.num (pos 4611686018427387904)) (pos 4611686018427387904 ∷ []) 1
+    ∷ refuses noTables (alone sum (bin plus (either (truth true) (num (pos 1)) greatest) (num (pos 1)))) 28
+    ∷ refuses noTables (alone sum (bin plus (either (truth false) greatest (num (pos 1))) (num (pos 1)))) 28
+    ∷ refuses noTables (alone sum (either (truth true) (num (pos 1)) (bin plus greatest (num (pos 1))))) 28
+    ∷ refuses noTables (alone sum (either (bin less (bin plus greatest (num (pos 1))) (num (pos 1))) (num (pos 1)) (num (pos 2)))) 28
     -- "Sums of cell products are refused by 28 although no bollard carries over 300 tonnes .. the bound rule .. use[s] it for 2^31" (02, E5)
     ∷ answers (tableZero (declared bag 1 300 bollards)) products (Va.num (pos 12100)) (pos 12100 ∷ []) 1
     ∷ refuses (tableZero (tableOf bag bollards)) products 28

@@ -5,7 +5,7 @@ use Prim.Native.Nat.{ℕ, zero, suc}
 use lib.Dec.{eqb, leb}
 use lib.IntN.{ℤ, pos, negsuc, _+ℤ_, _-ℤ_, _*ℤ_}
 use lib.Signed.{ltZ}
-use lib.ListN.{getD}
+use lib.ListN.{getD, replicate}
 use Rattle.spec_calendar.specs.Hours.{openAt}
 use Rattle.spec_calculus.specs.Lists.{pick}
 use Rattle.spec_calculus.specs.Syntax.{Collection, list, Bin, plus, minus, times, equal, less, and, or, Fun, choice, isOpen}
@@ -117,6 +117,10 @@ Tables = List Table
 
 abbrev pub noTable : Table
 noTable = record { kind = list; columns = 0; bounds = []; rows = [] }
+
+-- each of the eight numbers is absent
+abbrev pub noTables : Tables
+noTables = replicate 8 noTable
 
 unfoldable pub kindOf : Tables → ℕ → Collection
 kindOf T k = getD T k noTable .kind

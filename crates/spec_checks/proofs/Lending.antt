@@ -11,7 +11,7 @@ use Rattle.spec_calculus.specs.Value.{Tables}
 use Rattle.spec_checks.specs.Scope.{Scope, inScope, inScopes, inScopeQ, binders, bindersL, bindersQ, distinct, namesHold}
 use Rattle.spec_checks.specs.Types.{Typed, Tys, has, wrong, fieldType, ofTruth, ofOne, ofThree, binType, compType, ranges, typedAs, allTyped, appType, record″, consType, Context, typeOf, typesOf, typeOfQ, mayStand, isTyped, typesFit, generatorsFit}
 use Rattle.spec_checks.specs.Types as Types
-use Rattle.spec_checks.specs.Calendars.{lentOp, lentT, lentTs, lentQ, calendarsLent}
+use Rattle.spec_checks.specs.Calendars.{namedLentOp, namedLentT, namedLentTs, namedLentQ, calendarsLent}
 
 module _ (K : ℕ → Calendar) where
   mutual
@@ -108,15 +108,15 @@ module _ (K : ℕ → Calendar) where
   generators-lent T q = ap isTyped (type-lent mayStand T (asTerm q) (λ x. wrong))
 
   module _ (k : ℕ) where
-    named-lent : (f : Fun) → lentOp k (lendOp K f) ≡ lentOp k f
-    unfolding lentOp lendOp
+    named-lent : (f : Fun) → namedLentOp k (lendOp K f) ≡ namedLentOp k f
+    unfolding namedLentOp lendOp
     named-lent choice = refl
     named-lent (isOpen n c) = refl
 
     mutual
-      unfolding lentT lendT
+      unfolding namedLentT lendT
 
-      lent-lent : (t : Term) → lentT k (lendT K t) ≡ lentT k t
+      lent-lent : (t : Term) → namedLentT k (lendT K t) ≡ namedLentT k t
       lent-lent (num z) = refl
       lent-lent (truth b) = refl
       lent-lent (name x) = refl
@@ -128,11 +128,11 @@ module _ (K : ℕ → Calendar) where
       lent-lent (comp m qs h) = ap₂ _&&_ (lentQ-lent qs) (lent-lent h)
       lent-lent (table j) = refl
 
-      lents-lent : (ts : Terms) → lentTs k (lendTs K ts) ≡ lentTs k ts
+      lents-lent : (ts : Terms) → namedLentTs k (lendTs K ts) ≡ namedLentTs k ts
       lents-lent tnil = refl
       lents-lent (tcons t ts) = ap₂ _&&_ (lent-lent t) (lents-lent ts)
 
-      lentQ-lent : (qs : Quals) → lentQ k (lendQ K qs) ≡ lentQ k qs
+      lentQ-lent : (qs : Quals) → namedLentQ k (lendQ K qs) ≡ namedLentQ k qs
       lentQ-lent qnil = refl
       lentQ-lent (gen x t qs) = ap₂ _&&_ (lent-lent t) (lentQ-lent qs)
       lentQ-lent (bind x t qs) = ap₂ _&&_ (lent-lent t) (lentQ-lent qs)

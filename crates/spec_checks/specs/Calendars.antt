@@ -5,33 +5,33 @@ use lib.Dec.{ltb}
 use Rattle.spec_calculus.specs.Syntax.{Fun, choice, isOpen, Term, Terms, Quals, num, truth, name, field, rec, bin, negate, app, comp, table, tnil, tcons, qnil, gen, bind, cond, Question, asTerm}
 
 -- "numbered by position from 0": of k calendars
-unfoldable pub lentOp : ℕ → Fun → Bool
-lentOp k choice = true
-lentOp k (isOpen n c) = ltb n k
+unfoldable pub namedLentOp : ℕ → Fun → Bool
+namedLentOp k choice = true
+namedLentOp k (isOpen n c) = ltb n k
 
 -- every calendar that is named is one of k
 unfoldable mutual
-  pub lentT : ℕ → Term → Bool
-  lentT k (num z) = true
-  lentT k (truth b) = true
-  lentT k (name x) = true
-  lentT k (field i t) = lentT k t
-  lentT k (rec ts) = lentTs k ts
-  lentT k (bin o s t) = lentT k s && lentT k t
-  lentT k (negate t) = lentT k t
-  lentT k (app f ts) = lentOp k f && lentTs k ts
-  lentT k (comp m qs h) = lentQ k qs && lentT k h
-  lentT k (table j) = true
+  pub namedLentT : ℕ → Term → Bool
+  namedLentT k (num z) = true
+  namedLentT k (truth b) = true
+  namedLentT k (name x) = true
+  namedLentT k (field i t) = namedLentT k t
+  namedLentT k (rec ts) = namedLentTs k ts
+  namedLentT k (bin o s t) = namedLentT k s && namedLentT k t
+  namedLentT k (negate t) = namedLentT k t
+  namedLentT k (app f ts) = namedLentOp k f && namedLentTs k ts
+  namedLentT k (comp m qs h) = namedLentQ k qs && namedLentT k h
+  namedLentT k (table j) = true
 
-  pub lentTs : ℕ → Terms → Bool
-  lentTs k tnil = true
-  lentTs k (tcons t ts) = lentT k t && lentTs k ts
+  pub namedLentTs : ℕ → Terms → Bool
+  namedLentTs k tnil = true
+  namedLentTs k (tcons t ts) = namedLentT k t && namedLentTs k ts
 
-  pub lentQ : ℕ → Quals → Bool
-  lentQ k qnil = true
-  lentQ k (gen x t qs) = lentT k t && lentQ k qs
-  lentQ k (bind x t qs) = lentT k t && lentQ k qs
-  lentQ k (cond t qs) = lentT k t && lentQ k qs
+  pub namedLentQ : ℕ → Quals → Bool
+  namedLentQ k qnil = true
+  namedLentQ k (gen x t qs) = namedLentT k t && namedLentQ k qs
+  namedLentQ k (bind x t qs) = namedLentT k t && namedLentQ k qs
+  namedLentQ k (cond t qs) = namedLentT k t && namedLentQ k qs
 
 unfoldable pub calendarsLent : ℕ → Question → Bool
-calendarsLent k q = lentT k (asTerm q)
+calendarsLent k q = namedLentT k (asTerm q)

@@ -10,11 +10,11 @@ use lib.Dec.{ltb, leb}
 use lib.IntN.{ℤ, pos, negsuc, natAbs}
 use lib.ListN.{length, getD, drop, length-set, List·getD-eq-default}
 use lib.ListN as Li
-use Rattle.spec_calculus.specs.Value.{Value, vcons, num, rec, fromList, asInt, fieldOf, Table, Tables, noTable, isThere}
+use Rattle.spec_calculus.specs.Value.{Value, vcons, num, rec, fromList, asInt, fieldOf, Table, Tables, noTable, isThere, noTables}
 use Rattle.spec_calculus.proofs.Lists.{All}
-use Rattle.spec_calculus.proofs.WellFormed.{Row, row-field, CellsWithin, WellFormedTable, WellFormedAt, WellFormed}
+use Rattle.spec_calculus.proofs.WellFormed.{WellFormedRow, row-field, CellsWithin, WellFormedTable, WellFormedAt, WellFormed}
 use Rattle.spec_encoding.specs.Record.{Bytes, Result, refused, got, require, four, signed, kindOf, contentOf, behind}
-use Rattle.spec_encoding.specs.Data.{boundsFrom, cells, rowsFrom, isTable, tableNumber, tableCollection, tableColumns, tableRows, boundsAt, fits, tableOf, contentBy, tableBy, boundsFit, cellsWithin, rowsWithin, bounded, tablesFrom, noTables, readData}
+use Rattle.spec_encoding.specs.Data.{boundsFrom, cells, rowsFrom, isTable, tableNumber, tableCollection, tableColumns, tableRows, boundsAt, fits, tableOf, contentBy, tableBy, boundsFit, cellsWithin, rowsWithin, bounded, tablesFrom, readData}
 use Rattle.spec_encoding.proofs.Arrangement.{by-fit}
 
 -- Four bytes read as a signed number are of magnitude at most 2^31.
@@ -46,10 +46,10 @@ unfolding numbers
 numbers-small zero l = tt
 numbers-small (suc n) l = (signed-small (four l 0), numbers-small n (drop 4 l))
 
-row-read : (n : ℕ) (l : Bytes) → Row n (rec (cells n l))
+row-read : (n : ℕ) (l : Bytes) → WellFormedRow n (rec (cells n l))
 row-read n l = record { cells = numbers n l; is = ap rec (cells-are n l); width = numbers-length n l; small = numbers-small n l }
 
-rows-read : (columns n : ℕ) (l : Bytes) → All (Row columns) (rowsFrom columns n l)
+rows-read : (columns n : ℕ) (l : Bytes) → All (WellFormedRow columns) (rowsFrom columns n l)
 unfolding rowsFrom
 rows-read columns zero l = tt
 rows-read columns (suc n) l = (row-read columns l, rows-read columns n (drop (4 * columns) l))
@@ -81,7 +81,7 @@ cells-within i (b ∷ bs) v h (suc j) l =
     let p = and-eq-true-iff (leb (natAbs (asInt (fieldOf i v))) b) (cellsWithin (suc i) bs v) .0 h in
     subst (λ (k : ℕ). natAbs (asInt (fieldOf k v)) ≤ getD bs j 0) (omega arith) (cells-within (suc i) bs v (p .1) j (omega arith))
 
-row-within : (bs : List ℕ) {v : Value} → Row (length bs) v → cellsWithin 0 bs v ≡ true → CellsWithin (λ i. getD bs i 0) v
+row-within : (bs : List ℕ) {v : Value} → WellFormedRow (length bs) v → cellsWithin 0 bs v ≡ true → CellsWithin (λ i. getD bs i 0) v
 unfolding asInt
 row-within bs {v} r h i = go (ltb i (length bs)) refl
   where
@@ -89,7 +89,7 @@ row-within bs {v} r h i = go (ltb i (length bs)) refl
     go true e = subst (λ (k : ℕ). natAbs (asInt (fieldOf k v)) ≤ getD bs i 0) (omega arith) (cells-within 0 bs v h i (ltb-true i (length bs) e))
     go false e = let past : length (r .cells) ≤ i = omega (arith, r .width, ltb-false i (length bs) e) in rw (row-field r i, List·getD-eq-default (r .cells) (pos 0) past) (omega arith)
 
-rows-within : (bs : List ℕ) (l : List Value) → All (Row (length bs)) l → rowsWithin bs l ≡ true → All (CellsWithin (λ i. getD bs i 0)) l
+rows-within : (bs : List ℕ) (l : List Value) → All (WellFormedRow (length bs)) l → rowsWithin bs l ≡ true → All (CellsWithin (λ i. getD bs i 0)) l
 unfolding rowsWithin
 rows-within bs [] r h = tt
 rows-within bs (v ∷ l) r h = let p = and-eq-true-iff (cellsWithin 0 bs v) (rowsWithin bs l) .0 h in (row-within bs (r .0) (p .0), rows-within bs l (r .1) (p .1))
@@ -141,7 +141,7 @@ table-read c h b =
         rows-are = rows-read (tableColumns c) (tableRows c) l;
         bounds-count = w;
         bounds-most = bounds-small bs (p .0);
-        rows-within = rows-within bs (rowsFrom (tableColumns c) (tableRows c) l) (subst (λ n. All (Row n) (rowsFrom (tableColumns c) (tableRows c) l)) (sym w) (rows-read (tableColumns c) (tableRows c) l)) (p .1);
+        rows-within = rows-within bs (rowsFrom (tableColumns c) (tableRows c) l) (subst (λ n. All (WellFormedRow n) (rowsFrom (tableColumns c) (tableRows c) l)) (sym w) (rows-read (tableColumns c) (tableRows c) l)) (p .1);
       },
     )
 

@@ -4,9 +4,9 @@ use mathlib.Core.Bool.{Bool, true, false}
 use Prim.Native.Nat.{ℕ, zero, suc}
 use lib.ListN.{getD, drop}
 use Rattle.spec_calculus.specs.Syntax.{Monoid, Term, Question, tnil}
-use Rattle.spec_calculus.specs.Value.{Tables}
+use Rattle.spec_calculus.specs.Value.{Tables, noTables}
 use Rattle.spec_encoding.specs.Record.{Bytes, Result, refused, got, andThen, require, kindOf, contentOf, behind}
-use Rattle.spec_encoding.specs.Data.{tablesFrom, noTables, readData}
+use Rattle.spec_encoding.specs.Data.{tablesFrom, readData}
 use Rattle.spec_encoding.specs.Reader.{Kind, number, truthK, nameK, fieldK, record′, not, choiceK, openK, tableK, comprehension, generator, binding, condition, unknown, two-terms, monoids, Part, term, generates, binds, holds, Step, Read, Reader, noMore, asTerm, oneTerm, filled, terms, inFront, onPart, parts, comprehends, named, content, atRecord, readPart, readQuestion}
 
 -- a result that, where it is a refusal, is one by a number of P

@@ -5,12 +5,12 @@ use mathlib.Core.List.{List, [], _∷_, _++_}
 use mathlib.Core.Bool.{Bool, true, not, _&&_, _||_}
 use Prim.Native.Nat.{ℕ, zero, suc, _+_, _*_, _^_, _<_}
 use lib.Dec.{eqb, leb}
-use lib.ListN.{length, getD, take, drop, replicate}
+use lib.ListN.{length, getD, take, drop}
 use lib.ListN as Li
 use lib.IntN.{natAbs}
 use Rattle.spec_calculus.specs.Lists.{pick}
 use Rattle.spec_calculus.specs.Syntax.{Collection, list, bag, set}
-use Rattle.spec_calculus.specs.Value.{Value, Values, vnil, vcons, num, rec, asInt, fieldOf, Table, Tables, noTable, isThere}
+use Rattle.spec_calculus.specs.Value.{Value, Values, vnil, vcons, num, rec, asInt, fieldOf, Table, Tables, noTables, isThere}
 use Rattle.spec_encoding.specs.Record.{Bytes, Result, refused, got, require, byte, two, four, signed, lengthOf, kindOf, contentOf, behind, isWhole}
 use Rattle.spec_encoding.specs.Columns.{byColumns, byRows}
 
@@ -145,10 +145,6 @@ tablesFrom (suc n) T (b ∷ l) =
     (require 51 (not (isThere T (tableNumber c)))
     (require 43 (bounded t)
     (tablesFrom n (Li.set T (tableNumber c) t) (behind r))))))
-
--- no record has been read: each number is absent
-abbrev pub noTables : Tables
-noTables = replicate 8 noTable
 
 -- "Tables that keep these rules, no table at all included, are well formed": the data that this does not refuse
 unfoldable pub readData : Bytes → Result Tables

@@ -19,7 +19,7 @@ use Rattle.spec_calculus.specs.Monoid.{start, greater, lesser, Entry, step, tot
 use Rattle.spec_calculus.specs.Meaning.{Env}
 use Rattle.spec_calculus.proofs.Lists.{All, all-zip, all-imp, all-bind, all-front, all-behind, all-guard}
 use Rattle.spec_calculus.proofs.Magnitude.{abs-plus, abs-minus, abs-times, abs-greater, abs-lesser, abs-against}
-use Rattle.spec_calculus.proofs.WellFormed.{Row, CellsWithin, row-no-number, WellFormed, rows-at-most, rows-well-formed, rows-in-bounds}
+use Rattle.spec_calculus.proofs.WellFormed.{WellFormedRow, CellsWithin, row-no-number, WellFormed, rows-at-most, rows-well-formed, rows-in-bounds}
 use Rattle.spec_calculus.proofs.Truths.{both}
 use Rattle.spec_normal_form.specs.Form.{Form, Forms, Clauses, NormalForm, asForm, num, truth, row, cell, rec, bin, negate, app, comp, fnil, fcons, done, gen, cond, value, values, loops}
 use Rattle.spec_normal_form.specs.Bound.{ownGens, binBound, larger, appBound, compBound, Declared, bound, bounds, within, withinF, withinC, declared, numbersFit}
@@ -48,7 +48,7 @@ pub record Cells (b : ℕ → ℕ) (v : Value) : Type 0 where
 abbrev pub RowsIn : Declared → Env → Type 0
 RowsIn C ρ = (g : ℕ) → Cells (C g) (ρ g)
 
-pub row-cells : {n : ℕ} {b : ℕ → ℕ} {v : Value} → Row n v → CellsWithin b v → Cells b v
+pub row-cells : {n : ℕ} {b : ℕ → ℕ} {v : Value} → WellFormedRow n v → CellsWithin b v → Cells b v
 row-cells r w = record { no-number = row-no-number r; fields = w }
 
 -- Where no generator has run yet.
@@ -70,8 +70,8 @@ rows-next {C} {b} {v} g ρ e r R x = go (eqb g x) refl
 
 -- ---- folds over heads of a given magnitude
 -- read as a number, of magnitude at most b
-abbrev pub Small : ℕ → Value → Type 0
-Small b v = natAbs (asInt v) ≤ b
+abbrev pub WithinBound : ℕ → Value → Type 0
+WithinBound b v = natAbs (asInt v) ≤ b
 
 -- the bound of a monoid over n heads, each within b
 unfoldable pub foldBound : Monoid → ℕ → ℕ → ℕ
@@ -91,7 +91,7 @@ fold-more min b h = le-refl b
 fold-more some b h = omega arith
 fold-more all b h = omega arith
 
-start-small : (m : Monoid) (b : ℕ) → Small b (start m)
+start-small : (m : Monoid) (b : ℕ) → WithinBound b (start m)
 unfolding start asInt
 start-small (of c) b = omega arith
 start-small sum b = omega arith
@@ -101,7 +101,7 @@ start-small some b = omega arith
 start-small all b = omega arith
 
 -- One more head.
-pub step-bound : (E : Entry) (m : Monoid) (b n : ℕ) (v w : Value) → Small b v → Small (foldBound m n b) w → Small (foldBound m (suc n) b) (step E m v w)
+pub step-bound : (E : Entry) (m : Monoid) (b n : ℕ) (v w : Value) → WithinBound b v → WithinBound (foldBound m n b) w → WithinBound (foldBound m (suc n) b) (step E m v w)
 unfolding step foldBound asInt
 step-bound E (of c) b n v w p q = omega arith
 step-bound E sum b n v w p q = omega (arith, abs-plus (asInt v) (asInt w), suc-mul n b)
@@ -111,7 +111,7 @@ step-bound E some b n v w p q = omega arith
 step-bound E all b n v w p q = omega arith
 
 -- a total, and the value that it comes to
-finish-small : (m : Monoid) (w : Value) (b : ℕ) → Small b w → Small b (finish m w)
+finish-small : (m : Monoid) (w : Value) (b : ℕ) → WithinBound b w → WithinBound b (finish m w)
 unfolding finish asInt
 finish-small (of c) w b h = h
 finish-small sum w b h = h
@@ -126,17 +126,17 @@ taken E m w v = step E m v w
 
 module _ (E : Entry) (m : Monoid) (b : ℕ) where
   -- Heads within b, folded from the right, are within the bound of their count: a sum within length times b, a max or min within b.
-  total-right : (l : List Value) → All (Small b) l → Small (foldBound m (length l) b) (total E m l)
+  total-right : (l : List Value) → All (WithinBound b) l → WithinBound (foldBound m (length l) b) (total E m l)
   unfolding total
   total-right [] h = start-small m (foldBound m 0 b)
   total-right (v ∷ l) h = step-bound E m b (length l) v (total E m l) (h .0) (total-right l (h .1))
 
-  pub fold-right : (l : List Value) → All (Small b) l → Small (foldBound m (length l) b) (foldBy E m l)
+  pub fold-right : (l : List Value) → All (WithinBound b) l → WithinBound (foldBound m (length l) b) (foldBy E m l)
   unfolding foldBy
   fold-right l h = finish-small m (total E m l) (foldBound m (length l) b) (total-right l h)
 
   -- The same from the left, as a loop accumulates, where w is within the bound of n heads.
-  pub fold-left : (n : ℕ) (w : Value) (l : List Value) → Small (foldBound m n b) w → All (Small b) l → Small (foldBound m (n + length l) b) (foldl (taken E m) w l)
+  pub fold-left : (n : ℕ) (w : Value) (l : List Value) → WithinBound (foldBound m n b) w → All (WithinBound b) l → WithinBound (foldBound m (n + length l) b) (foldl (taken E m) w l)
   fold-left n w [] p h = le-trans p (fold-more m b (omega arith))
   fold-left n w (v ∷ l) p h = le-trans (fold-left (suc n) (taken E m w v) l (step-bound E m b n v w (h .0) p) (h .1)) (fold-more m b (omega arith))
 
@@ -149,8 +149,8 @@ power g = ap (λ (n : ℕ). 1024 ^ n) (one-add g) ∙ pow-succ' 1024 g
 
 -- Every row of a table is within what the table's columns declare.
 pub table-cells : {T : Tables} → WellFormed T → (k : ℕ) → All (Cells (boundOf T k)) (rowsOf T k)
-table-cells {T} W k = all-imp (λ v. Row (columnsOf T k) v × CellsWithin (boundOf T k) v) (Cells (boundOf T k)) (rowsOf T k)
-    (all-zip (Row (columnsOf T k)) (CellsWithin (boundOf T k)) (rowsOf T k) (rows-well-formed W k) (rows-in-bounds W k)) (λ v r. row-cells (r .0) (r .1))
+table-cells {T} W k = all-imp (λ v. WellFormedRow (columnsOf T k) v × CellsWithin (boundOf T k) v) (Cells (boundOf T k)) (rowsOf T k)
+    (all-zip (WellFormedRow (columnsOf T k)) (CellsWithin (boundOf T k)) (rowsOf T k) (rows-well-formed W k) (rows-in-bounds W k)) (λ v r. row-cells (r .0) (r .1))
 
 module _ (F : Fold) {T : Tables} (W : WellFormed T) where
   -- What holds of the heads wherever generators stand for rows holds of all heads.
@@ -174,7 +174,7 @@ module _ (F : Fold) {T : Tables} (W : WellFormed T) where
 
 -- ---- operands
 -- Plus, minus and times of numbers within a and b are within the result's bound.
-pub bin-bound : (o : Bin) (v w : Value) (a b : ℕ) → Small a v → Small b w → Small (binBound o a b) (binV o v w)
+pub bin-bound : (o : Bin) (v w : Value) (a b : ℕ) → WithinBound a v → WithinBound b w → WithinBound (binBound o a b) (binV o v w)
 unfolding binV binBound asInt
 bin-bound plus v w a b p q = omega (arith, abs-plus (asInt v) (asInt w))
 bin-bound minus v w a b p q = omega (arith, abs-minus (asInt v) (asInt w))
@@ -192,24 +192,24 @@ larger-bounds a b = go (leb a b) refl
     go true p = (leb-true a b p, le-refl b)
     go false p = (le-refl a, omega (arith, leb-false a b p))
 
-scalar-bound : (b : ℕ) (v : Value) → Small b v → Small b (scalar v)
+scalar-bound : (b : ℕ) (v : Value) → WithinBound b v → WithinBound b (scalar v)
 unfolding scalar asInt
 scalar-bound b (Va.num z) h = h
 scalar-bound b (Va.truth c) h = h
 scalar-bound b (Va.rec vs) h = h
 scalar-bound b (Va.coll vs) h = h
 
-choice-bound : (c : Bool) (v w : Value) (a b : ℕ) → Small a v → Small b w → Small (larger a b) (scalar (pick c v w))
+choice-bound : (c : Bool) (v w : Value) (a b : ℕ) → WithinBound a v → WithinBound b w → WithinBound (larger a b) (scalar (pick c v w))
 unfolding pick
 choice-bound true v w a b p q = scalar-bound (larger a b) v (le-trans p (larger-bounds a b .0))
 choice-bound false v w a b p q = scalar-bound (larger a b) w (le-trans q (larger-bounds a b .1))
 
 -- each value within the bound at its position
 abbrev pub AllSmall : List ℕ → Values → Type 0
-AllSmall bs vs = (i : ℕ) → Small (getD bs i 0) (nth i vs)
+AllSmall bs vs = (i : ℕ) → WithinBound (getD bs i 0) (nth i vs)
 
 -- What an operator makes of values within their bounds is within its bound.
-pub app-bound : (f : Fun) (bs : List ℕ) (vs : Values) → AllSmall bs vs → Small (appBound f bs) (appV f vs)
+pub app-bound : (f : Fun) (bs : List ℕ) (vs : Values) → AllSmall bs vs → WithinBound (appBound f bs) (appV f vs)
 unfolding appV appBound choiceV asInt
 app-bound choice bs vs h = choice-bound (asBool (nth 0 vs)) (nth 1 vs) (nth 2 vs) (getD bs 1 0) (getD bs 2 0) (h 1) (h 2)
 app-bound (isOpen n c) bs vs h = le-refl 0
@@ -229,28 +229,28 @@ module _ (E : Entry) {T : Tables} (W : WellFormed T) where
   heads-length q h ρ = omega (arith, loops-length (foldBy E) W (λ σ. value (foldBy E) T h σ ∷ []) 1 (λ σ. omega arith) q ρ, one-mul (1024 ^ ownGens q))
 
   -- part of the heads, where all are within b
-  module _ (m : Monoid) (q : Clauses) (h : Form) (ρ : Env) (b : ℕ) (small : All (Small b) (heads (foldBy E) T q h ρ)) (p s : List Value) (e : p ++ s ≡ heads (foldBy E) T q h ρ) where
+  module _ (m : Monoid) (q : Clauses) (h : Form) (ρ : Env) (b : ℕ) (small : All (WithinBound b) (heads (foldBy E) T q h ρ)) (p s : List Value) (e : p ++ s ≡ heads (foldBy E) T q h ρ) where
     parts-length : length p + length s ≤ 1024 ^ ownGens q
     parts-length = omega (arith, length-append p s, ap length e, heads-length q h ρ)
 
-    part-right : Small (compBound m (ownGens q) b) (foldBy E m s)
-    part-right = subst (λ (a : ℕ). Small a (foldBy E m s)) (comp-bound m (ownGens q) b)
-        (le-trans (fold-right E m b s (all-behind (Small b) p s (subst (All (Small b)) (sym e) small))) (fold-more m b (omega (arith, parts-length))))
+    part-right : WithinBound (compBound m (ownGens q) b) (foldBy E m s)
+    part-right = subst (λ (a : ℕ). WithinBound a (foldBy E m s)) (comp-bound m (ownGens q) b)
+        (le-trans (fold-right E m b s (all-behind (WithinBound b) p s (subst (All (WithinBound b)) (sym e) small))) (fold-more m b (omega (arith, parts-length))))
 
-    part-left : (n : ℕ) (w : Value) → Small (foldBound m n b) w → Small (foldBound m (n + 1024 ^ ownGens q) b) (foldl (taken E m) w p)
-    part-left n w k = le-trans (fold-left E m b n w p k (all-front (Small b) p s (subst (All (Small b)) (sym e) small))) (fold-more m b (omega (arith, parts-length)))
+    part-left : (n : ℕ) (w : Value) → WithinBound (foldBound m n b) w → WithinBound (foldBound m (n + 1024 ^ ownGens q) b) (foldl (taken E m) w p)
+    part-left n w k = le-trans (fold-left E m b n w p k (all-front (WithinBound b) p s (subst (All (WithinBound b)) (sym e) small))) (fold-more m b (omega (arith, parts-length)))
 
 -- under what each generator's table declares
 module _ (E : Entry) {T : Tables} (W : WellFormed T) {C : Declared} where
   -- where the head is within b, all heads are
-  all-heads : (h : Form) (b : ℕ) → ((σ : Env) → RowsIn C σ → Small b (value (foldBy E) T h σ)) → (q : Clauses) → NamedC C (boundOf T) q → (ρ : Env) → RowsIn C ρ → All (Small b) (heads (foldBy E) T q h ρ)
-  all-heads h b k q N ρ R = loops-all (foldBy E) W (Small b) (λ σ. value (foldBy E) T h σ ∷ []) (λ σ S. (k σ S, tt)) q N ρ R
+  all-heads : (h : Form) (b : ℕ) → ((σ : Env) → RowsIn C σ → WithinBound b (value (foldBy E) T h σ)) → (q : Clauses) → NamedC C (boundOf T) q → (ρ : Env) → RowsIn C ρ → All (WithinBound b) (heads (foldBy E) T q h ρ)
+  all-heads h b k q N ρ R = loops-all (foldBy E) W (WithinBound b) (λ σ. value (foldBy E) T h σ ∷ []) (λ σ S. (k σ S, tt)) q N ρ R
 
   -- Every number of a normal form is within its bound.
   mutual
     unfolding value bound asInt notV nth
 
-    pub value-bound : (f : Form) → Named C (boundOf T) f → (ρ : Env) → RowsIn C ρ → Small (bound C f) (value (foldBy E) T f ρ)
+    pub value-bound : (f : Form) → Named C (boundOf T) f → (ρ : Env) → RowsIn C ρ → WithinBound (bound C f) (value (foldBy E) T f ρ)
     value-bound (num z) N ρ R = le-refl (natAbs z)
     value-bound (truth b) N ρ R = omega arith
     value-bound (row g) N ρ R = omega (arith, ap natAbs (R g .no-number))
@@ -268,23 +268,23 @@ module _ (E : Entry) {T : Tables} (W : WellFormed T) {C : Declared} where
 
   module _ (m : Monoid) (q : Clauses) (h : Form) (N : Named C (boundOf T) (comp m q h)) (ρ : Env) (R : RowsIn C ρ) where
     -- Every head that the loops meet is within the head's bound.
-    pub heads-small : All (Small (bound C h)) (heads (foldBy E) T q h ρ)
+    pub heads-small : All (WithinBound (bound C h)) (heads (foldBy E) T q h ρ)
     heads-small = all-heads h (bound C h) (value-bound h (N .1)) q (N .0) ρ R
 
     module _ (p s : List Value) (e : p ++ s ≡ heads (foldBy E) T q h ρ) where
       -- A sum, maximum or minimum of the last heads is within the comprehension's bound.
-      pub partial-right : Small (bound C (comp m q h)) (foldBy E m s)
+      pub partial-right : WithinBound (bound C (comp m q h)) (foldBy E m s)
       unfolding bound
       partial-right = part-right E W m q h ρ (bound C h) heads-small p s e
 
       -- A loop that had w, within the bound of n heads, and has gone over the first heads, has a number within that of n and all heads.
-      pub accumulated : (n : ℕ) (w : Value) → Small (foldBound m n (bound C h)) w → Small (foldBound m (n + 1024 ^ ownGens q) (bound C h)) (foldl (taken E m) w p)
+      pub accumulated : (n : ℕ) (w : Value) → WithinBound (foldBound m n (bound C h)) w → WithinBound (foldBound m (n + 1024 ^ ownGens q) (bound C h)) (foldl (taken E m) w p)
       accumulated n w k = part-left E W m q h ρ (bound C h) heads-small p s e n w k
 
       -- A sum, maximum or minimum of the first heads, as a loop accumulates it from the start, is within the comprehension's bound.
-      pub partial-left : Small (bound C (comp m q h)) (foldl (taken E m) (start m) p)
+      pub partial-left : WithinBound (bound C (comp m q h)) (foldl (taken E m) (start m) p)
       unfolding bound
-      partial-left = subst (λ (b : ℕ). Small b (foldl (taken E m) (start m) p))
+      partial-left = subst (λ (b : ℕ). WithinBound b (foldl (taken E m) (start m) p))
           (ap (λ (n : ℕ). foldBound m n (bound C h)) (zero-add (1024 ^ ownGens q)) ∙ comp-bound m (ownGens q) (bound C h))
           (accumulated 0 (start m) (start-small m (foldBound m 0 (bound C h))))
 
@@ -382,9 +382,9 @@ module _ (C D : Declared) (P : Form → Type 0) (k : (f : Form) → Named C D f 
 -- ---- theorem 8
 -- The number of a form, and every number on the way to it from either end, within b.
 pub record Bounded (E : Entry) (T : Tables) (b : ℕ) (f : Form) (ρ : Env) : Type 0 where
-  pub number : Small b (value (foldBy E) T f ρ)
-  pub first-heads : (m : Monoid) (q : Clauses) (h : Form) → f ≡ comp m q h → (p s : List Value) → p ++ s ≡ heads (foldBy E) T q h ρ → Small b (foldl (taken E m) (start m) p)
-  pub last-heads : (m : Monoid) (q : Clauses) (h : Form) → f ≡ comp m q h → (p s : List Value) → p ++ s ≡ heads (foldBy E) T q h ρ → Small b (foldBy E m s)
+  pub number : WithinBound b (value (foldBy E) T f ρ)
+  pub first-heads : (m : Monoid) (q : Clauses) (h : Form) → f ≡ comp m q h → (p s : List Value) → p ++ s ≡ heads (foldBy E) T q h ρ → WithinBound b (foldl (taken E m) (start m) p)
+  pub last-heads : (m : Monoid) (q : Clauses) (h : Form) → f ≡ comp m q h → (p s : List Value) → p ++ s ≡ heads (foldBy E) T q h ρ → WithinBound b (foldBy E m s)
 
 module _ (E : Entry) {T : Tables} (W : WellFormed T) where
   -- Every number of a normal form, and every sum, maximum and minimum on the way to it, is within its bound, so within any greater b.

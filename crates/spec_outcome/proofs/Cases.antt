@@ -39,7 +39,7 @@ use Rattle.spec_outcome.specs.Outcome as Outcome
 
 -- all the definitions that the cases compute with
 unfoldable definitions : Unit {0}
-unfolding Lists.bindL Lists.guard Lists.pick Lists.upd Value.count Value.asInt Value.asBool Value.elems Value.nth Value.fieldOf Value.eqZ Value.binV Value.notV Value.scalar Value.choiceV Value.appV Value.kindOf Value.columnsOf Value.isThere Value.boundOf Value.rowsOf Order.then Order.compareZ Order.compareB Order.leV Order.compareV Order.insert Order.put Monoid.start Monoid.greater Monoid.lesser Monoid.against Monoid.step Monoid.total Monoid.finish Monoid.foldBy Monoid.ordered Monoid.canonical Monoid.raw Meaning.meaning Meaning.eval Record.andThen Record.require Record.signed Record.isWhole Data.boundsFrom Data.cells Data.rowsFrom Data.fits Data.tableOf Data.tableBy Data.boundsFit Data.cellsWithin Data.rowsWithin Data.bounded Data.tablesFrom Data.readData Scope.member Scope.distinct Scope.namesHold Scope.inScope Scope.binders Types.cells Types.typeAt Types.fieldType Types.ofNumber Types.ofTruth Types.binType Types.ofThree Types.choiceType Types.appType Types.gathers Types.compType Types.ranges Types.typedAs Types.record″ Types.allTyped Types.consType Types.mayStand Types.isTyped Types.typesFit Calendars.lentOp Calendars.lentT Calendars.calendarsLent Types.generatorsFit Types.typeOf Form._⊕_ Form.normalValue Form.gens Form.value Normal.idempotent Normal.givesWay Normal.condition Normal.ranges Normal.nth Normal.part Normal.binary Normal.before Normal.normal Normal.quote Normal.norm Size.sizeFits Size.nodes Bound.ownGens Bound.binBound Bound.larger Bound.appBound Bound.compBound Bound.bound Bound.tablesOf Bound.declared Bound.numbersFit Bound.within Operators.valueOf Operators.at Operators.meets Operators.whole Operators.sourceRows Operators.numbered Operators.matches Operators.kept Operators.matchesOrPad Operators.number Operators.same Operators.enter Operators.heads Operators.groups Operators.close Operators.apply Operators.exec Operators.one Operators.planValue Operators.evalP Planner.nextL Planner.termL Planner.joined Planner.conj Planner.source Planner.gensOf Planner.condsOf Planner.orUnit Planner.planGens Planner.sift Planner.early Planner.late Planner.slot Planner.slots Planner.after Planner.mentioned Planner.lastOf Planner.home Planner.growsAt Planner.grows Planner.planOf Planner.free Planner.mentions Planner.next Planner.term Planner.ops Lines.ascii Lines.digits Lines.decimal Lines.signedDecimal Lines.monoidName Lines.binName Lines.funName Lines.truthName Lines.showTerm Lines.showSource Lines.showLast Lines.showOp Lines.showOps Lines.lines Written.truthWord Written.words Accepted.judge Accepted.examine Outcome.settled Outcome.withScratch Outcome.G Outcome.written Outcome.answered Outcome.checked Outcome.byLoops Outcome.byPlan Outcome.printed Outcome.planLines
+unfolding Lists.bindL Lists.guard Lists.pick Lists.upd Value.count Value.asInt Value.asBool Value.elems Value.nth Value.fieldOf Value.eqZ Value.binV Value.notV Value.scalar Value.choiceV Value.appV Value.kindOf Value.columnsOf Value.isThere Value.boundOf Value.rowsOf Order.then Order.compareZ Order.compareB Order.leV Order.compareV Order.insert Order.put Monoid.start Monoid.greater Monoid.lesser Monoid.against Monoid.step Monoid.total Monoid.finish Monoid.foldBy Monoid.ordered Monoid.canonical Monoid.raw Meaning.meaning Meaning.eval Record.andThen Record.require Record.signed Record.isWhole Data.boundsFrom Data.cells Data.rowsFrom Data.fits Data.tableOf Data.tableBy Data.boundsFit Data.cellsWithin Data.rowsWithin Data.bounded Data.tablesFrom Data.readData Scope.member Scope.distinct Scope.namesHold Scope.inScope Scope.binders Types.cells Types.typeAt Types.fieldType Types.ofNumber Types.ofTruth Types.binType Types.ofThree Types.choiceType Types.appType Types.gathers Types.compType Types.ranges Types.typedAs Types.record″ Types.allTyped Types.consType Types.mayStand Types.isTyped Types.typesFit Calendars.namedLentOp Calendars.namedLentT Calendars.calendarsLent Types.generatorsFit Types.typeOf Form._⊕_ Form.normalValue Form.gens Form.value Normal.idempotent Normal.givesWay Normal.condition Normal.ranges Normal.nth Normal.part Normal.binary Normal.before Normal.normal Normal.quote Normal.norm Size.sizeFits Size.nodes Bound.ownGens Bound.binBound Bound.larger Bound.appBound Bound.compBound Bound.bound Bound.tablesOf Bound.declared Bound.numbersFit Bound.within Operators.valueOf Operators.at Operators.meets Operators.whole Operators.sourceRows Operators.numbered Operators.matches Operators.kept Operators.matchesOrPad Operators.number Operators.same Operators.enter Operators.heads Operators.groups Operators.close Operators.apply Operators.exec Operators.one Operators.planValue Operators.evalP Planner.nextL Planner.termL Planner.joined Planner.conj Planner.source Planner.gensOf Planner.condsOf Planner.orUnit Planner.planGens Planner.sift Planner.early Planner.late Planner.slot Planner.slots Planner.after Planner.mentioned Planner.lastOf Planner.home Planner.growsAt Planner.grows Planner.planOf Planner.free Planner.mentions Planner.next Planner.term Planner.ops Lines.ascii Lines.digits Lines.decimal Lines.signedDecimal Lines.monoidName Lines.binName Lines.funName Lines.truthName Lines.showTerm Lines.showSource Lines.showLast Lines.showOp Lines.showOps Lines.lines Written.truthWord Written.words Accepted.judge Accepted.examine Outcome.settled Outcome.withScratch Outcome.G Outcome.written Outcome.answered Outcome.checked Outcome.byLoops Outcome.byPlan Outcome.printed Outcome.planLines
 definitions = tt
 
 -- With four calendars lent: accepted, with this value as typed, of the normal form and of the plan, these words and this G; accepted, with these lines; or

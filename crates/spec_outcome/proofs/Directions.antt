@@ -13,9 +13,9 @@ use lib.Seq.{take-at}
 use lib.IntN.{ℤ}
 use Rattle.spec_calculus.specs.Lists.{pick}
 use Rattle.spec_calculus.specs.Syntax.{Collection}
-use Rattle.spec_calculus.specs.Value.{Value, Table, Tables, isThere}
+use Rattle.spec_calculus.specs.Value.{Value, Table, Tables, isThere, noTables}
 use Rattle.spec_encoding.specs.Record.{Bytes, Result, refused, got, andThen, require, lengthOf, kindOf, contentOf, isWhole}
-use Rattle.spec_encoding.specs.Data.{isKind, fits, tableNumber, toColumns, toRows, Octets, TableRecord, tableBy, bounded, tablesFrom, noTables, readData}
+use Rattle.spec_encoding.specs.Data.{isKind, fits, tableNumber, toColumns, toRows, Octets, TableRecord, tableBy, bounded, tablesFrom, readData}
 use Rattle.spec_encoding.proofs.Refusals.{Only, only-require}
 use Rattle.spec_encoding.proofs.ColumnRecords.{to-columns-record, to-rows-record, to-columns-length, to-rows-length, to-columns-number, to-rows-number, rows-undo-columns, columns-undo-rows, to-columns-table, to-rows-table}
 use Rattle.spec_outcome.specs.Acceptance.{Lent}

@@ -11,12 +11,13 @@ use lib.ListN.{length, set, take, length-set, length-append, take-append-drop}
 use lib.Seq.{length-take-le, getD-set-same, getD-set-other, set-comm, drop-drop}
 use lib.IntN.{ℤ}
 use Rattle.spec_calculus.specs.Lists.{pick}
-use Rattle.spec_calculus.specs.Value.{Table, Tables, noTable, columnsOf, isThere}
+use Rattle.spec_calculus.specs.Value.{Table, Tables, noTable, columnsOf, isThere, noTables}
 use Rattle.spec_calculus.specs.Rearrangement.{Rearranged, nil, cons, swap, trans}
 use Rattle.spec_calculus.proofs.Lists.{All}
+use Rattle.spec_calculus.proofs.Truths.{not-true}
 use Rattle.spec_calculus.proofs.Sorting.{rearranged-sym}
 use Rattle.spec_encoding.specs.Record.{Bytes, Result, refused, got, require, lengthOf, kindOf, contentOf, behind, isWhole}
-use Rattle.spec_encoding.specs.Data.{isKind, isTable, fits, tableNumber, tableBy, bounded, tablesFrom, noTables, readData}
+use Rattle.spec_encoding.specs.Data.{isKind, isTable, fits, tableNumber, tableBy, bounded, tablesFrom, readData}
 use Rattle.spec_encoding.proofs.Data.{table-by-read}
 use Rattle.spec_outcome.specs.Acceptance.{Lent, examine}
 use Rattle.spec_outcome.specs.Outcome.{checked, planLines}
@@ -80,10 +81,6 @@ whole-long l w = go (leb 4 (length l)) (leb (4 + lengthOf l) (length l)) refl re
     go true true e f h = (leb-true 4 (length l) e, leb-true (4 + lengthOf l) (length l) f)
     go true false e f h = absurd (true≢false (sym h))
     go false q e f h = absurd (true≢false (sym h))
-
-not-true : (b : Bool) → not b ≡ true → b ≡ false
-not-true false h = refl
-not-true true h = sym h
 
 -- a record that is not cut short, at the front of whole records
 front-record : (l : Bytes) → isWhole l ≡ true → (rs : List WholeRecord) → behind l ≡ dataOf rs → (us : List WholeRecord) × (l ≡ dataOf us)

@@ -210,16 +210,16 @@ module _ (d d′ : Bytes) (l : Lent) (S : Rereads Reordered (readData d) (readDa
 -- ---- "and that repeating a row of a set table, within 1,024 rows, changes neither the answer's length nor a word before it, where the
 -- buffer suffices in both states"
 -- two results that are one refusal, or answers of one length with the same words before it
-abbrev Answers : Result (Answer ℤ) → Result (Answer ℤ) → Type 0
-Answers (refused m) (refused n) = m ≡ n
-Answers (refused m) (got y) = ⊥
-Answers (got x) (refused n) = ⊥
-Answers (got x) (got y) = (x .size ≡ y .size) × ((c c′ : List ℤ) → take (x .size) (x .front ++ c) ≡ take (y .size) (y .front ++ c′))
+abbrev SameAnswer : Result (Answer ℤ) → Result (Answer ℤ) → Type 0
+SameAnswer (refused m) (refused n) = m ≡ n
+SameAnswer (refused m) (got y) = ⊥
+SameAnswer (got x) (refused n) = ⊥
+SameAnswer (got x) (got y) = (x .size ≡ y .size) × ((c c′ : List ℤ) → take (x .size) (x .front ++ c) ≡ take (y .size) (y .front ++ c′))
 
 abbrev Suffices : Result (Answer ℤ) → Type 0
 Suffices r = Only (λ n. n ≡ 32 → ⊥) r
 
-written-answers : (v : Accepted → Value) (b b′ : List ℤ) (x y : Accepted) → v x ≡ v y → Suffices (written v b x) → Suffices (written v b′ y) → Answers (written v b x) (written v b′ y)
+written-answers : (v : Accepted → Value) (b b′ : List ℤ) (x y : Accepted) → v x ≡ v y → Suffices (written v b x) → Suffices (written v b′ y) → SameAnswer (written v b x) (written v b′ y)
 unfolding written require
 written-answers v b b′ x y e = go (leb (G x) (length b)) (leb (G y) (length b′))
   where
@@ -231,12 +231,12 @@ written-answers v b b′ x y e = go (leb (G x) (length b)) (leb (G y) (length b�
 
     go : (p q : Bool)
         → Suffices (require 32 p (got (record { size = length (words (v x)); front = front (v x) (G x) }))) → Suffices (require 32 q (got (record { size = length (words (v y)); front = front (v y) (G y) })))
-        → Answers (require 32 p (got (record { size = length (words (v x)); front = front (v x) (G x) }))) (require 32 q (got (record { size = length (words (v y)); front = front (v y) (G y) })))
+        → SameAnswer (require 32 p (got (record { size = length (words (v x)); front = front (v x) (G x) }))) (require 32 q (got (record { size = length (words (v y)); front = front (v y) (G y) })))
     go false q h k = absurd (h refl)
     go true false h k = absurd (k refl)
     go true true h k = (ap (λ w. length (words w)) e, λ c c′. whole (v x) (G x) c ∙ ap words e ∙ sym (whole (v y) (G y) c′))
 
-settled-words : (s s′ : List ℕ) (b b′ : List ℤ) (x y : Result (Answer ℤ)) → (Suffices x → Suffices y → Answers x y)
+settled-words : (s s′ : List ℕ) (b b′ : List ℤ) (x y : Result (Answer ℤ)) → (Suffices x → Suffices y → SameAnswer x y)
     → (settled scratchWords s b x .number ≡ 32 → ⊥) → (settled scratchWords s′ b′ y .number ≡ 32 → ⊥) → SameWords (settled scratchWords s b x) (settled scratchWords s′ b′ y)
 unfolding settled
 settled-words s s′ b b′ (refused m) (refused n) a h k = record { numbers = a h k; sizes = refl; answers = refl }
@@ -244,7 +244,7 @@ settled-words s s′ b b′ (refused m) (got y) a h k = absurd (a h tt)
 settled-words s s′ b b′ (got x) (refused n) a h k = absurd (a tt k)
 settled-words s s′ b b′ (got x) (got y) a h k = let p = a tt tt in record { numbers = refl; sizes = p .0; answers = p .1 (drop (length (x .front)) b) (drop (length (y .front)) b′) }
 
-scratch-words : (s s′ : List ℕ) (b b′ : List ℤ) (x y : Result (Answer ℤ)) → length s ≡ length s′ → (Suffices x → Suffices y → Answers x y)
+scratch-words : (s s′ : List ℕ) (b b′ : List ℤ) (x y : Result (Answer ℤ)) → length s ≡ length s′ → (Suffices x → Suffices y → SameAnswer x y)
     → (withScratch scratchWords s b x .number ≡ 32 → ⊥) → (withScratch scratchWords s′ b′ y .number ≡ 32 → ⊥) → SameWords (withScratch scratchWords s b x) (withScratch scratchWords s′ b′ y)
 scratch-words s s′ b b′ x y e a = go (ltb (length s) scratchWords) refl
   where
@@ -280,7 +280,7 @@ module _ (d d′ : Bytes) (l : Lent) (S : Rereads Alike (readData d) (readData d
   loops-repeated : SameWords (byLoops d l s b) (byLoops d′ l s′ b′)
   unfolding byLoops answered
   loops-repeated = scratch-words s s′ b b′ (andThen (examine d l) (written looped b)) (andThen (examine d′ l) (written looped b′)) e
-      (examined-both Alike (λ T U R. R) (λ x y. Suffices x → Suffices y → Answers x y) (λ n h k. refl) (written looped b) (written looped b′)
+      (examined-both Alike (λ T U R. R) (λ x y. Suffices x → Suffices y → SameAnswer x y) (λ n h k. refl) (written looped b) (written looped b′)
       (λ T U R p. written-answers looped b b′ (accepted T p) (accepted U p) (value-same T U R (p .question))) d d′ l S)
       (loops-suffice d l s b g) (loops-suffice d′ l s′ b′ g′)
 

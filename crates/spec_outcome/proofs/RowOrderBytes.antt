@@ -12,13 +12,13 @@ use lib.ListN as Li
 use lib.Seq.{drop-at}
 use Rattle.spec_calculus.specs.Lists.{bindL, pick}
 use Rattle.spec_calculus.specs.Syntax.{Collection, list, bag, set}
-use Rattle.spec_calculus.specs.Value.{Value, vcons, num, rec, Table, Tables, noTable, columnsOf, isThere}
+use Rattle.spec_calculus.specs.Value.{Value, vcons, num, rec, Table, Tables, noTable, columnsOf, isThere, noTables}
 use Rattle.spec_calculus.specs.Rearrangement.{Rearranged, nil, cons, swap, trans, Repeated, reorder, once, under, back, chain, Alike}
 use Rattle.spec_calculus.proofs.Lists.{All}
 use Rattle.spec_calculus.proofs.Sorting.{rearranged-refl}
 use Rattle.spec_calculus.proofs.Folds.{alike-path}
 use Rattle.spec_encoding.specs.Record.{Bytes, Result, require, four, signed, kindOf, contentOf, behind}
-use Rattle.spec_encoding.specs.Data.{isKind, collectionOf, boundsFrom, cells, rowsFrom, isTable, fits, tableNumber, tableOf, tableBy, boundsFit, cellsWithin, rowsWithin, bounded, tablesFrom, noTables, readData}
+use Rattle.spec_encoding.specs.Data.{isKind, collectionOf, boundsFrom, cells, rowsFrom, isTable, fits, tableNumber, tableOf, tableBy, boundsFit, cellsWithin, rowsWithin, bounded, tablesFrom, readData}
 use Rattle.spec_outcome.specs.RowOrder.{Reordered, Restated, Restates, Rereads, joined, tableContent, Counted, Rewritten, rest, same, table}
 use Rattle.spec_outcome.specs.Directions.{Turned}
 use Rattle.spec_outcome.proofs.Directions.{turned-reread}

@@ -11,7 +11,7 @@ use Rattle.plan_machine.proofs.Moves.{move-waits}
 use Rattle.plan_machine.proofs.OffersDue.{none-due, portion, run-run}
 use Rattle.plan_machine.proofs.StateInvariant.{to-done}
 use Rattle.form_env.specs.Environment.{tablesIn}
-use Rattle.exec_simulation.specs.SimulationRelation.{Question, Kept, Waits, over, waits}
+use Rattle.exec_simulation.specs.SimulationRelation.{LinkedPlan, ProgramKept, Waits, over, waits}
 use Rattle.exec_simulation.specs.RowReads.{Readable}
 use Rattle.exec_step.specs.Contract.{Waiting, PortionPost}
 use Rattle.exec_answer.proofs.WholeBuffer.{written-none}
@@ -23,8 +23,8 @@ positive : (n : ℕ) → (n ≡ 0 → ⊥) → 1 ≤ n
 positive zero h = absurd (h refl)
 positive (suc n) h = omega arith
 
-module _ {d : Bytes} (Q : Question d) {s : List ℕ} {o : List ℤ} {limit code : ℕ} {S : State} where
-  stays : Waits Q s o limit code S → Kept (Q .base) s
+module _ {d : Bytes} (Q : LinkedPlan d) {s : List ℕ} {o : List ℤ} {limit code : ℕ} {S : State} where
+  stays : Waits Q s o limit code S → ProgramKept (Q .base) s
   stays (over z O) = O .stands .kept
   stays (waits i z O) = O .stands .kept
 
@@ -40,12 +40,12 @@ module _ {d : Bytes} (Q : Question d) {s : List ℕ} {o : List ℤ} {limit code 
       (λ n. move-waits (tablesIn d) (Q .program) (O .path) (O .source) (O .condition) (O .behind) (O .words) (O .more) (answer (tablesIn d) S) (O .wanting .is ∙ none-due (tablesIn d) S n))
 
 -- with limit 0 nothing is written
-unwritten : {d : Bytes} (Q : Question d) {s : List ℕ} {o : List ℤ} {code : ℕ} {S : State} → Waits Q s o 0 code S → o ≡ Q .lent
+unwritten : {d : Bytes} (Q : LinkedPlan d) {s : List ℕ} {o : List ℤ} {code : ℕ} {S : State} → Waits Q s o 0 code S → o ≡ Q .lent
 unwritten Q (over z O) = written-none (O .wanting .text)
 unwritten Q (waits i z O) = written-none (O .wanting .text)
 
 -- ---- the loop
-pub record Turned {d : Bytes} (Q : Question d) (S : State) (t : List ℕ) (p : List ℤ) (at n : ℕ) : Type 0 where
+pub record Turned {d : Bytes} (Q : LinkedPlan d) (S : State) (t : List ℕ) (p : List ℤ) (at n : ℕ) : Type 0 where
   pub waits : Waits Q t p 0 at (run (tablesIn d) n S)
   pub upto : n ≤ due (tablesIn d) S
 
@@ -53,7 +53,7 @@ pub record Counting (d : Bytes) (s : List ℕ) (o : List ℤ) (code : ℕ) (t : 
   pub long : length t ≡ length s
   pub wide : length p ≡ length o
   pub few : n ≤ longest
-  pub is : (Q : Question d) → Readable Q → (S : State) → Waits Q s o 0 code S → Turned Q S t p at n
+  pub is : (Q : LinkedPlan d) → Readable Q → (S : State) → Waits Q s o 0 code S → Turned Q S t p at n
 
 pub count-begins : (d : Bytes) (s : List ℕ) (o : List ℤ) (code : ℕ) → Counting d s o code s o code 0
 unfolding run

@@ -18,10 +18,10 @@ use Rattle.plan_machine.specs.Machine.{State, begin, run, due}
 use Rattle.plan_machine.specs.Offers.{planOffers}
 use Rattle.plan_machine.proofs.WholePass.{pass-portion}
 use Rattle.plan_marks.specs.Contract.{MakePlanPost}
-use Rattle.plan_links.specs.Contract.{Term}
+use Rattle.plan_links.specs.Contract.{TermPost}
 use Rattle.base_signed.specs.Limit.{numberLimit}
 use Rattle.form_env.specs.Environment.{tablesIn}
-use Rattle.exec_simulation.specs.SimulationRelation.{Question, Waits}
+use Rattle.exec_simulation.specs.SimulationRelation.{LinkedPlan, Waits}
 use Rattle.exec_simulation.specs.RowReads.{Readable}
 use Rattle.exec_step.specs.Contract.{Waiting}
 use Rattle.exec_initial.proofs.RunnableQuestion.{question}
@@ -39,8 +39,8 @@ unfolding run
 begin-offers T f = omega (arith, pass-portion T f 0 .1)
 
 -- s holds the question, s₁ its plan too, s₂ also its links; r is where the first row enters
-module _ {d : Bytes} {s s₁ s₂ : List ℕ} {r : ℕ} (X : Asked d s) (Q : MakePlanPost s s₁) (L : Term s₁ 0 1 s₂ r) (o : List ℤ) (b : length o ≤ numberLimit) where
-  abbrev asks : {a : Accepted} → Prepared d a s → Question d
+module _ {d : Bytes} {s s₁ s₂ : List ℕ} {r : ℕ} (X : Asked d s) (Q : MakePlanPost s s₁) (L : TermPost s₁ 0 1 s₂ r) (o : List ℤ) (b : length o ≤ numberLimit) where
+  abbrev asks : {a : Accepted} → Prepared d a s → LinkedPlan d
   asks {a} A = question a s s₁ s₂ r A Q L o b
 
   abbrev first : {a : Accepted} → Prepared d a s → State

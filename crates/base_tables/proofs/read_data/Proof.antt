@@ -1,15 +1,15 @@
--- `base_tables::read_data`. The loop's invariant is `Going`; the measure, the bytes that are left. Assumes nothing.
+-- `base_tables::read_data`. The loop's invariant is `ReadLoop`; the measure, the bytes that are left. Assumes nothing.
 use Prim.Native.Nat.{_-_}
 use native.Mathlib.Omega.{arith}
 use mathlib.Core.Path.{sym, _∙_}
 use lib.ListN.{length}
-use Rattle.base_tables.proofs.ReadLoop.{Going, going-first, from-lent, going-ninth, going-refused, going-falls, going-number, going-next, going-ended}
+use Rattle.base_tables.proofs.ReadLoop.{ReadLoop, going-first, from-lent, going-ninth, going-refused, going-falls, going-number, going-next, going-ended}
 use borrow.Author.Needs.{needs}
 use Rattle.base_tables.proofs.read_data.Statement.{statement}
 use Rattle.base_tables.proofs.read_data.Tie as tie
 
 abbrev Inv-loop : tie.InvT-loop
-Inv-loop «data» scratch₀ p₀ n₀ scratch p n = Going «data» scratch₀ scratch p n
+Inv-loop «data» scratch₀ p₀ n₀ scratch p n = ReadLoop «data» scratch₀ scratch p n
 
 abbrev μ-loop : tie.MeasureT-loop
 μ-loop «data» scratch₀ p₀ n₀ scratch p n = length «data» - p

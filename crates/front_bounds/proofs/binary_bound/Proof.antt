@@ -3,15 +3,15 @@ use borrow.Author.Needs.{needs}
 use mathlib.Core.Path.{_≡_, refl, sym, ap, _∙_}
 use Prim.Native.Nat.{ℕ}
 use Rattle.spec_normal_form.specs.Bound.{binBound}
-use Rattle.base_syntax.specs.declared.Op.{Op}
+use Rattle.base_syntax.specs.declared.BinOp.{BinOp}
 use Rattle.base_syntax.specs.Numbers.{binOf}
 use Rattle.front_bounds.specs.CutBounds.{cut}
 use Rattle.front_bounds.proofs.binary_bound.Statement.{statement}
 use Rattle.front_bounds.proofs.binary_bound.Tie as tie
 
 -- x: the case that the match found
-found : {o x : Op} {r : ℕ} (a b : ℕ) → o ≡ x → r ≡ cut (binBound (binOf x) a b) → r ≡ cut (binBound (binOf o) a b)
-found a b e q = q ∙ sym (ap (λ (y : Op). cut (binBound (binOf y) a b)) e)
+found : {o x : BinOp} {r : ℕ} (a b : ℕ) → o ≡ x → r ≡ cut (binBound (binOf x) a b) → r ≡ cut (binBound (binOf o) a b)
+found a b e q = q ∙ sym (ap (λ (y : BinOp). cut (binBound (binOf y) a b)) e)
 
 pub binary-bound-spec : {M : Type 1} → statement M
 unfolding binBound

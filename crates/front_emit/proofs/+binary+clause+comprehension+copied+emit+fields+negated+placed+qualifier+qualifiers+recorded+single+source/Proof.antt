@@ -4,7 +4,7 @@ use mathlib.Core.Path.{_≡_, refl, _∙_}
 use lib.ListN.{length}
 use Prim.Native.Nat.{_+_, _-_, _*_, ℕ, _<_}
 use Rattle.front_nodes.proofs.ReaderExits.{recast, looked-inside}
-use Rattle.front_resolve.specs.Place.{under}
+use Rattle.front_resolve.specs.Resolved.{under}
 use Rattle.front_resolve.proofs.Exits.{picks-cast}
 use Rattle.front_emit.proofs.WriterExits.{moved, movedF, movedQ, one-done, qual-source, qual-condition}
 use Rattle.front_emit.proofs.TermCalls.{term-place, term-done, has-place, two-below, not-below, comp-below, ends, ends-later, two-first, two-second, two-done, not-first, not-done, headed-small, record-first, record-done, field-first, FieldsLeft, left-all, left-none, left-less, one-has-place, one-first}
@@ -61,7 +61,7 @@ use Rattle.front_emit.proofs.generator.Reads as generator-reads
 use Rattle.front_emit.proofs.heading_of.Reads as heading-of-reads
 use Rattle.base_syntax.proofs.Monoid.bits.Reads as bits-reads
 use Rattle.front_emit.proofs.never.Reads as never-reads
-use Rattle.base_syntax.proofs.Op.number.Reads as number-reads
+use Rattle.base_syntax.proofs.BinOp.number.Reads as number-reads
 use Rattle.front_emit.proofs.simple.Reads as simple-reads
 use Rattle.front_emit.proofs.split_of.Reads as split-of-reads
 use Rattle.front_nodes.proofs.child.Reads as child-reads

@@ -1,12 +1,12 @@
 -- `front_measure::measure` meets its contract, by LoopInvariant.
 use Prim.Native.Nat.{_-_}
-use Rattle.front_measure.proofs.LoopInvariant.{Going, going-first, going-on, going-last}
+use Rattle.front_measure.proofs.LoopInvariant.{MeasureLoop, going-first, going-on, going-last}
 use borrow.Author.Needs.{needs}
 use Rattle.front_measure.proofs.measure.Statement.{statement}
 use Rattle.front_measure.proofs.measure.Tie as tie
 
 abbrev Inv-loop : tie.InvT-loop
-Inv-loop s₀ n i₀ s i = Going s₀ n s i
+Inv-loop s₀ n i₀ s i = MeasureLoop s₀ n s i
 
 abbrev μ-loop : tie.MeasureT-loop
 μ-loop s₀ n i₀ s i = n - i

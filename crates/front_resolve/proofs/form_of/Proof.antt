@@ -3,7 +3,7 @@ use mathlib.Core.Path.{ap, sym, _∙_}
 use mir.Facts.{toZ-ofZ}
 use Rattle.base_signed.proofs.SignedWords.{fits}
 use Rattle.front_resolve.specs.declared.Form.the-variants.{Number}
-use Rattle.front_resolve.specs.Place.{formFor}
+use Rattle.front_resolve.specs.Resolved.{formFor}
 use Rattle.front_resolve.proofs.Exits.{form-deep, form-comp}
 use borrow.Author.Needs.{needs}
 use Rattle.front_resolve.proofs.form_of.Statement.{statement}

@@ -1,8 +1,8 @@
 -- `base_syntax::Op::from_number` meets its contract, by Numbers.
 use borrow.Author.Needs.{needs}
 use Rattle.base_syntax.proofs.Numbers.{op-rest}
-use Rattle.base_syntax.proofs.Op.from_number.Statement.{statement}
-use Rattle.base_syntax.proofs.Op.from_number.Tie as tie
+use Rattle.base_syntax.proofs.BinOp.from_number.Statement.{statement}
+use Rattle.base_syntax.proofs.BinOp.from_number.Tie as tie
 
 pub from-number-spec : {M : Type 1} → statement M
 from-number-spec =

@@ -27,14 +27,14 @@ use Rattle.front_resolve.specs.declared.Next.{Next}
 use Rattle.front_resolve.specs.declared.Next.the-variants.{On, At}
 use Rattle.base_syntax.specs.Numbers.{binOf, funOf}
 
-pub record Place : Type 0 where
+pub record Resolved : Type 0 where
   pub form : Form
   pub node : ℕ
   pub depth : ℕ
   pub env : List ℕ
 
 -- a head in an environment
-abbrev pub under : List ℕ → Head → Place
+abbrev pub under : List ℕ → Head → Resolved
 under l h = record { form = h .form; node = h .node; depth = h .depth; env = l }
 
 abbrev pub odd : ℕ → Bool
@@ -69,7 +69,7 @@ formSem K s i D e (Table k) = nested (of (K k)) (λ b n. Nf.gen n k Nf.done) (λ
 formSem K s i D e (Operator f) = applied (funOf f) (semsOf (semN K s) (childrenOf s i) D e)
 formSem K s i D e Bad = nothing
 
-abbrev pub placeSem : (ℕ → Collection) → List ℕ → Place → Sem
+abbrev pub placeSem : (ℕ → Collection) → List ℕ → Resolved → Sem
 placeSem K s r = formSem K s (r .node) (r .depth) (envOf (r .env)) (r .form)
 
 -- A form at node i is that node's own, or a row or a cell, or nothing. `nothing` is the number 0, so `Bad` says as much of
@@ -87,42 +87,42 @@ FormAt s i D (Table k) = (nodesOf s i ≡ ntable k) × (k < 2 ^ 33)
 FormAt s i D (Operator f) = nodesOf s i ≡ napp (funOf f) (childrenOf s i)
 FormAt s i D Bad = Unit {0}
 
-pub record Fine (s : List ℕ) (r : Place) : Type 0 where
+pub record Fine (s : List ℕ) (r : Resolved) : Type 0 where
   pub form : FormAt s (r .node) (r .depth) (r .form)
   pub long : length (r .env) ≡ levels
 
 -- A place that came of node j: it stands there or before, and at its node's depth where the depths of the table agree.
-pub record From (s : List ℕ) (j D : ℕ) (r : Place) : Type 0 where
+pub record From (s : List ℕ) (j D : ℕ) (r : Resolved) : Type 0 where
   pub below : r .node ≤ j
   pub level : (n : ℕ) → Levelled (nodesOf s) (depthAt s) n → j < n → depthAt s j ≡ D → depthAt s (r .node) ≡ r .depth
   pub fine : Fine s r
 
 -- The place that node i comes to has what the node comes to.
-pub record Heads (s : List ℕ) (i D : ℕ) (l : List ℕ) (r : Place) : Type 0 where
+pub record Heads (s : List ℕ) (i D : ℕ) (l : List ℕ) (r : Resolved) : Type 0 where
   pub is : (K : ℕ → Collection) → placeSem K s r ≡ semN K s i D (envOf l)
   pub from : From s i D r
 
 -- the place of the name that node x binds, in a comprehension at depth d
-pub record FollowPost (s : List ℕ) (x d : ℕ) (l : List ℕ) (r : Place) : Type 0 where
+pub record FollowPost (s : List ℕ) (x d : ℕ) (l : List ℕ) (r : Resolved) : Type 0 where
   pub is : (K : ℕ → Collection) → placeSem K s r ≡ boundOf (offsets s) (semN K s) x d (envOf l) (nodesOf s x)
   pub from : From s x (suc d) r
 
 -- the place of what a generator over h ranges through, from number n on
-pub record SplicePost (s : List ℕ) (h : Place) (v : Bool) (n : ℕ) (r : Place) : Type 0 where
+pub record SplicePost (s : List ℕ) (h : Resolved) (v : Bool) (n : ℕ) (r : Resolved) : Type 0 where
   pub is : (K : ℕ → Collection) → placeSem K s r ≡ ranges (placeSem K s h) v n .head
   pub from : From s (h .node) (h .depth) r
 
 -- the place of field k of h
-pub record Projected (s : List ℕ) (k : ℕ) (h : Place) (r : Place) : Type 0 where
+pub record Projected (s : List ℕ) (k : ℕ) (h : Resolved) (r : Resolved) : Type 0 where
   pub is : (K : ℕ → Collection) → placeSem K s r ≡ part k (placeSem K s h)
   pub from : From s (h .node) (h .depth) r
 
 -- A step to a place of which P holds, behind which the environment is l: the place, or a node before j that comes to it.
-abbrev pub Steps : List ℕ → ℕ → List ℕ → (Place → Type 0) → Next → Type 0
-Steps s j l P (On k D) = (k < j) × ((r : Place) → Heads s k D l r → P r)
+abbrev pub Steps : List ℕ → ℕ → List ℕ → (Resolved → Type 0) → Next → Type 0
+Steps s j l P (On k D) = (k < j) × ((r : Resolved) → Heads s k D l r → P r)
 Steps s j l P (At h) = P (under l h)
 
-pub record Stepped (s : List ℕ) (j : ℕ) (l : List ℕ) (P : Place → Type 0) (r : Next) : Type 0 where
+pub record Stepped (s : List ℕ) (j : ℕ) (l : List ℕ) (P : Resolved → Type 0) (r : Next) : Type 0 where
   pub is : Steps s j l P r
   pub long : length l ≡ levels
 
