@@ -66,4 +66,4 @@ QUERIES = [
 ]
 
 for name, text, tables in QUERIES:
-    print(name, packed(tables).hex(), question(text, tables).hex(), sep='\t')
+    print(name, packed(tables).hex(), question(text, tables, []).hex(), sep='\t')

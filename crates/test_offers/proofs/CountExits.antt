@@ -13,7 +13,7 @@ use Rattle.plan_machine.proofs.StateInvariant.{to-done}
 use Rattle.form_env.specs.Environment.{tablesIn}
 use Rattle.exec_simulation.specs.SimulationRelation.{LinkedPlan, ProgramKept, Waits, over, waits}
 use Rattle.exec_simulation.specs.RowReads.{Readable}
-use Rattle.exec_step.specs.Contract.{Waiting, PortionPost}
+use Rattle.exec_batch.specs.Contract.{Waiting, PortionPost}
 use Rattle.exec_answer.proofs.WholeBuffer.{written-none}
 use Rattle.test_offers.specs.OfferedRows.{longest}
 use Rattle.test_offers.specs.Contract.{CountPost}

@@ -23,7 +23,7 @@ use Rattle.base_signed.specs.Limit.{numberLimit}
 use Rattle.form_env.specs.Environment.{tablesIn}
 use Rattle.exec_simulation.specs.SimulationRelation.{LinkedPlan, Waits}
 use Rattle.exec_simulation.specs.RowReads.{Readable}
-use Rattle.exec_step.specs.Contract.{Waiting}
+use Rattle.exec_batch.specs.Contract.{Waiting}
 use Rattle.exec_initial.proofs.RunnableQuestion.{question}
 use Rattle.exec_initial.proofs.StandingRows.{readable}
 use Rattle.answer_settle.proofs.PreparedQuestion.{tables-are}

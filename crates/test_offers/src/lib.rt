@@ -1,6 +1,6 @@
 // A call for the tests, beside the open ones and in an archive of its own: how many rows a pass offers.
 ghost use mathlib.Core.List.{[]};
-ghost use Rattle.exec_step.specs.Contract.{Waiting};
+ghost use Rattle.exec_batch.specs.Contract.{Waiting};
 ghost use Rattle.form_prepared.specs.AnswerContract.{Asked};
 ghost use Rattle.spec_outcome.specs.Acceptance.{lentAs};
 ghost use Rattle.spec_outcome.specs.Gives.{Gives};
@@ -10,8 +10,8 @@ use engine::Admitted;
 use engine::Reply;
 use engine::admit;
 use engine::finish;
+use exec_batch::portion;
 use exec_pass::start;
-use exec_step::portion;
 use plan_links::link;
 use plan_marks::make_plan;
 
