@@ -25,9 +25,9 @@ use base_tables::well_formed;
 use base_tables::word_in;
 
 // Length and kind of a record stand before its content.
-const KIND_AT: usize = 2;
+pub const KIND_AT: usize = 2;
 
-const CONTENT_AT: usize = 4;
+pub const CONTENT_AT: usize = 4;
 
 // Of differences wrapped at 32 bits: the first that stands for one below 0, and the last.
 const FIRST_BELOW_0: u32 = 2147483648;
@@ -51,14 +51,14 @@ fn fold(x: u32, above: u32) -> u32
     2 * (LAST - d) + 1
 }
 
-fn low(x: u32) -> u8
+pub fn low(x: u32) -> u8
     ensures { λ r. ⌜ r ≡ x % 256 ⌝ }
 {
     (x % 256) as u8
 }
 
 // A number's four bytes, little-endian.
-fn put(d: &mut [u8], i: usize, w: u32)
+pub fn put(d: &mut [u8], i: usize, w: u32)
     requires { ⌜ i + 4 ≤ length (now d) ⌝ }
     ensures { λ _. ⌜ now (d .exit) ≡ sets (now (d .entry)) i (bytesOf w) ⌝ }
 {

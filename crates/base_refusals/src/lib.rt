@@ -48,5 +48,10 @@ pub const TABLE_NUMBER_OUT_OF_RANGE: u64 = 50;
 // A record before has this number.
 pub const TABLE_NUMBER_USED: u64 = 51;
 
-// The target of a turned table is shorter than its record.
+// The target of a turned table, or of paired logs, is shorter than what is written there.
 pub const TARGET_TOO_SHORT: u64 = 52;
+
+// A table that is to be paired is absent or no list, or its times fall.
+pub const NOT_A_LOG: u64 = 53;
+
+pub const TOLERANCE_OUT_OF_RANGE: u64 = 54;

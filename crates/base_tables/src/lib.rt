@@ -34,7 +34,7 @@ pub const MOST_MAGNITUDE: i64 = 2147483648;
 // Where a table's number, collection, columns and rows stand in its content, and behind them its bounds (spec_encoding/specs/Data.antt).
 pub const NUMBER_AT: usize = 0;
 
-const COLLECTION_AT: usize = 1;
+pub const COLLECTION_AT: usize = 1;
 
 pub const COLUMNS_AT: usize = 2;
 
@@ -121,7 +121,7 @@ pub fn word_in(s: &[u8], i: usize) -> u32
     four_in(s, i) as u32
 }
 
-fn word_at(s: &[u8], i: usize) -> u32
+pub fn word_at(s: &[u8], i: usize) -> u32
     requires { ⌜ i < 2 ^ 61 ⌝ }
     ensures { λ r. ⌜ r ≡ four (now (s .entry)) i ⌝ }
 {
