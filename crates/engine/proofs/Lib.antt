@@ -10,5 +10,6 @@ pub mod SameRun
 pub mod SameTables
 pub mod RecordOrder
 pub mod Directions
+pub mod Logs
 pub mod Rota
 pub mod ScratchLimit

@@ -11,6 +11,7 @@ ghost use Rattle.spec_outcome.specs.Acceptance.{lentAs};
 ghost use Rattle.spec_outcome.specs.Outcome.{byLoops, byPlan, checked, planLines, scratchWords};
 ghost use Rattle.spec_outcome.specs.Gives.{Gives};
 ghost use Rattle.spec_outcome.specs.Directions.{tableToColumns, tableToRows, Fills};
+ghost use Rattle.spec_logs.specs.PairLogs.{pairLogs};
 ghost use Rattle.engine.specs.Replies.{AdmitPost, Replies};
 ghost use Rattle.engine.specs.Portions.{BeginPost, PortionPost, Says, EndedPost};
 ghost use Rattle.engine.specs.Rota.{seatOf, SeatPost, TwoSeatsPost, RoundPost};
@@ -390,6 +391,24 @@ pub extern "C" fn dislogha_table_to_rows(source: &[u8], target: &mut [u8]) -> Re
     Reply {
         number: t.number,
         length: t.length as u64,
+    }
+}
+
+// "Ship's log against quay log": the pairs and singles of two tables as three records, one behind the other.
+#[no_mangle]
+pub extern "C" fn dislogha_pair_logs(
+    tables: &[u8],
+    first: u64,
+    second: u64,
+    tolerance: u64,
+    target: &mut [u8],
+) -> Reply
+    ensures { λ r. ⌜ Fills (pairLogs (now (tables .entry)) first second tolerance (now (target .entry))) (r .number) (r .length) (now (target .exit)) ⌝ }
+{
+    let p = base_logs::pair_logs(tables, first, second, tolerance, target);
+    Reply {
+        number: p.number,
+        length: p.length as u64,
     }
 }
 
