@@ -25,6 +25,9 @@
 // as 0, 1, 2, 3. Data may have both kinds; which one a table is in changes no answer and no refusal.
 // `table_to_columns` and `table_to_rows` turn one record into the other kind.
 //
+// `pair_logs` (request E11) pairs two list tables, a ship's log and a quay log, whose column 0 has seconds
+// that do not fall, and writes three such records of kind 20: pairs and singles by their rows' positions.
+//
 // Calendars (request E4) are a span of their own in every call that reads or runs a question, `{}` where
 // there are none: up to 4 records of kind 24, numbered by position from 0. A record has one byte of
 // windows (0 to 32), then the windows, each one byte of weekday (0 Monday to 6 Sunday) and two bytes each
@@ -140,6 +143,11 @@ dislogha_result dislogha_table_to_columns(const std::uint8_t *record, std::uint6
 dislogha_result dislogha_table_to_rows(const std::uint8_t *record, std::uint64_t record_bytes,
                                        std::uint8_t *target, std::uint64_t target_bytes) noexcept;
 
+dislogha_result dislogha_pair_logs(const std::uint8_t *data, std::uint64_t data_bytes,
+                                   std::uint64_t first, std::uint64_t second,
+                                   std::uint64_t tolerance, std::uint8_t *target,
+                                   std::uint64_t target_bytes) noexcept;
+
 dislogha_first_open_result dislogha_first_open(const std::uint8_t *calendars,
                                                std::uint64_t calendars_bytes, std::uint64_t calendar,
                                                std::int64_t minute) noexcept;
@@ -157,13 +165,16 @@ namespace dislogha {
 constexpr std::size_t scratch_words = 2048;
 
 // Bytes of stack that a call needs at most, 128 KiB, whatever it is asked and whatever it is lent, on
-// x86-64 as the kit compiles it: worked out from the compiled frames, 129,552, and seen in the deepest
+// x86-64 as the kit compiles it: worked out from the compiled frames, 129,776, and seen in the deepest
 // questions that were made, 117,760 (`tests/stack/run`; docs/FIGURES.md). Another processor needs
 // another figure.
 constexpr std::size_t stack_bytes = 131072;
 
 // Rows that a portion may offer.
 constexpr std::uint64_t most_rows = 65535;
+
+// Seconds that two rows of paired logs may be apart at most.
+constexpr std::uint64_t most_tolerance = 3600;
 
 // Seats of a rota, and rows that a seat may be offered in a round.
 constexpr std::size_t most_seats = 4;
@@ -239,9 +250,13 @@ enum class Refusal : std::uint64_t {
     nothing_unfinished = 48,
     // A rota of no seat or above four, or a quota of 0 or above 1,000. Nothing is changed.
     rota_out_of_range = 49,
-    // The target is shorter than the record; after all refusals of the record. Bytes behind a record
-    // that is written never change.
+    // The target is shorter than the record, of `pair_logs` than the three records; after all other
+    // refusals. Bytes behind what is written never change.
     target_too_short = 52,
+    // A table to pair that is absent or not a list, or whose column 0 falls anywhere; after the data.
+    not_a_log = 53,
+    // A tolerance above 3,600; after 53 and before 52.
+    tolerance_out_of_range = 54,
 };
 
 struct Result {
@@ -436,6 +451,23 @@ inline Result table_to_columns(Bytes record, Target target) noexcept {
 // A record of kind 23 as one of kind 20. Each of the two undoes the other.
 inline Result table_to_rows(Bytes record, Target target) noexcept {
     return turn_with(dislogha_table_to_rows, record, target);
+}
+
+// Pairs tables `first` and `second` of the data, which may be one: the earliest row left of each pair where
+// their seconds are at most `tolerance` apart, else the earlier is single; once one log is used up, the
+// other's rest is single. No pairing within the tolerance has more pairs. `answered` and the count of the
+// bytes of three list records of kind 20, one behind the other at the front of the target, 43 and four for
+// each row of both logs: table 5, pairs of positions (from 0) in the first and the second log; table 6,
+// single positions of the first; table 7, of the second; each in time order, every column bound 1,023.
+// Later bytes are as they were, and at a refusal all are. The refusals are the data's, then 53, 54 and 52.
+// No scratch is lent.
+inline Result pair_logs(Bytes data, std::uint64_t first, std::uint64_t second, std::uint64_t tolerance,
+                        Target target) noexcept {
+    if (overlaps(target, data)) {
+        return overlapping;
+    }
+    return result_of(dislogha_pair_logs(data.first(), data.count(), first, second, tolerance,
+                                        target.first(), target.count()));
 }
 
 // Begins to answer by plan in portions: 31 and all refusals to 28, or `answered` and length 0; then

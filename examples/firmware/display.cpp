@@ -64,6 +64,10 @@ const char *words_of(dislogha::Refusal refusal) noexcept {
         return "rota out of range";
     case Refusal::target_too_short:
         return "target too short";
+    case Refusal::not_a_log:
+        return "no log, or it falls";
+    case Refusal::tolerance_out_of_range:
+        return "tolerance over 3600";
     }
     return "unknown refusal";
 }

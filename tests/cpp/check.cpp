@@ -220,6 +220,62 @@ void turn_listing() {
            "the record's own refusals come first");
 }
 
+// Two logs, the seconds 0, 9 and 9, 12, and what a tolerance of 3 makes of them: a pair of rows 1 and 0, and
+// two singles.
+const std::vector<std::uint8_t> logs{
+    17, 0, 20, 0, 0, 1, 1, 2, 0, 0, 0, 0, 128, 0, 0, 0, 0, 9,  0, 0, 0, //
+    17, 0, 20, 0, 1, 1, 1, 2, 0, 0, 0, 0, 128, 9, 0, 0, 0, 12, 0, 0, 0, //
+};
+const std::vector<std::uint8_t> logs_paired{
+    21, 0, 20, 0, 5, 1, 2, 1, 0, 255, 3, 0, 0, 255, 3, 0, 0, 1, 0, 0, 0, 0, 0, 0, 0, //
+    13, 0, 20, 0, 6, 1, 1, 1, 0, 255, 3, 0, 0, 0,   0, 0, 0,                         //
+    13, 0, 20, 0, 7, 1, 1, 1, 0, 255, 3, 0, 0, 1,   0, 0, 0,                         //
+};
+
+// Tables paired into a target of so many bytes, in a block of its own.
+struct LogsPaired {
+    std::vector<std::uint8_t> target;
+    Result result;
+
+    LogsPaired(std::uint64_t first, std::uint64_t second, std::uint64_t tolerance, std::size_t count,
+               const std::vector<std::uint8_t> &data = logs)
+        : target(count, 0x5A), result(dislogha::pair_logs(bytes(data), first, second, tolerance,
+                                                          {target.data(), target.size()})) {}
+
+    bool refused(Refusal refusal) const {
+        return refuses(result, refusal) && target == std::vector<std::uint8_t>(target.size(), 0x5A);
+    }
+};
+
+void pair_two_logs() {
+    const auto size = logs_paired.size();
+    const LogsPaired there(0, 1, 3, size);
+    expect(answers(there.result, size) && there.target == logs_paired, "a pair and two singles");
+    auto behind = logs_paired;
+    behind.push_back(0x5A);
+    expect(LogsPaired(0, 1, 3, size + 1).target == behind, "no byte behind them is changed");
+    expect(LogsPaired(0, 0, 0, size).result.length == size, "a log may be paired with itself");
+    expect(LogsPaired(0, 1, 3, size - 1).refused(Refusal::target_too_short) &&
+               LogsPaired(0, 1, 3, 0).refused(Refusal::target_too_short),
+           "a target that is too short for them stays as it was");
+    expect(LogsPaired(0, 1, dislogha::most_tolerance + 1, 0).refused(Refusal::tolerance_out_of_range),
+           "a tolerance above an hour comes before that");
+    auto bag = logs, falls = logs, above = logs;
+    bag[5] = 2;
+    falls[13] = 10;
+    above[4] = 8;
+    expect(LogsPaired(0, 2, 9999, 0).refused(Refusal::not_a_log) &&
+               LogsPaired(8, 1, 9999, 0).refused(Refusal::not_a_log) &&
+               LogsPaired(0, 1, 9999, 0, bag).refused(Refusal::not_a_log) &&
+               LogsPaired(0, 1, 9999, 0, falls).refused(Refusal::not_a_log),
+           "no table, no list and times that fall come before both");
+    expect(LogsPaired(0, 1, 9999, 0, above).refused(Refusal::table_number_out_of_range),
+           "and the data before all");
+    // Tables 6 and 7 of what was written are lists of positions, 0 and 1: a second apart.
+    const LogsPaired again(6, 7, 1, 51, there.target);
+    expect(answers(again.result, 51) && again.target[7] == 1, "what was written is read as tables");
+}
+
 // "The engine reads either kind, with the same answers"
 void answer_by_column(AnswerCall answer_by) {
     auto mixed = tables;
@@ -675,6 +731,9 @@ void check_overlap() {
     expect(overlaps(dislogha::table_to_columns(bytes(record), inside)) &&
                overlaps(dislogha::table_to_rows(bytes(record), inside)) && record == tables,
            "a target inside the record is not written");
+    auto lent = logs;
+    expect(overlaps(dislogha::pair_logs(bytes(lent), 0, 1, 3, {&lent.back(), 1})) && lent == logs,
+           "nor is one inside the data");
     const auto same =
         dislogha::check(bytes(question), bytes(hours), bytes(question), words(scratch));
     expect(refuses(same, Refusal::not_a_table), "data and question may be the same bytes");
@@ -687,6 +746,7 @@ void check_overlap() {
 int main() {
     check_listing();
     turn_listing();
+    pair_two_logs();
     for (const AnswerCall answer_by : {dislogha::answer_by_loops, dislogha::answer_by_plan}) {
         answer_listing(answer_by);
         answer_reversed(answer_by);

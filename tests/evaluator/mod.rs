@@ -1,7 +1,7 @@
-//! A second evaluator of document 01 with the landed requests of document 02 (E1, E2, E4, E5, E9, E10, E13), written from
+//! A second evaluator of document 01 with the landed requests of document 02 (E1, E2, E4, E5, E9, E10, E11, E13), written from
 //! their text alone and as literally as it can be: trees are rewritten, streams are kept whole, and nothing
 //! is fast. It serves the four calls and says `Unknown` where an input would take it too long; it also
-//! turns tables from rows to columns and back, and knows days, dates and open minutes.
+//! turns tables from rows to columns and back, pairs two logs, and knows days, dates and open minutes.
 
 mod bounds;
 mod budget;
@@ -9,6 +9,7 @@ mod by_column;
 mod calendars;
 mod checks;
 mod dates;
+mod logs;
 mod meaning;
 mod normal;
 mod operators;
@@ -136,6 +137,21 @@ pub fn table_to_rows(record: &[u8], target_bytes: usize) -> Result<(u32, Vec<u8>
 fn turned(record: &[u8], from: Kind, target_bytes: usize) -> Result<(u32, Vec<u8>), Unknown> {
     let bytes = by_column::turned(record, from, target_bytes).map(|bytes| (0, bytes));
     refusal_or(bytes, |number| (number, Vec::new()))
+}
+
+/// E11: two tables of these numbers paired into a buffer of so many bytes: the three records; at a refusal
+/// its number and no bytes. What is behind them in the buffer stays.
+pub fn pair_logs(
+    data: &[u8],
+    first: u64,
+    second: u64,
+    tolerance: u64,
+    target_bytes: usize,
+) -> Result<(u32, Vec<u8>), Unknown> {
+    let records = logs::pair_logs(data, first, second, tolerance, target_bytes);
+    refusal_or(records.map(|bytes| (0, bytes)), |number| {
+        (number, Vec::new())
+    })
 }
 
 /// E4: number, found and minute of "the first open minute at or after a given signed one, or none exactly if

@@ -138,6 +138,16 @@ extern "C" {
         answer4_words: usize,
     ) -> Round;
 
+    fn dislogha_pair_logs(
+        data: *const u8,
+        data_bytes: usize,
+        first: u64,
+        second: u64,
+        tolerance: u64,
+        target: *mut u8,
+        target_bytes: usize,
+    ) -> Outcome;
+
     fn dislogha_first_open(
         calendars: *const u8,
         calendars_bytes: usize,
@@ -234,6 +244,28 @@ pub fn round(data: &[u8], calendars: &[u8], quotas: &[u64], seats: [LentSeat; 4]
             fourth.scratch.len(),
             fourth.answer.as_mut_ptr(),
             fourth.answer.len(),
+        )
+    }
+}
+
+/// Two tables of these numbers paired.
+pub fn pair_logs(
+    data: &[u8],
+    first: u64,
+    second: u64,
+    tolerance: u64,
+    target: &mut [u8],
+) -> Outcome {
+    // SAFETY: each pointer goes with the length of its own slice, and the target overlaps nothing else.
+    unsafe {
+        dislogha_pair_logs(
+            data.as_ptr(),
+            data.len(),
+            first,
+            second,
+            tolerance,
+            target.as_mut_ptr(),
+            target.len(),
         )
     }
 }

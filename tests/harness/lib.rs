@@ -28,6 +28,7 @@ mod nodes;
 mod numbers;
 pub mod offers;
 pub mod open;
+pub mod pairing;
 pub mod portioned;
 mod random;
 pub mod record_order;

@@ -45,6 +45,15 @@ std::vector<std::uint8_t> longest() {
 const std::vector<std::uint8_t> by_row = longest();
 std::vector<std::uint8_t> by_column(by_row), back(by_row);
 
+// The same as a list, whose times do not fall; and what it is paired to with itself: 1,024 pairs.
+std::vector<std::uint8_t> longest_log() {
+    std::vector<std::uint8_t> out = longest();
+    out[5] = 1;
+    return out;
+}
+const std::vector<std::uint8_t> longest_list = longest_log();
+std::vector<std::uint8_t> pairs(43 + 4 * 2048);
+
 std::vector<std::uint8_t> bytes(const std::string &hex) {
     std::vector<std::uint8_t> out;
     if (hex == "-") return out;
@@ -119,6 +128,18 @@ void turned() {
     if (number == 0 && back != by_row) number = 1;
 }
 
+void paired_with_itself(const std::vector<std::uint8_t> &log) {
+    if (number == 0) number = dislogha_pair_logs(log.data(), log.size(), 0, 0, 3600, pairs.data(), pairs.size()).number;
+}
+
+// The longest log with itself, by column and by row, whatever the question.
+void paired() {
+    number = dislogha_table_to_columns(longest_list.data(), longest_list.size(), by_column.data(), by_column.size())
+                 .number;
+    paired_with_itself(by_column);
+    paired_with_itself(longest_list);
+}
+
 // The first open minute of the last calendar, 42 where none is lent; then the last date there and back.
 void hours() {
     const std::uint64_t wanted = calendars.empty() ? 42 : 0;
@@ -181,6 +202,7 @@ int main(int argc, char **argv) {
                     {"answer_by_plan", by_plan, 0, ""}, {"plan_lines", plan_lines, 0, ""},
                     {"begin", begin, 0, ""},           {"portion", portions, 0, ""},
                     {"round", rounds, 0, ""},           {"both directions", turned, 0, ""},
+                    {"paired logs", paired, 0, ""},
                     {"days and hours", hours, 0, ""}};
     std::ifstream file(argv[1]);
     std::string line;
