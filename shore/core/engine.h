@@ -10,11 +10,13 @@
 
 namespace shore {
 
-// How much is lent at most. A drill may lend less, and is refused by 31, 32 or 33.
+// How much is lent at most. A drill may lend less, and is refused by 31, 32, 33 or 52.
 struct Lent {
     std::size_t scratch = dislogha::scratch_words;
     std::size_t answer = std::size_t{1} << 24;
     std::size_t lines = std::size_t{1} << 16;
+    // Three records of paired logs: a position of each row, heads of 9 bytes, and four columns' bounds.
+    std::size_t target = 2 * 4 * most_rows + 3 * 9 + 4 * 4;
 };
 
 struct Words {

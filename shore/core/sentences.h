@@ -33,7 +33,9 @@ inline const char *sentence(std::uint64_t number) {
     case 49: return "seats or quota outside their ranges";
     case 50: return "a table's number above 7";
     case 51: return "a table's number that an earlier one has";
-    case 52: return "the target is shorter than the record";
+    case 52: return "the target is shorter than the records";
+    case 53: return "a time column that falls, or a table that is absent or not a list";
+    case 54: return "a tolerance outside 0 to 3,600 seconds";
     default: return "a number that the desk does not know";
     }
 }

@@ -16,6 +16,7 @@ constexpr std::uint32_t widest = 0x80000000u;
 constexpr std::size_t most_rows = 1024;
 constexpr std::size_t most_columns = dislogha::text::most_columns;
 constexpr std::size_t most_tables = dislogha::text::most_tables;
+constexpr int list = 1;
 constexpr int bag = 2;
 
 struct Table {

@@ -5,7 +5,7 @@ import sys
 from pathlib import Path
 
 HERE = Path(__file__).resolve().parent
-SCRIPTS = ['engine.js', 'values.js', 'tables.js', 'calendars.js', 'plan.js', 'question.js', 'seats.js', 'page.js']
+SCRIPTS = ['engine.js', 'values.js', 'tables.js', 'calendars.js', 'plan.js', 'question.js', 'seats.js', 'logs.js', 'page.js']
 EXAMPLES = HERE.parent / 'examples'
 HOURS = 'Mon-Fri 06:00-14:00, Sat 08:00-12:00'
 
@@ -15,15 +15,16 @@ def script(value):
     return json.dumps(value).replace('</', '<\\/')
 
 
+def table(name, collection):
+    lines = (EXAMPLES / (name + '.csv')).read_text().split()
+    return {'name': name, 'collection': collection, 'columns': lines[0].split(','), 'rows': [line.split(',') for line in lines[1:]]}
+
+
 def examples():
-    """The tables, calendars and questions that the page begins with."""
-    tables = []
-    for name, collection in (('berths', 'bag'), ('bollards', 'bag'), ('locks', 'set')):
-        lines = (EXAMPLES / (name + '.csv')).read_text().split()
-        tables.append({'name': name, 'collection': collection, 'columns': lines[0].split(','),
-                       'rows': [line.split(',') for line in lines[1:]]})
+    """The tables, calendars and questions that the page begins with, and the two logs that it has for pairing."""
     questions = [line.split(': ', 1) for line in (HERE / 'questions').read_text().splitlines() if line]
-    return {'tables': tables, 'calendars': [{'name': 'lock', 'hours': HOURS}], 'questions': questions}
+    return {'tables': [table('berths', 'bag'), table('bollards', 'bag'), table('locks', 'set')], 'calendars': [{'name': 'lock', 'hours': HOURS}],
+            'logs': [table('ship', 'list'), table('quay', 'list')], 'questions': questions}
 
 
 def main(module, page):

@@ -6,6 +6,7 @@
 
 #include "ask.h"
 #include "between.h"
+#include "logs.h"
 #include "portions.h"
 #include "json.h"
 #include "typed.h"
@@ -260,6 +261,59 @@ void tell_question(Json &json) {
     json.key("readBack").string(text_of(asked.question->bytes, page.stored, fault));
 }
 
+// -------------------------------------------------------------------------------------------- logs
+
+void tell_seconds(Json &json, const Tables &tables, std::uint64_t number) {
+    const Table &log = *table_numbered(tables, static_cast<std::int64_t>(number));
+    json.open('[');
+    for (std::size_t i = 0; i < log.rows.size(); i++) {
+        json.number(seconds_at(log, i));
+    }
+    json.close(']');
+}
+
+void tell_singles(Json &json, const Table &singles) {
+    json.open('[');
+    for (const auto &row : singles.rows) {
+        json.number(row[0]);
+    }
+    json.close(']');
+}
+
+void tell_paired(Json &json, const Tables &tables, const LogsAsked &logs, const PairedLogs &paired) {
+    json.key("seconds").open('[');
+    tell_seconds(json, tables, logs.first);
+    tell_seconds(json, tables, logs.second);
+    json.close(']').key("pairs").open('[');
+    for (const auto &row : paired.pairs().rows) {
+        json.open('[').number(row[0]).number(row[1]).close(']');
+    }
+    json.close(']').key("singles").open('[');
+    tell_singles(json, paired.first_singles());
+    tell_singles(json, paired.second_singles());
+    json.close(']').key("bytes").number(static_cast<double>(paired.records.size()));
+}
+
+// `typed` has the numbers of two tables and a tolerance.
+void tell_logs(Json &json, const Tables &tables, const std::vector<std::string> &typed) {
+    LogsAsked logs;
+    logs.first = static_cast<std::uint64_t>(unsigned_of(typed[0], most_typed));
+    logs.second = static_cast<std::uint64_t>(unsigned_of(typed[1], most_typed));
+    const bool number = read_tolerance(typed[2], logs.tolerance);
+    const PairedLogs paired = number ? paired_logs(engine, tables, logs) : PairedLogs();
+    if (!number) {
+        json.key("number").nothing();
+    } else {
+        tell_number(json, paired.number);
+    }
+    if (!number || paired.number != 0) {
+        json.key("fault").open('{').key("why");
+        json.string(number ? refused_log(engine, tables, logs, paired.number) : "A tolerance is a number of seconds").close('}');
+    } else {
+        tell_paired(json, tables, logs, paired);
+    }
+}
+
 } // namespace
 
 // ------------------------------------------------------------------------------------------- calls
@@ -317,6 +371,17 @@ EXPORT(hours) void hours(std::uint32_t bytes) {
         json.string(shown(hours_at(packed(calendars), i, read.moment()), ""));
     }
     reply_with(json.close(']').close('}'));
+}
+
+// Two logs paired. Where a question stands are the numbers of two tables and a tolerance; calendars are not lent.
+EXPORT(logs) void logs(std::uint32_t bytes) {
+    const TypedPage typed = PageReading(given.substr(0, bytes)).page();
+    Json json;
+    json.open('{');
+    if (!stored_wrong(json, typed)) {
+        tell_logs(json, typed.stored.tables, split(typed.question, cell_end));
+    }
+    reply_with(json.close('}'));
 }
 
 // All that can be said of tables and question without an answer.

@@ -5,11 +5,14 @@ function byId(id) { return document.getElementById(id); }
 
 function startTabs() {
   const tabs = [...byId('tabs').children];
-  const open = chosen => tabs.forEach(tab => {
-    tab.setAttribute('aria-selected', String(tab === chosen));
-    tab.tabIndex = tab === chosen ? 0 : -1;
-    byId(tab.getAttribute('aria-controls')).hidden = tab !== chosen;
-  });
+  const open = chosen => {
+    tabs.forEach(tab => {
+      tab.setAttribute('aria-selected', String(tab === chosen));
+      tab.tabIndex = tab === chosen ? 0 : -1;
+      byId(tab.getAttribute('aria-controls')).hidden = tab !== chosen;
+    });
+    pairLogs();
+  };
   tabs.forEach((tab, place) => {
     tab.onclick = () => open(tab);
     tab.onkeydown = event => {
@@ -29,10 +32,12 @@ function start() {
   startCalendars();
   startQuestion();
   startSeats();
+  startLogs();
   storedChanged = () => {
     byId('shuffled').hidden = true;
     tellHours();
     storedChangedAtSeats();
+    pairLogs();
     ask();
   };
   calendars = EXAMPLES.calendars;

@@ -46,7 +46,7 @@ function showLook(reply) {
   byId('plan').classList.toggle('without-rows', !byId('show-rows').checked);
 }
 
-// A fault in words, underlined in the text. While the text is unfinished, it is dim.
+// A fault in words, underlined in the text, where it is one of a text. While the text is unfinished, it is dim.
 function showFault(said, under, text, reply) {
   const { number: refusal, fault } = reply;
   said.className = 'said';
@@ -61,7 +61,7 @@ function showFault(said, under, text, reply) {
   const parts = [];
   if (fault.table !== undefined) parts.push(placeInTables(fault));
   else if (fault.calendar !== undefined) parts.push(`Calendar ${calendars[fault.calendar].name}`);
-  else underline(under, text, fault, dim);
+  else if (under) underline(under, text, fault, dim);
   if (fault.why) parts.push(fault.why);
   if (refusal) said.append(element('b', { textContent: `Refused ${refusal}` }), ` (${reply.sentence})`, parts.length ? ': ' : '');
   said.append(parts.join(': '), '.');

@@ -8,6 +8,7 @@
 
 #include "between.h"
 #include "files.h"
+#include "logs.h"
 
 namespace shore {
 
@@ -126,7 +127,7 @@ class Commands {
             desk_.fail("save FILE, or FILE by rows, or FILE by columns");
             return;
         }
-        shore::save(desk_, arguments[0], columns);
+        shore::save(desk_, desk_.stored, arguments[0], columns);
     }
     void read(const Arguments &arguments) { scripts.push_back(arguments[0]); }
     void tables(const Arguments &) {
@@ -254,6 +255,54 @@ class Commands {
         if (moment(joined(arguments, 0), 1, true, asked)) {
             say(date_shown(asked.day) + " " + time_shown(asked.minute) + " is minute " + std::to_string(asked.minute_number()));
         }
+    }
+    // A table by its name, or by a number, which no table need have; false, and told, where none is called so.
+    bool numbered(const std::string &word, std::uint64_t &number) {
+        const std::int64_t given = unsigned_of(word, most_typed);
+        const Table *table = given < 0 ? called(word) : nullptr;
+        number = static_cast<std::uint64_t>(table != nullptr ? table->number : given);
+        return given >= 0 || table != nullptr;
+    }
+    void pair(const Arguments &arguments) {
+        const Tables &tables = desk_.stored.tables;
+        LogsAsked asked;
+        if (!numbered(arguments[0], asked.first) || !numbered(arguments[1], asked.second)) {
+            return;
+        }
+        const bool saved = arguments.size() == 5 && arguments[3] == "save";
+        if (!read_tolerance(arguments[2], asked.tolerance) || (arguments.size() > 3 && !saved)) {
+            desk_.fail("a tolerance is a number of seconds; behind it may stand save FILE");
+            return;
+        }
+        const PairedLogs paired = paired_logs(desk_.engine, tables, asked);
+        if (paired.number != 0) {
+            desk_.refused(paired.number, refused_log(desk_.engine, tables, asked, paired.number));
+            return;
+        }
+        beside(paired, *table_numbered(tables, static_cast<std::int64_t>(asked.first)),
+               *table_numbered(tables, static_cast<std::int64_t>(asked.second)));
+        if (saved) {
+            shore::save(desk_, Stored{paired.tables, {}}, arguments[4], false);
+        }
+    }
+    // Two logs side by side, pairs joined by a line.
+    static void beside(const PairedLogs &paired, const Table &first, const Table &second) {
+        Grid grid({"position", first.name + "." + first.columns[0], "", second.name + "." + second.columns[0], "position"});
+        const auto cell = [](const std::string &text) { return Cell{{text}, true}; };
+        const auto position = [&](std::size_t at) { return cell(at == Beside::none ? "" : std::to_string(at)); };
+        const auto seconds = [&](const Table &log, std::size_t at) { return cell(at == Beside::none ? "" : std::to_string(seconds_at(log, at))); };
+        const SideBySide both(paired, first, second);
+        for (const Beside &line : both.lines()) {
+            const char *between = line.pair() ? "●──────●" : line.second == Beside::none ? "○ single" : "single ○";
+            grid.add({position(line.first), seconds(first, line.first), cell(between), seconds(second, line.second), position(line.second)});
+        }
+        say(grid.drawn());
+        const auto singles = [](const Table &found, const Table &log) { return counted(found.rows.size(), "single", "singles") + " of " + log.name; };
+        const auto bytes = [](const Table &table) { return std::to_string(packed(table).size()); };
+        say(counted(paired.pairs().rows.size(), "pair", "pairs") + ", " + singles(paired.first_singles(), first) + ", " +
+            singles(paired.second_singles(), second) + "; records 5, 6 and 7 have " + bytes(paired.pairs()) + ", " +
+            bytes(paired.first_singles()) + " and " + bytes(paired.second_singles()) + " bytes, together " +
+            std::to_string(paired.records.size()));
     }
     void bound(const Arguments &arguments) {
         const std::size_t point = arguments[0].find('.');
@@ -461,16 +510,18 @@ class Commands {
         std::size_t *what = arguments[0] == "scratch"  ? &lent.scratch
                             : arguments[0] == "answer" ? &lent.answer
                             : arguments[0] == "lines"  ? &lent.lines
+                            : arguments[0] == "target" ? &lent.target
                                                        : nullptr;
         const Lent enough;
         const std::size_t most = arguments[0] == "scratch"  ? enough.scratch
                                  : arguments[0] == "answer" ? enough.answer
+                                 : arguments[0] == "target" ? enough.target
                                                             : enough.lines;
         const std::int64_t given = arguments.size() < 2 || arguments[1] == "enough"
                                        ? static_cast<std::int64_t>(most)
                                        : number_of(arguments[1], static_cast<std::int64_t>(most));
         if (what == nullptr || given > static_cast<std::int64_t>(most)) {
-            desk_.fail("lend scratch, answer or lines, and at most " + grouped(static_cast<double>(most)));
+            desk_.fail("lend scratch, answer, lines or target, and at most " + grouped(static_cast<double>(most)));
             return;
         }
         *what = static_cast<std::size_t>(given);
@@ -571,6 +622,8 @@ inline const std::vector<Commands::Command> &Commands::all() {
         {".open", "CALENDAR MINUTE|DATE [TIME]", "whether it is open then, or when it opens", &Commands::open, 2, 3},
         {".minute", "MINUTE|DATE [TIME]", "the number of a minute, as 2026-11-17 09:30, or its date", &Commands::minute, 1, 2},
         {".day", "DAY|DATE", "the number of a day, as 2026-11-17, or its date", &Commands::day, 1, 1},
+        {".pair", "TABLE TABLE SECONDS [save FILE]", "two logs side by side: which rows pair, no more than so many seconds apart",
+         &Commands::pair, 3, 5},
         {".plan", "", "the last question's plan in words", &Commands::plan, 0, 0},
         {".lines", "", "the plan as the engine prints it", &Commands::lines, 0, 0},
         {".rows", "", "the rows between the plan's operators", &Commands::rows, 0, 0},
@@ -584,7 +637,7 @@ inline const std::vector<Commands::Command> &Commands::all() {
         {".wait", "[N]", "wait for them, or for one", &Commands::wait, 0, 1},
         {".stop", "[N]", "stop them, or one", &Commands::stop, 0, 1},
         {".portion", "ROWS|auto", "answer by portions of so many rows", &Commands::portion, 1, 1},
-        {".lend", "scratch|answer|lines [N|enough]", "lend the engine so much: drills of 31, 32, 33",
+        {".lend", "scratch|answer|lines|target [N|enough]", "lend the engine so much: drills of 31, 32, 33, 52",
          &Commands::lend, 1, 2},
         {".read", "FILE", "take questions and commands from a file", &Commands::read, 1, 1},
         {".echo", "on|off", "show each line before what it gives", &Commands::echo, 1, 1},

@@ -217,19 +217,19 @@ inline bool write_or_remove(const std::string &path, const Bytes &bytes) {
 }
 
 // All tables as records of kind 20, or by columns as those of kind 23; the calendars and all names beside them.
-inline void save(Desk &desk, const std::string &path, bool columns) {
+inline void save(Desk &desk, const Stored &stored, const std::string &path, bool columns) {
     Bytes bytes;
-    for (const Table &table : desk.stored.tables) {
+    for (const Table &table : stored.tables) {
         const Bytes record = columns ? by_columns(packed(table)) : packed(table);
         bytes.insert(bytes.end(), record.begin(), record.end());
     }
-    const Calendars &calendars = desk.stored.calendars;
-    if (!write_file(path, std::string(bytes.begin(), bytes.end())) || !write_file(names_of(path), schema_text(desk.stored) + "\n") ||
+    const Calendars &calendars = stored.calendars;
+    if (!write_file(path, std::string(bytes.begin(), bytes.end())) || !write_file(names_of(path), schema_text(stored) + "\n") ||
         !write_or_remove(calendars_of(path), packed(calendars))) {
         desk.fail("cannot write " + path);
         return;
     }
-    say(path + ": " + counted(desk.stored.tables.size(), "table", "tables") + ", " + counted(bytes.size(), "byte", "bytes") +
+    say(path + ": " + counted(stored.tables.size(), "table", "tables") + ", " + counted(bytes.size(), "byte", "bytes") +
         (columns ? " by columns" : "") + "; names in " + names_of(path));
     if (!calendars.empty()) {
         say(calendars_of(path) + ": " + counted(calendars.size(), "calendar", "calendars"));

@@ -412,12 +412,74 @@ def at_seats(page, seen):
     seen.same('other hours at a seat', page.value("[...seats[0].answer.querySelectorAll('td')].map(cell => cell.textContent).join(' ')"), '1 18')
 
 
+# The logs as they are drawn: what stands beside each dot, the rows that are marked, and the rows that each line joins, found by the dots at its ends.
+DRAWN = '''(() => {
+  const rows = [...document.querySelectorAll('#logs .row')];
+  const text = (row, part) => row.querySelector(part)?.textContent ?? '';
+  const at = (x, y) => rows.filter(row => row.querySelector('circle').getAttribute('cx') === x && row.querySelector('circle').getAttribute('cy') === y);
+  const end = (line, which) => at(line.getAttribute('x' + which), line.getAttribute('y' + which)).map(row => text(row, '.position')).join();
+  return {
+    rows: rows.map(row => [text(row, '.position'), text(row, '.second'), text(row, '.mark')].join(' ').trim()),
+    pairs: [...document.querySelectorAll('#logs line')].map(line => [end(line, 1), end(line, 2)].join('-')).join(' '),
+    names: [...document.querySelectorAll('#logs .name')].map(name => name.textContent),
+  };
+})()'''
+
+
+def paired(page, said):
+    """The logs as they are drawn, once that is said of them."""
+    page.wait("document.getElementById('logs-said').textContent.startsWith(%s)" % json.dumps(said))
+    return page.value(DRAWN)
+
+
+def two_logs(page, seen):
+    """Two logs side by side: pairs joined, singles marked, what is refused."""
+    fresh(page)
+    page.click('#tabs button:nth-child(3)')
+    no_log = 'Refused 53 (a time column that falls, or a table that is absent or not a list): '
+    paired(page, no_log + 'berths is a bag.')
+    page.click('#example-logs')
+    drawn = paired(page, '4 pairs, 1 single of ship, 2 singles of quay; 87 bytes in three records.')
+    seen.same('names', drawn['names'], ['ship', 'quay'])
+    seen.same('rows and marks', drawn['rows'], ['0 0', '1 95', '2 240 single', '3 600', '4 1810',
+                                               '0 12', '1 101', '2 410 single', '3 588', '4 900 single', '5 1799'])
+    seen.same('lines', drawn['pairs'], '0-0 1-1 3-3 4-5')
+    page.picture(PICTURES / 'logs.png')
+    page.type('#tolerance', '200')
+    seen.same('a larger tolerance', paired(page, '5 pairs, 0 singles of ship, 1 single of quay;')['pairs'], '0-0 1-1 2-2 3-3 4-5')
+    for typed in ('3601', '-1', '4294967296'):
+        page.type('#tolerance', typed)
+        paired(page, 'Refused 54 (')
+        page.type('#tolerance', '3600')
+        paired(page, '5 pairs')
+    page.type('#tolerance', '1.5')
+    seen.same('no tolerance', [paired(page, 'A tolerance')['rows'], page.text('#logs-said')], [[], 'A tolerance is a number of seconds.'])
+    page.type('#tolerance', '12')
+    page.type('#tables .table:nth-child(4) tr:nth-child(3) td input', '100')
+    paired(page, no_log + 'ship falls from 100 to 95 at position 1.')
+    page.picture(PICTURES / 'logs-refused.png')
+    page.type('#tables .table:nth-child(4) tr:nth-child(3) td input', '95')
+    seen.same('the same second twice', paired(page, '3 pairs, 2 singles of ship, 3 singles of quay;')['pairs'], '0-1 3-3 4-5')
+    page.type('#tables .table:nth-child(4) tr:nth-child(2) th input', '1')
+    paired(page, 'Refused 43 (a bound over 2^31, or a cell beyond its column\'s): Table ship, row 1, column second.')
+    page.click('#tables .table:nth-child(4) .buttons button:nth-child(4)')
+    paired(page, '3 pairs')
+    page.value("byId('second-log').selectedIndex = 3; byId('second-log').onchange()")
+    drawn = paired(page, '5 pairs, 0 singles of ship, 0 singles of ship; 83 bytes')
+    seen.same('a log against itself', [drawn['names'], drawn['pairs']], [['ship', 'ship'], '0-0 1-1 2-2 3-3 4-4'])
+    page.value("setTables(['a', 'b'].map((name, place) => newTable(name, 'list', ['second'], [...Array(1024).keys()].map(each => [String(7 * each + place)]), "
+               "{ number: String(place) })))")
+    seen.same('long logs', len(paired(page, '1,024 pairs, 0 singles of a, 0 singles of b; 8,235 bytes')['rows']), 2048)
+    page.value('setTables([])')
+    paired(page, no_log + 'there is no table 0.')
+
+
 def other_panels(page, seen):
     fresh(page)
     page.focus('#question')
     page.value("document.querySelector('#tabs button').focus()")
-    page.press(*RIGHT)
-    page.press(*RIGHT)
+    for _ in range(3):
+        page.press(*RIGHT)
     seen.so('tabs go by keys', page.value("!document.getElementById('proved-panel').hidden && document.getElementById('question-panel').hidden"))
     proved = page.text('#proved-panel')
     seen.so('says what is not proved', 'What is not' in proved and 'compilation to WebAssembly' in proved and 'is ours' in proved)
@@ -448,6 +510,7 @@ def main():
         shuffled(page, beside)
         long_question(page, beside, folder)
         at_seats(page, beside)
+        two_logs(page, beside)
         other_panels(page, beside)
         beside.same('no script failed', page.faults, [])
     wrong = seen.faults + beside.faults

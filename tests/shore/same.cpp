@@ -224,7 +224,84 @@ Said dates(const Input &input) noexcept {
     return said(result, sum);
 }
 
-constexpr std::uint32_t made = 14;
+Said written(Result result) noexcept {
+    Sum sum;
+    lines.add_to(sum);
+    return said(result, sum);
+}
+
+// Two logs, which made inputs seldom have: lists of seconds in column 0, tables 2 and 5, the one by row, the other by column. Now and then a second falls.
+class Logs {
+  public:
+    explicit Logs(Numbers &numbers) noexcept {
+        const std::uint64_t any = numbers.next();
+        first_ = any % 9 == 0 ? 8 : 2;
+        tolerance_ = numbers.next() % (any % 4 == 0 ? 1 : any % 4 == 1 ? 60 : 4000);
+        record(2, numbers);
+        const std::size_t behind = count_;
+        record(5, numbers);
+        const auto turned = dislogha::table_to_columns({bytes_ + behind, count_ - behind}, {turned_, sizeof turned_});
+        for (std::size_t i = 0; i < turned.length; i++) {
+            bytes_[behind + i] = turned_[i];
+        }
+    }
+    Said paired(std::size_t bytes) const noexcept {
+        const auto target = lines.lend(bytes);
+        return written(dislogha::pair_logs({bytes_, count_}, first_, 5, tolerance_, target));
+    }
+
+  private:
+    void put(std::uint64_t value, std::size_t count) noexcept {
+        for (std::size_t i = 0; i < count; i++) {
+            bytes_[count_++] = static_cast<std::uint8_t>(value >> (8 * i) & 255);
+        }
+    }
+    void record(std::uint64_t number, Numbers &numbers) noexcept {
+        const std::uint64_t any = numbers.next();
+        const std::uint64_t columns = 1 + any % 3;
+        const std::uint64_t rows = numbers.next() % (any % 32 == 0 ? 1025 : 40);
+        std::uint64_t second = any % 16 == 1 ? 0x80000000 : any % 1000;
+        put(5 + 4 * columns * (rows + 1), 2);
+        put(20, 2);
+        put(number, 1);
+        put(1, 1);
+        put(columns, 1);
+        put(rows, 2);
+        for (std::uint64_t i = 0; i < columns; i++) {
+            put(0x80000000, 4);
+        }
+        for (std::uint64_t i = 0; i < rows * columns; i++) {
+            const std::uint64_t more = numbers.next();
+            second += i % columns != 0 ? 0 : more % 2000 == 1 ? std::uint64_t{0} - 5 : more % 7 == 0 ? 0 : more % 300;
+            put(i % columns == 0 ? second : more, 4);
+        }
+    }
+
+    static constexpr std::size_t most_record = 13 + 4 * 3 * 1025;
+    std::uint64_t first_;
+    std::uint64_t tolerance_;
+    std::size_t count_ = 0;
+    std::uint8_t bytes_[2 * most_record];
+    std::uint8_t turned_[most_record];
+};
+
+// The same call over an input's data, whatever its tables are, and over two logs.
+Said paired(const Input &input, Numbers &numbers) noexcept {
+    const std::uint64_t any = numbers.next();
+    const auto target = lines.lend(most_bytes);
+    return written(dislogha::pair_logs(input.data, any % 9, any / 9 % 9, any % 4000, target));
+}
+
+void pair(const Input &input, Said *out) noexcept {
+    Numbers numbers(input);
+    const Logs logs(numbers);
+    *out++ = paired(input, numbers);
+    const Said enough = *out++ = logs.paired(most_bytes);
+    *out++ = logs.paired(enough.length);
+    *out++ = logs.paired(enough.length - (enough.length > 0));
+}
+
+constexpr std::uint32_t made = 18;
 
 // The calls with what is enough and what is not.
 void make(const Input &input, Said *out) noexcept {
@@ -242,6 +319,7 @@ void make(const Input &input, Said *out) noexcept {
     *out++ = in_rounds(input);
     *out++ = first_open(input);
     *out++ = dates(input);
+    pair(input, out);
 }
 
 // A slice behind four bytes of its length.

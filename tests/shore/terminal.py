@@ -87,6 +87,9 @@ def edited(at):
     at.wait(PROMPT)
     at.type('some{ open(lo\t, 10080) }\n')
     at.wait(r'\ntrue\r')
+    at.wait(PROMPT)
+    at.type('.pai\tlar\tlar\t0\n')
+    at.wait('refused 53, .*: large is a bag')
 
 
 def stopped(at):
