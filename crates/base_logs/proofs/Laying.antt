@@ -20,7 +20,7 @@ use Rattle.base_logs.specs.declared.Rows.{Rows}
 use Rattle.base_logs.specs.declared.Places.{Places}
 use Rattle.base_logs.specs.Times.{timesIn}
 use Rattle.base_logs.specs.Moves.{LogsPre, rowsMove, firstRows, rowsAfter}
-use Rattle.base_logs.specs.Laying.{boundBytes, headBytes, HeadPre, rowEnd, RowPre, rowLaid, placesAfter, cellBytes, rowsLaid, Apart}
+use Rattle.base_logs.specs.Laying.{boundBytes, headBytes, HeadPre, rowEnd, RowPre, rowLaid, placesAfter, cellBytes, rowsLaid, TablesApart}
 use Rattle.base_logs.proofs.Moves.{onMove, leftAt, Standing, stands-first, stands-on, used-up}
 use Rattle.base_logs.proofs.Stores.{one-behind, sets-comm}
 
@@ -149,7 +149,7 @@ module _ (o : Bytes) (q : Places) (i j : ℕ) (r : Paired) where
   S = secondCells r
 
   -- A row's bytes, and then those of the rows behind it, are those of all.
-  laid-on : (v : Move) → Apart o q (onMove v i j r) → rowsLaid (rowLaid o q i j v) (placesAfter q v) r ≡ rowsLaid o q (onMove v i j r)
+  laid-on : (v : Move) → TablesApart o q (onMove v i j r) → rowsLaid (rowLaid o q i j v) (placesAfter q v) r ≡ rowsLaid o q (onMove v i j r)
   unfolding rowsLaid rowLaid placesAfter onMove bindL
   laid-on Pair A =
       ap (λ x. sets (sets x (q .firsts) F) (q .seconds) S)
@@ -172,7 +172,7 @@ module _ (o : Bytes) (q : Places) (i j : ℕ) (r : Paired) where
   row-length-kept First = length-sets o (q .firsts) (bytesOf i)
   row-length-kept Second = length-sets o (q .seconds) (bytesOf j)
 
-  apart-on : (v : Move) → Apart o q (onMove v i j r) → Apart (rowLaid o q i j v) (placesAfter q v) r
+  apart-on : (v : Move) → TablesApart o q (onMove v i j r) → TablesApart (rowLaid o q i j v) (placesAfter q v) r
   unfolding placesAfter onMove
   apart-on Pair A = record {
     pairs-end = omega (arith, A .pairs-end);
@@ -190,7 +190,7 @@ module _ (o : Bytes) (q : Places) (i j : ℕ) (r : Paired) where
     seconds-end = omega (arith, A .seconds-end, row-length-kept Second);
   }
 
-  row-room : (v : Move) → Apart o q (onMove v i j r) → rowEnd q v ≤ length o
+  row-room : (v : Move) → TablesApart o q (onMove v i j r) → rowEnd q v ≤ length o
   unfolding rowEnd onMove
   row-room Pair A = omega (arith, A .pairs-end, A .firsts-end, A .seconds-end)
   row-room First A = omega (arith, A .pairs-end, A .firsts-end, A .seconds-end)
@@ -200,14 +200,14 @@ module _ (o : Bytes) (q : Places) (i j : ℕ) (r : Paired) where
 pub record Laying (l : Bytes) (a b t : ℕ) (d₀ : Bytes) (p : Places) (d : Bytes) (q : Places) (r : Rows) : Type 0 where
   pub long : length d ≡ length d₀
   pub standing : Standing l a b t r
-  pub apart : Apart d q (leftAt l a b t (r .i) (r .j))
+  pub apart : TablesApart d q (leftAt l a b t (r .i) (r .j))
   pub left : rowsLaid d q (leftAt l a b t (r .i) (r .j)) ≡ rowsLaid d₀ p (paired t (timesIn l a) (timesIn l b))
 
-pub laying-first : (l : Bytes) (a b t : ℕ) (d : Bytes) (p : Places) → Apart d p (paired t (timesIn l a) (timesIn l b)) → {r : Rows} → r ≡ firstRows l a b
+pub laying-first : (l : Bytes) (a b t : ℕ) (d : Bytes) (p : Places) → TablesApart d p (paired t (timesIn l a) (timesIn l b)) → {r : Rows} → r ≡ firstRows l a b
     → Laying l a b t d p d p r
 laying-first l a b t d p A e =
     let s = stands-first l a b t e in
-    record { long = refl; standing = s .0; apart = subst (Apart d p) (sym (s .1)) A; left = ap (rowsLaid d p) (s .1) }
+    record { long = refl; standing = s .0; apart = subst (TablesApart d p) (sym (s .1)) A; left = ap (rowsLaid d p) (s .1) }
 
 module _ {l : Bytes} {a b t : ℕ} {d₀ : Bytes} {p : Places} {d : Bytes} {q : Places} {r : Rows} (L : Laying l a b t d₀ p d q r)
     {m n : ℕ} (em : m ≡ rowsIn a) (en : n ≡ rowsIn b) (h : r .i + r .j < m + n) {v : Move} (e : v ≡ rowsMove t m n r) where
@@ -218,7 +218,7 @@ module _ {l : Bytes} {a b t : ℕ} {d₀ : Bytes} {p : Places} {d : Bytes} {q : 
       record {
         first-few = omega (arith, L .standing .first-in, B .first-few);
         second-few = omega (arith, L .standing .second-in, B .second-few);
-        room = row-room d q (r .i) (r .j) (leftAt l a b t (z .i) (z .j)) v (subst (Apart d q) (s .2) (L .apart));
+        room = row-room d q (r .i) (r .j) (leftAt l a b t (z .i) (z .j)) v (subst (TablesApart d q) (s .2) (L .apart));
       }
 
   pub laying-next : {f : Bytes} {k : Places} {z : Rows} → f ≡ rowLaid d q (r .i) (r .j) v → k ≡ placesAfter q v → z ≡ rowsAfter l a b r v
@@ -226,7 +226,7 @@ module _ {l : Bytes} {a b t : ℕ} {d₀ : Bytes} {p : Places} {d : Bytes} {q : 
   laying-next {f} {k} {z} ed ek ez =
       let s = stands-on l a b t r (L .standing) em en h e ez in
       let left = leftAt l a b t (z .i) (z .j) in
-      let A = subst (Apart d q) (s .2) (L .apart) in (
+      let A = subst (TablesApart d q) (s .2) (L .apart) in (
         record {
           long = ap length ed ∙ row-length-kept d q (r .i) (r .j) left v ∙ L .long;
           standing = s .0;

@@ -15,7 +15,7 @@ use Rattle.spec_encoding.specs.Record.{Bytes, signed}
 use Rattle.spec_encoding.proofs.Data.{signed-small}
 use Rattle.base_signed.proofs.SignedWords.{by-test}
 use Rattle.spec_logs.specs.Logs.{Log, Paired, noRows, withPair, withFirst, withSecond, near, pairedFrom, paired}
-use Rattle.spec_logs.specs.Pairing.{Counts}
+use Rattle.spec_logs.specs.Pairing.{NoneLost}
 use Rattle.spec_logs.proofs.Distance.{since, between, earlier, near-is}
 use Rattle.spec_logs.proofs.OwnPairs.{counts-from}
 use Rattle.base_tables.specs.Description.{rowsIn, wordIn}
@@ -292,7 +292,7 @@ pub counting-done : {d : Bytes} {a b t p : ℕ} {r : Rows} → Counting d a b t 
 counting-done {d} {a} {b} {t} {p} {r} C h = omega (arith, C .all, ap (λ (p : Paired). length (p .pairs)) (used-up d a b t (C .standing) h))
 
 -- every row of either log is counted once
-pub counts-in : (d : Bytes) (a b t : ℕ) → Counts (rowsIn a) (rowsIn b) (paired t (timesIn d a) (timesIn d b))
+pub counts-in : (d : Bytes) (a b t : ℕ) → NoneLost (rowsIn a) (rowsIn b) (paired t (timesIn d a) (timesIn d b))
 counts-in d a b t =
     let c = counts-from t 0 0 (timesIn d a) (timesIn d b) in
     record { of-first = c .of-first ∙ times-length d a 0 (rowsIn a); of-second = c .of-second ∙ times-length d b 0 (rowsIn b) }

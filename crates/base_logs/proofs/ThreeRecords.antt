@@ -16,7 +16,7 @@ use Rattle.base_tables.specs.Description.{rowsIn}
 use Rattle.base_logs.specs.declared.Places.{Places}
 use Rattle.base_logs.specs.Times.{timesIn}
 use Rattle.base_logs.specs.Moves.{LogsPre}
-use Rattle.base_logs.specs.Laying.{boundBytes, headBytes, cellBytes, rowsLaid, Apart}
+use Rattle.base_logs.specs.Laying.{boundBytes, headBytes, cellBytes, rowsLaid, TablesApart}
 use Rattle.base_logs.proofs.Moves.{counts-in}
 use Rattle.base_logs.proofs.Stores.{three-pieces}
 use Rattle.base_logs.proofs.Laying.{pair-cells, first-cells}
@@ -75,8 +75,8 @@ module _ {r : Paired} {p f s y z : ℕ} (C : Counted r p f s y z) (d : Bytes) wh
     heads-long : length d₃ ≡ length d
     heads-long = ap length heads-are ∙ length-sets (sets (sets d 0 (H 5 2 p)) y (H 6 1 f)) z (H 7 1 s) ∙ length-sets (sets d 0 (H 5 2 p)) y (H 6 1 f) ∙ length-sets d 0 (H 5 2 p)
 
-    pub cells-apart : z + 13 + 4 * s ≤ length d → Apart d₃ places r
-    cells-apart h = record {
+    pub tables-apart : z + 13 + 4 * s ≤ length d → TablesApart d₃ places r
+    tables-apart h = record {
       pairs-end = omega (arith, C .second, C .pairs);
       firsts-end = omega (arith, C .third, C .firsts);
       seconds-end = omega (arith, heads-long, C .seconds, h);

@@ -56,10 +56,10 @@ rowsLaid d p r = sets (sets (sets d (p .pairs) (cellBytes (map pairRow (r .pairs
     (p .firsts) (cellBytes (map singleRow (r .firstSingles)))) (p .seconds) (cellBytes (map singleRow (r .secondSingles)))
 
 -- each table's rows end before the next table's begin
-pub record Apart (d : Bytes) (p : Places) (r : Paired) : Type 0 where
+pub record TablesApart (d : Bytes) (p : Places) (r : Paired) : Type 0 where
   pub pairs-end : p .pairs + 8 * length (r .pairs) ≤ p .firsts
   pub firsts-end : p .firsts + 4 * length (r .firstSingles) ≤ p .seconds
   pub seconds-end : p .seconds + 4 * length (r .secondSingles) ≤ length d
 
 abbrev pub RowsPre : Bytes → ℕ → ℕ → ℕ → Bytes → Places → Type 0
-RowsPre l a b t d p = Apart d p (paired t (timesIn l a) (timesIn l b))
+RowsPre l a b t d p = TablesApart d p (paired t (timesIn l a) (timesIn l b))

@@ -19,6 +19,7 @@ use base_columns::KIND_AT;
 use base_columns::low;
 use base_columns::put;
 use base_scratch::DESCRIPTIONS;
+use base_signed::CELL_LIMIT;
 use base_tables::BOUNDS_AT;
 use base_tables::COLLECTION_AT;
 use base_tables::COLUMNS_AT;
@@ -38,6 +39,9 @@ use base_tables::word_at;
 
 // "a tolerance of 0 to 3,600 seconds"
 const MOST_TOLERANCE: u64 = 3600;
+
+// So many times are there, half of them below 0.
+const TIMES: u64 = 2 * CELL_LIMIT;
 
 // "numbered 5, 6 and 7"
 const PAIRS: u8 = 5;
@@ -100,7 +104,7 @@ fn word_of(data: &[u8], w: u64, r: usize, above: u32) -> u32
 fn time(x: u32) -> u64
     ensures { λ t. ⌜ (t ≡ since (2 ^ 31) (signed x)) × (t < 2 ^ 32) ⌝ }
 {
-    (x as u64 + 2147483648) % 4294967296
+    (x as u64 + CELL_LIMIT) % TIMES
 }
 
 // "neither falling"

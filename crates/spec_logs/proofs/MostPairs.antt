@@ -13,7 +13,7 @@ use lib.IntN.{ℤ, pos, natAbs}
 use lib.Signed.{ltZ, leZ}
 use Rattle.spec_calculus.proofs.Lists.{All}
 use Rattle.spec_logs.specs.Logs.{Log, neverFalls, Pair, Paired, near, paired}
-use Rattle.spec_logs.specs.Pairing.{Apart, Once, Within, Pairing}
+use Rattle.spec_logs.specs.Pairing.{NoRowShared, Once, Within, Pairing}
 use Rattle.spec_logs.proofs.Distance.{since, between, earlier, not-later, near-is}
 use Rattle.spec_logs.proofs.Run.{along}
 
@@ -73,7 +73,7 @@ total-set (u ∷ us) (suc i) = omega (arith, total-set us i)
 abbrev Weighed : List ℕ → List ℕ → Pair → Type 0
 Weighed us vs p = 1 ≤ getD us (p .first) 0 + getD vs (p .second) 0
 
-still : (p : Pair) (us vs : List ℕ) (m : List Pair) → All (Apart p) m → All (Weighed us vs) m → All (Weighed (set us (p .first) 0) (set vs (p .second) 0)) m
+still : (p : Pair) (us vs : List ℕ) (m : List Pair) → All (NoRowShared p) m → All (Weighed us vs) m → All (Weighed (set us (p .first) 0) (set vs (p .second) 0)) m
 still p us vs [] d h = tt
 still p us vs (q ∷ m) d h = (
   rw (getD-set-other us (p .first) (q .first) 0 0 (d .0 .firsts), getD-set-other vs (p .second) (q .second) 0 0 (d .0 .seconds)) (h .0),

@@ -8,7 +8,7 @@ use lib.ListN.{length, getD}
 use lib.IntN.{ℤ, pos}
 use Rattle.spec_calculus.proofs.Lists.{All, all-imp}
 use Rattle.spec_logs.specs.Logs.{Log, Pair, Paired, withPair, withFirst, withSecond, near, pairedFrom, paired}
-use Rattle.spec_logs.specs.Pairing.{Apart, Once, Within, Pairing, Rising, InOrder, Counts}
+use Rattle.spec_logs.specs.Pairing.{NoRowShared, Once, Within, Pairing, Rising, InOrder, NoneLost}
 use Rattle.spec_logs.proofs.Run.{along}
 
 -- ---- the pairs
@@ -61,7 +61,7 @@ module _ (t i j : ℕ) where
       → Own t i j (x ∷ xs) (y ∷ ys) (record { first = i; second = j } ∷ m)
   own-pair x xs y ys m c o = record {
     once = (
-      all-imp _ (Apart (record { first = i; second = j })) m (o .each)
+      all-imp _ (NoRowShared (record { first = i; second = j })) m (o .each)
           (λ p h. record { firsts = λ e. omega (arith, h .first-is); seconds = λ e. omega (arith, h .second-is) }),
       o .once,
     );
@@ -135,9 +135,9 @@ in-order t xs ys =
     0 0 xs ys (length xs) (length ys) (omega arith) (omega arith)
 
 -- ---- no row is lost
-pub counts-from : (t i j : ℕ) (xs ys : Log) → Counts (length xs) (length ys) (pairedFrom t i j xs ys)
+pub counts-from : (t i j : ℕ) (xs ys : Log) → NoneLost (length xs) (length ys) (pairedFrom t i j xs ys)
 counts-from t =
-    along (λ r i j xs ys. Counts (length xs) (length ys) r) t (λ i j. record { of-first = refl; of-second = refl })
+    along (λ r i j xs ys. NoneLost (length xs) (length ys) r) t (λ i j. record { of-first = refl; of-second = refl })
     (λ i j x xs r h. record { of-first = omega (arith, h .of-first); of-second = h .of-second })
     (λ i j y ys r h. record { of-first = h .of-first; of-second = omega (arith, h .of-second) })
     (λ i j x xs y ys r e h. record { of-first = omega (arith, h .of-first); of-second = omega (arith, h .of-second) })

@@ -10,14 +10,14 @@ use Rattle.spec_calculus.proofs.Lists.{All}
 use Rattle.spec_logs.specs.Logs.{Log, Pair, Paired, near}
 
 -- two pairs that have no row in common
-pub record Apart (p q : Pair) : Type 0 where
+pub record NoRowShared (p q : Pair) : Type 0 where
   pub firsts : q .first ≡ p .first → ⊥
   pub seconds : q .second ≡ p .second → ⊥
 
 -- each row is in one pair at most
 abbrev pub Once : List Pair → Type 0
 Once [] = Unit {0}
-Once (p ∷ m) = All (Apart p) m × Once m
+Once (p ∷ m) = All (NoRowShared p) m × Once m
 
 -- a pair of rows that are there, "within the tolerance"
 pub record Within (t : ℕ) (xs ys : Log) (p : Pair) : Type 0 where
@@ -41,6 +41,6 @@ pub record InOrder (i m j n : ℕ) (r : Paired) : Type 0 where
   pub second-singles : Rising j n (r .secondSingles)
 
 -- of each log as many rows as it has are in pairs or single
-pub record Counts (m n : ℕ) (r : Paired) : Type 0 where
+pub record NoneLost (m n : ℕ) (r : Paired) : Type 0 where
   pub of-first : length (r .pairs) + length (r .firstSingles) ≡ m
   pub of-second : length (r .pairs) + length (r .secondSingles) ≡ n

@@ -1,6 +1,6 @@
 -- `base_logs::lay_records`: three heads, then the cells. Assumes nothing.
 use native.Mathlib.Omega.{arith}
-use Rattle.base_logs.proofs.ThreeRecords.{pairs-few, counted-logs, three-records, cells-apart}
+use Rattle.base_logs.proofs.ThreeRecords.{pairs-few, counted-logs, three-records, tables-apart}
 use borrow.Author.Needs.{needs}
 use Rattle.base_logs.proofs.lay_records.Statement.{statement}
 use Rattle.base_logs.proofs.lay_records.Tie as tie
@@ -45,7 +45,7 @@ add-t13 : tie.Need-add-t13
 add-t13 c = let k = pairs-few (c .before .before .before .before .before .before .before .before .before .before .before .before .before .before .before .before .before .args .data .now) (c .before .before .before .before .before .before .before .before .before .before .before .before .before .before .before .before .before .pre .0) (c .before .before .before .before .before .before .before .before .before .before .before .before .before .rows .ensures) (c .before .before .before .before .before .before .before .before .before .before .before .before .before .before .count-pairs .ensures) in omega (arith, k .0, k .1)
 
 lay-rows-requires : tie.Need-lay-rows-requires
-lay-rows-requires c κs = let k = counted-logs (c .before .before .before .before .before .before .before .before .before .before .before .before .before .before .before .before .before .before .args .data .now) (c .before .before .before .before .before .before .before .before .before .before .before .before .before .before .before .before .before .before .args .a) (c .before .before .before .before .before .before .before .before .before .before .before .before .before .before .before .before .before .before .args .b) (c .before .before .before .before .before .before .before .before .before .before .before .before .before .before .before .before .before .before .args .t) (c .before .before .before .before .before .before .before .before .before .before .before .before .before .before .rows .ensures) (c .before .before .before .before .before .before .before .before .before .before .before .before .before .rows2 .ensures) (c .before .before .before .before .before .before .before .before .before .before .before .before .before .before .before .count-pairs .ensures) in (c .before .before .before .before .before .before .before .before .before .before .before .before .before .before .before .before .before .before .pre .0, cells-apart (k .0) (c .before .before .before .before .before .before .before .before .before .before .before .before .before .before .before .before .before .before .args .d .now) (c .before .before .before .before .before .before .before .before .before .before .before .put-head .ensures) (c .before .before .before .before .before .before .before .put-head2 .ensures) (c .before .before .before .put-head3 .ensures) (omega (arith, k .1, k .2, c .before .before .before .before .before .before .before .before .before .before .before .before .before .before .rows .ensures, c .before .before .before .before .before .before .before .before .before .before .before .before .before .rows2 .ensures, c .before .before .before .before .before .before .before .before .before .before .before .before .before .before .before .before .before .before .pre .1)))
+lay-rows-requires c κs = let k = counted-logs (c .before .before .before .before .before .before .before .before .before .before .before .before .before .before .before .before .before .before .args .data .now) (c .before .before .before .before .before .before .before .before .before .before .before .before .before .before .before .before .before .before .args .a) (c .before .before .before .before .before .before .before .before .before .before .before .before .before .before .before .before .before .before .args .b) (c .before .before .before .before .before .before .before .before .before .before .before .before .before .before .before .before .before .before .args .t) (c .before .before .before .before .before .before .before .before .before .before .before .before .before .before .rows .ensures) (c .before .before .before .before .before .before .before .before .before .before .before .before .before .rows2 .ensures) (c .before .before .before .before .before .before .before .before .before .before .before .before .before .before .before .count-pairs .ensures) in (c .before .before .before .before .before .before .before .before .before .before .before .before .before .before .before .before .before .before .pre .0, tables-apart (k .0) (c .before .before .before .before .before .before .before .before .before .before .before .before .before .before .before .before .before .before .args .d .now) (c .before .before .before .before .before .before .before .before .before .before .before .put-head .ensures) (c .before .before .before .before .before .before .before .put-head2 .ensures) (c .before .before .before .put-head3 .ensures) (omega (arith, k .1, k .2, c .before .before .before .before .before .before .before .before .before .before .before .before .before .before .rows .ensures, c .before .before .before .before .before .before .before .before .before .before .before .before .before .rows2 .ensures, c .before .before .before .before .before .before .before .before .before .before .before .before .before .before .before .before .before .before .pre .1)))
 
 returns : tie.Need-returns
 returns c = let k = counted-logs (c .before .before .before .before .before .before .before .before .before .before .before .before .before .before .before .before .before .before .before .before .before .args .data .now) (c .before .before .before .before .before .before .before .before .before .before .before .before .before .before .before .before .before .before .before .before .before .args .a) (c .before .before .before .before .before .before .before .before .before .before .before .before .before .before .before .before .before .before .before .before .before .args .b) (c .before .before .before .before .before .before .before .before .before .before .before .before .before .before .before .before .before .before .before .before .before .args .t) (c .before .before .before .before .before .before .before .before .before .before .before .before .before .before .before .before .before .rows .ensures) (c .before .before .before .before .before .before .before .before .before .before .before .before .before .before .before .before .rows2 .ensures) (c .before .before .before .before .before .before .before .before .before .before .before .before .before .before .before .before .before .before .count-pairs .ensures) in three-records (k .0) (c .before .before .before .before .before .before .before .before .before .before .before .before .before .before .before .before .before .before .before .before .before .args .d .now) (c .before .before .before .before .before .before .before .before .before .before .before .before .before .before .put-head .ensures) (c .before .before .before .before .before .before .before .before .before .before .put-head2 .ensures) (c .before .before .before .before .before .before .put-head3 .ensures) (c .before .before .lay-rows .ensures)

@@ -12,13 +12,13 @@ use Rattle.spec_outcome.specs.Acceptance.{Lent}
 use Rattle.spec_outcome.specs.Outcome.{scratchWords}
 use Rattle.spec_outcome.specs.ScratchLimit.{formerWords}
 use Rattle.spec_outcome.proofs.ScratchLimit.{checked-alike}
 use Rattle.engine.specs.Portions.{BeginPost, PortionPost}
 use Rattle.engine.specs.Rota.{Seat, RoundPost}
 use Rattle.engine.specs.declared.Reply.{Reply}
 use Rattle.engine.specs.declared.Portioned.{Portioned}
 use Rattle.engine.specs.declared.Round.{Round}
-use Rattle.engine.proofs.Portions.{Portions}
-use Rattle.engine.proofs.SameRun.{Twice, atOne, atOther, Served, PortionServed, PortionsServed, Begun, SeatServed, RoundServed, SameRun, begun-alike, run-alike}
+use Rattle.theorems.proofs.Portions.{Portions}
+use Rattle.theorems.proofs.SameRun.{Twice, atOne, atOther, Served, PortionServed, PortionsServed, Begun, SeatServed, RoundServed, SameRun, begun-alike, run-alike}
 
 -- Of `Served formerWords scratchWords d d s o t p`, s is scratch that served before, t scratch that serves now.
 module _ (d : Bytes) where

@@ -16,11 +16,11 @@ use Rattle.spec_outcome.specs.Gives.{Gives}
 use Rattle.spec_outcome.proofs.Checks.{got-is}
 use Rattle.spec_outcome.proofs.SameTables.{examined-same, answered-same, checked-same, lines-same}
 use Rattle.base_signed.specs.Limit.{numberLimit}
 use Rattle.engine.specs.Portions.{rowsInAll, BeginPost}
 use Rattle.engine.specs.declared.Reply.{Reply}
-use Rattle.engine.proofs.RowOrder.{SameCall, same-call}
-use Rattle.engine.proofs.Portions.{Portions, counted, given, in-portions}
-use Rattle.engine.proofs.SameRun.{SameSaid, Twice, atOne, atOther, Begun, SameRun, begun-alike, run-alike}
+use Rattle.theorems.proofs.RowOrder.{SameCall, same-call}
+use Rattle.theorems.proofs.Portions.{Portions, counted, given, in-portions}
+use Rattle.theorems.proofs.SameRun.{SameSaid, Twice, atOne, atOther, Begun, SameRun, begun-alike, run-alike}
 
 same-reply : {o p : Outcome ℕ} → o ≡ p → SameReply o p
 same-reply f = record { numbers = ap (λ (o : Outcome ℕ). o .number) f; sizes = ap (λ (o : Outcome ℕ). o .size) f; buffers = ap (λ (o : Outcome ℕ). o .buffer) f }

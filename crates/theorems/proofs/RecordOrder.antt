@@ -15,12 +15,12 @@ use Rattle.spec_outcome.specs.RecordOrder.{WholeRecord, dataOf}
 use Rattle.spec_outcome.specs.Gives.{Gives}
 use Rattle.spec_outcome.proofs.RecordOrder.{read-any-order}
 use Rattle.base_signed.specs.Limit.{numberLimit}
 use Rattle.engine.specs.Portions.{BeginPost}
 use Rattle.engine.specs.declared.Reply.{Reply}
-use Rattle.engine.proofs.RowOrder.{SameCall}
-use Rattle.engine.proofs.Portions.{Portions, given}
-use Rattle.engine.proofs.SameRun.{Twice, atOne, atOther, Begun, SameRun}
-use Rattle.engine.proofs.SameTables.{same-answered, same-checked, same-lines, SameWhole, same-begun, same-run, same-portions}
+use Rattle.theorems.proofs.RowOrder.{SameCall}
+use Rattle.theorems.proofs.Portions.{Portions, given}
+use Rattle.theorems.proofs.SameRun.{Twice, atOne, atOther, Begun, SameRun}
+use Rattle.theorems.proofs.SameTables.{same-answered, same-checked, same-lines, SameWhole, same-begun, same-run, same-portions}
 
 module _ {rs us : List WholeRecord} (P : Rearranged rs us) {T : Tables} (t : readData (dataOf rs) ≡ got T) (l : Lent) where
   same-read : readData (dataOf rs) ≡ readData (dataOf us)

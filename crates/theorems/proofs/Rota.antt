@@ -16,11 +16,11 @@ use Rattle.spec_outcome.specs.Outcome.{Outcome, scratchWords}
 use Rattle.base_signed.specs.Limit.{numberLimit}
 use Rattle.spec_outcome.specs.Rota.{rotaFits}
 use Rattle.base_rota.proofs.Laws.{quota-within}
 use Rattle.engine.specs.Portions.{outside, BeginPost}
 use Rattle.engine.specs.Rota.{Seat, SeatPost}
 use Rattle.engine.specs.declared.Reply.{Reply}
 use Rattle.engine.specs.declared.Portioned.{Portioned}
-use Rattle.engine.proofs.Portions.{Call, Portions, counted, given, EndsAsOne, InPortions, in-portions}
+use Rattle.theorems.proofs.Portions.{Call, Portions, counted, given, EndsAsOne, InPortions, in-portions}
 
 times : (k q : ℕ) → suc k * q ≡ k * q + q
 times k q = omega arith

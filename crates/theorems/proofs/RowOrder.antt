@@ -15,8 +15,8 @@ use Rattle.spec_outcome.specs.RowOrder.{Reordered, Rereads, Way, looping, plann
 use Rattle.spec_outcome.proofs.Agreement.{same-outcome, wordsOf}
 use Rattle.spec_outcome.proofs.RowOrder.{any-order, any-order-checked, any-order-lines, any-repeats}
 use Rattle.spec_outcome.specs.Gives.{Gives}
 use Rattle.engine.specs.declared.Reply.{Reply}
-use Rattle.engine.proofs.BothWays.{SameReply, both-ways}
+use Rattle.theorems.proofs.BothWays.{SameReply, both-ways}
 
 -- either way of answering has the outcome of both
 as-plan : (w : Way) (d : Bytes) (l : Lent) (s : List ℕ) (b : List ℤ) → by w d l s b ≡ byPlan d l s b

@@ -31,13 +31,13 @@ use Rattle.exec_portions.specs.Run.{Run, counting, Task, begun, portion, rowsDu
 use Rattle.exec_portions.specs.RunInvariant.{Pending, task}
 use Rattle.exec_portions.specs.UnfinishedQuestion.{idle, Unfinished}
 use Rattle.exec_portions.proofs.PortionStep.{unfinished-stage, unwritten, unfinished-buffer}
 use Rattle.engine.specs.Portions.{BeginPost, outside, refusal, Says, Ended, PortionPost}
 use Rattle.engine.specs.Rota.{Seat, Idle, SeatPost, RoundPost}
 use Rattle.engine.specs.declared.Reply.{Reply}
 use Rattle.engine.specs.declared.Portioned.{Portioned}
 use Rattle.engine.specs.declared.Round.{Round}
 use Rattle.engine.proofs.PortionCalls.{outside-refused, no-question, no-refusal}
-use Rattle.engine.proofs.Portions.{Call, Portions, never, cleared-stage, cleared-long, outcome-scratch, none-left, accepted-begun, long-begun}
+use Rattle.theorems.proofs.Portions.{Call, Portions, never, cleared-stage, cleared-long, outcome-scratch, none-left, accepted-begun, long-begun}
 
 -- two portions say the same
 pub record SameSaid (r r′ : Portioned) : Type 0 where

@@ -14,12 +14,12 @@ use Rattle.spec_outcome.specs.Gives.{Gives}
 use Rattle.spec_outcome.specs.Directions.{Filled, filled, tableToColumns, tableToRows, Fills, Turned, columns, rows}
 use Rattle.spec_outcome.proofs.Directions.{turned-read, Passes, turned-passes, answered-zero, columns-then-rows, rows-then-columns}
 use Rattle.base_signed.specs.Limit.{numberLimit}
 use Rattle.engine.specs.Portions.{BeginPost}
 use Rattle.engine.specs.declared.Reply.{Reply}
-use Rattle.engine.proofs.RowOrder.{SameCall}
-use Rattle.engine.proofs.Portions.{Portions, given}
-use Rattle.engine.proofs.SameRun.{Twice, atOne, atOther, Begun, SameRun}
-use Rattle.engine.proofs.SameTables.{same-answered, same-checked, same-lines, SameWhole, same-begun, same-run, same-portions}
+use Rattle.theorems.proofs.RowOrder.{SameCall}
+use Rattle.theorems.proofs.Portions.{Portions, given}
+use Rattle.theorems.proofs.SameRun.{Twice, atOne, atOther, Begun, SameRun}
+use Rattle.theorems.proofs.SameTables.{same-answered, same-checked, same-lines, SameWhole, same-begun, same-run, same-portions}
 
 -- ---- data in which tables are turned into the other kind
 module _ {d e : Bytes} (E : Turned d e) (l : Lent) where

@@ -1,0 +1,1 @@
+// Theorems only: what holds over the contracts of the open calls. See proofs/.
