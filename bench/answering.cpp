@@ -43,24 +43,29 @@ using Bytes = std::vector<std::uint8_t>;
 // that is a key and the collection of its values, none where the value is NULL.
 enum class Shape { answer, elements, keyed_values };
 
-// A query for SQLite and by hand.
+// A query for SQLite and by hand. As asked SQLite runs some as a loop in a loop, and joined by an
+// index of its own.
 struct Query {
     const char *name;
     Shape shape;
     const char *sql;
     Words (*by_hand)(const Tables &);
+    const char *joined_sql = nullptr;
 };
 
 const Query queries[] = {
     {"correlated sum", Shape::elements,
      "SELECT a.k, (SELECT coalesce(sum(b.v), 0) FROM t1 b WHERE b.k = a.k) FROM t0 a ORDER BY 1, 2",
-     over<correlated_sum>},
+     over<correlated_sum>,
+     "SELECT a.k, coalesce(b.s, 0) FROM t0 a "
+     "LEFT JOIN (SELECT k, sum(v) AS s FROM t1 GROUP BY k) b ON b.k = a.k ORDER BY 1, 2"},
     {"equi-join list", Shape::elements,
      "SELECT a.v, b.v FROM t0 a, t1 b WHERE a.k = b.k ORDER BY a.rowid, b.rowid", over<equi_join>},
     {"theta count", Shape::answer, "SELECT count(*) FROM t0 a, t1 b WHERE a.k < b.k",
      over<theta_count>},
     {"exists", Shape::answer,
-     "SELECT count(*) FROM t0 a WHERE EXISTS (SELECT 1 FROM t1 b WHERE b.k = a.k)", over<exists>},
+     "SELECT count(*) FROM t0 a WHERE EXISTS (SELECT 1 FROM t1 b WHERE b.k = a.k)", over<exists>,
+     "SELECT count(*) FROM t0 a WHERE a.k IN (SELECT k FROM t1)"},
     {"cross sum", Shape::answer, "SELECT sum(a.k + b.k) FROM t0 a, t1 b", over<cross_sum>},
     {"three tables", Shape::elements,
      "SELECT a.v, b.v, c.v FROM t0 a, t1 b, t2 c WHERE a.k = b.k AND b.v = c.k "
@@ -72,9 +77,11 @@ const Query queries[] = {
      "SELECT sum(a.v * CASE WHEN a.k < b.k THEN b.v ELSE 1000 - b.v END) FROM t0 a, t1 b",
      over<choice_in_sum>},
     {"max per group", Shape::elements,
-     "SELECT a.k, coalesce(max(b.v), 0) FROM t0 a LEFT JOIN t1 b ON b.k = a.k "
-     "GROUP BY a.k ORDER BY 1",
-     over<max_per_group>},
+     "SELECT DISTINCT a.k, (SELECT coalesce(max(b.v), 0) FROM t1 b WHERE b.k = a.k) "
+     "FROM t0 a ORDER BY 1, 2",
+     over<max_per_group>,
+     "SELECT DISTINCT a.k, coalesce(b.m, 0) FROM t0 a "
+     "LEFT JOIN (SELECT k, max(v) AS m FROM t1 GROUP BY k) b ON b.k = a.k ORDER BY 1, 2"},
     {"open hours", Shape::answer,
      "SELECT count(*) FROM (SELECT a.k + b.v AS m FROM t0 a, t1 b) "
      "WHERE (m / 1440 + 5) % 7 < 5 AND (m % 1440 BETWEEN 360 AND 719 OR m % 1440 BETWEEN 780 AND "
@@ -244,14 +251,14 @@ class Engine {
 
 class Sqlite {
   public:
-    Sqlite(const Query &query, const Input &input) : shape(query.shape) {
+    Sqlite(Shape shape, const char *sql, const Input &input) : shape(shape) {
         if (sqlite3_open(":memory:", &database) != SQLITE_OK)
             stop("SQLite does not open");
         execute("BEGIN");
         for (std::size_t number = 0; number < input.tables.size(); number++)
             fill("t" + std::to_string(number), input.tables[number]);
         execute("COMMIT");
-        statement = prepared(query.sql);
+        statement = prepared(sql);
     }
     ~Sqlite() {
         sqlite3_finalize(statement);
@@ -351,9 +358,10 @@ std::optional<double> fastest(const Run &run, const Words &wanted) {
 }
 
 // Begins a line with the query's name.
-void print_name(const char *name) { std::printf("%-18s", name); }
+void print_name(const std::string &name) { std::printf("%-22s", name.c_str()); }
 
-bool another_answer(const char *way) {
+bool another_answer(const std::string &name, const char *way) {
+    print_name(name);
     std::printf(" no times: %s gives another answer than by hand\n", way);
     return false;
 }
@@ -362,22 +370,22 @@ bool another_answer(const char *way) {
 struct Bar {
     std::string what;
     double most;
-    std::vector<std::pair<double, const char *>> ratios = {};
+    std::vector<std::pair<double, std::string>> ratios = {};
 
-    void add(const Query &query, double ratio) { ratios.push_back({ratio, query.name}); }
+    void add(const std::string &query, double ratio) { ratios.push_back({ratio, query}); }
 
     // The ratios that exceed it, or the greatest.
     void print() const {
         std::printf("bar: %s at most %.1f on every query, ", what.c_str(), most);
-        const auto [greatest, name] = *std::max_element(ratios.begin(), ratios.end());
+        const auto &[greatest, name] = *std::max_element(ratios.begin(), ratios.end());
         if (greatest <= most) {
-            std::printf("met: %.2f at most (%s)\n", greatest, name);
+            std::printf("met: %.2f at most (%s)\n", greatest, name.c_str());
             return;
         }
         const char *before = "not met:";
         for (const auto &[ratio, of] : ratios)
             if (ratio > most) {
-                std::printf("%s %s %.2f", before, of, ratio);
+                std::printf("%s %s %.2f", before, of.c_str(), ratio);
                 before = ",";
             }
         std::printf("\n");
@@ -408,7 +416,7 @@ class Comparison {
     bool measure(const Query &query, const Input &input) {
         Engine loops(dislogha::answer_by_loops), plan(dislogha::answer_by_plan),
             portions(answer_in_portions);
-        Sqlite sqlite(query, input);
+        Sqlite sqlite(query.shape, query.sql, input);
         const Run runs[ways_count] = {
             [&](Words &words) { loops.run(input, by_row, words); },
             [&](Words &words) { plan.run(input, by_row, words); },
@@ -417,19 +425,16 @@ class Comparison {
             [&](Words &words) { words = query.by_hand(input.tables); },
         };
         const Words wanted = query.by_hand(input.tables);
-        double ns[ways_count];
-        print_name(query.name);
+        Times ns;
         for (std::size_t way = 0; way < ways_count; way++) {
             const std::optional<double> least = fastest(runs[way], wanted);
             if (!least)
-                return another_answer(way_names[way]);
+                return another_answer(query.name, way_names[way]);
             ns[way] = *least;
         }
-        print(ns, input.steps());
-        loops_to_sqlite.add(query, ns[by_loops] / ns[by_sqlite]);
-        plan_to_sqlite.add(query, ns[by_plan] / ns[by_sqlite]);
-        plan_to_loops.add(query, ns[by_plan] / ns[by_loops]);
-        return true;
+        plan_to_loops.add(query.name, ns[by_plan] / ns[by_loops]);
+        report(query.name, ns, input.steps());
+        return query.joined_sql == nullptr || measure_joined(query, input, wanted, ns);
     }
 
     void print_bars() const {
@@ -439,7 +444,24 @@ class Comparison {
     }
 
   private:
-    static void print(const double (&ns)[ways_count], double steps) {
+    using Times = double[ways_count];
+
+    // The same times beside those of the joined query.
+    bool measure_joined(const Query &query, const Input &input, const Words &wanted, Times &ns) {
+        const std::string name = std::string(query.name) + ", joined";
+        Sqlite sqlite(query.shape, query.joined_sql, input);
+        const auto least = fastest([&](Words &words) { sqlite.run(words); }, wanted);
+        if (!least)
+            return another_answer(name, way_names[by_sqlite]);
+        ns[by_sqlite] = *least;
+        report(name, ns, input.steps());
+        return true;
+    }
+
+    void report(const std::string &name, const Times &ns, double steps) {
+        loops_to_sqlite.add(name, ns[by_loops] / ns[by_sqlite]);
+        plan_to_sqlite.add(name, ns[by_plan] / ns[by_sqlite]);
+        print_name(name);
         for (const double time : ns)
             std::printf(" %9.0f", time / 1e3);
         std::printf("  %8.2f %8.2f", ns[by_loops] / steps, ns[by_plan] / steps);
@@ -488,17 +510,18 @@ class Variation {
 
     // Measures one query and prints its line; false where the answers differ.
     bool measure(const Query &query, const std::vector<Variant> &variants) {
-        print_name(query.name);
-        for (std::size_t way = 0; way < std::size(singles); way++) {
-            std::vector<double> times;
+        std::vector<double> times[std::size(singles)];
+        for (std::size_t way = 0; way < std::size(singles); way++)
             for (const Variant &variant : variants) {
                 const std::optional<double> ns = time(singles[way].call, query, variant);
                 if (!ns)
-                    return another_answer(singles[way].name);
-                times.push_back(*ns / variant.unit);
+                    return another_answer(query.name, singles[way].name);
+                times[way].push_back(*ns / variant.unit);
             }
-            print(times);
-            bars[way].add(query, times.back() / times.front());
+        print_name(query.name);
+        for (std::size_t way = 0; way < std::size(singles); way++) {
+            print(times[way]);
+            bars[way].add(query.name, times[way].back() / times[way].front());
         }
         std::printf("\n");
         std::fflush(stdout);
