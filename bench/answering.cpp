@@ -448,7 +448,7 @@ class Comparison {
 
     // The same times beside those of the joined query.
     bool measure_joined(const Query &query, const Input &input, const Words &wanted, Times &ns) {
-        const std::string name = std::string(query.name) + ", joined";
+        const std::string name = std::string(query.name) + " joined";
         Sqlite sqlite(query.shape, query.joined_sql, input);
         const auto least = fastest([&](Words &words) { sqlite.run(words); }, wanted);
         if (!least)
