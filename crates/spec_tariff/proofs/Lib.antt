@@ -1,0 +1,2 @@
+-- Laws of tariffs and dues.
+pub mod Cases
