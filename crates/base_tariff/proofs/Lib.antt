@@ -1,0 +1,2 @@
+-- Laws of the reader of a tariff.
+pub mod Laws

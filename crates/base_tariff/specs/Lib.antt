@@ -1,0 +1,2 @@
+-- What the functions that read a tariff ask and give.
+pub mod Contract
