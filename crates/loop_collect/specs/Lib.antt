@@ -1,3 +1,4 @@
 -- A value's words in the answer buffer.
+pub mod HeadLoops
 pub mod LaidValues
 pub mod Contract

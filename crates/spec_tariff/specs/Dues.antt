@@ -1,9 +1,8 @@
 -- The dues on an answer: "a question giving a bag of records (ship, draught), all numbers", and "the bag (ship, cents)" (document 02, E6).
 use mathlib.Core.List.{List, [], _∷_, map}
 use mathlib.Core.Bool.{Bool, true, false, _&&_}
-use Prim.Native.Nat.{ℕ}
 use lib.IntN.{ℤ, pos, natAbs}
-use Rattle.spec_calculus.specs.Syntax.{Collection, list, bag, set, of, Question, asTerm}
+use Rattle.spec_calculus.specs.Syntax.{list, bag, set, of, Question, asTerm}
 use Rattle.spec_calculus.specs.Value.{Value, num, rec, vnil, vcons, asInt, elems, fieldOf, Tables}
 use Rattle.spec_calculus.specs.Monoid.{canonical}
 use Rattle.spec_checks.specs.Types.{Ty, Tys, number, truth, record′, coll, ynil, ycons, Typed, wrong, has, typeOf, mayStand}

@@ -1,7 +1,7 @@
 -- `base_tariff::uppers_rise`: the steps from the loop's on decide.
 use native.Mathlib.Omega.{arith}
 use mathlib.Core.Path.{_≡_}
-use Prim.Native.Nat.{_≤_, _<_, _-_}
+use Prim.Native.Nat.{_<_, _-_}
 use Rattle.spec_tariff.specs.TariffBytes.{stepsFrom, rising}
 use Rattle.base_tariff.proofs.Laws.{rest, from-first, upper-goes, upper-stops, uppers-end}
 use borrow.Author.Needs.{needs}
