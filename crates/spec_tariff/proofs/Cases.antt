@@ -2,10 +2,10 @@
 use mathlib.Core.Path.{_≡_, refl}
 use mathlib.Core.List.{List, [], _∷_, _++_, map}
 use mathlib.Core.Bool.{true}
-use Prim.Native.Nat.{ℕ}
+use Prim.Native.Nat.{ℕ, zero, suc}
 use lib.ListN.{length, replicate}
 use lib.IntN.{ℤ, pos, negsuc}
-use Rattle.spec_calculus.specs.Syntax.{Collection, bag, set, of, less, Term, num, truth, name, field, rec, bin, table, tnil, tcons, Quals, qnil, gen, cond, Question}
+use Rattle.spec_calculus.specs.Syntax.{Collection, list, bag, set, of, less, Term, num, truth, name, field, rec, bin, table, tnil, tcons, Quals, qnil, gen, cond, Question}
 use Rattle.spec_calculus.specs.Value.{Value, vnil, vcons, Tables, kindOf}
 use Rattle.spec_calculus.specs.Value as Va
 use Rattle.spec_calculus.specs.Cases.{small, tableOf, tableZero}
@@ -20,14 +20,14 @@ use Rattle.spec_normal_form.specs.Form as Form
 use Rattle.spec_normal_form.specs.Normal as Normal
 use Rattle.spec_normal_form.specs.Normal.{normal}
 use Rattle.spec_outcome.specs.WrittenForm as Written
-use Rattle.spec_outcome.specs.Acceptance.{Accepted}
+use Rattle.spec_outcome.specs.Acceptance.{Lent, lentAs, Accepted}
 use Rattle.spec_outcome.specs.Outcome.{Answer}
 use Rattle.spec_outcome.specs.Outcome as Outcome
 use Rattle.spec_outcome.specs.Directions as Directions
 use Rattle.spec_tariff.specs.Tariff.{TariffStep, Tariff, rateOf, metresBegun, charge, lastUpper, inReach}
 use Rattle.spec_tariff.specs.TariffBytes.{stepAt, stepsFrom, tariffOf, rising, ratesFit, tariffFits, layoutFits, isTariff, readTariff}
 use Rattle.spec_tariff.specs.Dues.{numberType, shipFields, isShip, isShips, givesShips, questionType, draughtsFit, shipDue, dues}
-use Rattle.spec_tariff.specs.WithTariff.{charged}
+use Rattle.spec_tariff.specs.WithTariff.{charged, chargedWith, withTariff}
 
 -- ---- the charge: 1,000 up to 4 m, 1,500 up to 8 m, at least 3,000
 abbrev step : ℕ → ℕ → TariffStep
@@ -78,11 +78,20 @@ no-step : readTariff (bytesOf 5 0 (30 ∷ [])) ≡ refused 44
 unfolding reading
 no-step = refl
 
-seventeen : readTariff (bytesOf 141 17 (replicate 35 0)) ≡ refused 44
-unfolding reading
+-- n steps with the upper draughts from u on, and the minimum
+unfoldable rungs : ℕ → ℕ → List ℕ
+rungs zero u = 0 ∷ []
+rungs (suc n) u = u ∷ 1 ∷ rungs n (suc u)
+
+sixteen : layoutFits (16 ∷ Lists.bindL (rungs 16 1) small) ≡ true
+unfolding reading rungs
+sixteen = refl
+
+seventeen : readTariff (bytesOf 141 17 (rungs 17 1)) ≡ refused 44
+unfolding reading rungs
 seventeen = refl
 
--- a step fewer than it says, a byte behind it, nothing at all, another kind
+-- a step fewer than it says, a byte behind it, more bytes than there are, nothing at all, another kind
 cut-short : readTariff (bytesOf 13 2 (4 ∷ 100 ∷ 30 ∷ [])) ≡ refused 44
 unfolding reading
 cut-short = refl
@@ -91,9 +100,17 @@ byte-behind : readTariff (bytesOf 13 1 (4 ∷ 100 ∷ 30 ∷ []) ++ (0 ∷ [])) 
 unfolding reading
 byte-behind = refl
 
+longer : readTariff (bytesOf 14 1 (4 ∷ 100 ∷ 30 ∷ [])) ≡ refused 44
+unfolding reading
+longer = refl
+
 nothing : readTariff [] ≡ refused 44
 unfolding reading
 nothing = refl
+
+of-a-table : readTariff (13 ∷ 0 ∷ 20 ∷ 0 ∷ 1 ∷ Lists.bindL (4 ∷ 100 ∷ 30 ∷ []) small) ≡ refused 44
+unfolding reading
+of-a-table = refl
 
 -- "at most 10,000,000": 10,000,001 is 0x989681
 ten-million : readTariff (13 ∷ 0 ∷ 22 ∷ 0 ∷ 1 ∷ 1 ∷ 0 ∷ 0 ∷ 0 ∷ 0x80 ∷ 0x96 ∷ 0x98 ∷ 0 ∷ 0x80 ∷ 0x96 ∷ 0x98 ∷ 0 ∷ []) ≡ got (record { steps = step 1 10000000 ∷ []; minimum = 10000000 })
@@ -162,7 +179,15 @@ dropped : charged (replicate 3 (pos 0)) port (asked (ships (ship (pos 1) (negsuc
 unfolding dueing
 dropped = refl
 
--- "a question of another type": a set; one field; a record in a record; a truth; whatever rows there are, and before 32
+-- "a question of another type": a list, a set; one field, three; a record in a record; a truth; whatever rows there are, and before 32
+of-a-list : charged [] port (asked (ships []) list all (name 0)) ≡ refused 45
+unfolding dueing
+of-a-list = refl
+
+three-fields : charged [] port (asked (ships []) bag all (rec (tcons (num (pos 1)) (tcons (num (pos 2)) (tcons (num (pos 3)) tnil))))) ≡ refused 45
+unfolding dueing
+three-fields = refl
+
 of-a-set : charged [] port (asked (ships []) set all (name 0)) ≡ refused 45
 unfolding dueing
 of-a-set = refl
@@ -178,3 +203,15 @@ record-inside = refl
 a-truth : charged [] port (asked (ships []) bag all (rec (tcons (num (pos 1)) (tcons (truth true) tnil)))) ≡ refused 45
 unfolding dueing
 a-truth = refl
+
+-- ---- the order of refusals: a tariff and data that are both refused, and too little scratch
+abbrev nothing-lent : Lent
+nothing-lent = lentAs [] []
+
+tariff-first : chargedWith [] (1 ∷ []) nothing-lent [] ≡ refused 44
+unfolding reading Record.andThen chargedWith
+tariff-first = refl
+
+scratch-first : withTariff [] (1 ∷ []) nothing-lent [] [] .number ≡ 31
+unfolding Outcome.withScratch withTariff
+scratch-first = refl
