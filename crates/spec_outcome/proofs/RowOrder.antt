@@ -73,7 +73,7 @@ raw-length T U rows f = sym (kept-length sorted sorted-keeps T f) ∙ ap (λ v. 
 
 -- ---- the checks: both states pass or fail them alike
 -- what the checks hand on of a question over tables
-abbrev accepted : Tables → Posed → Accepted
+abbrev pub accepted : Tables → Posed → Accepted
 accepted T p = record { tables = T; lent = p .lent; question = p .question; form = normal (kindOf T) (p .question) }
 
 abbrev tests : Bool → Bool → Bool → Bool → Bool → Bool → Accepted → Result Accepted
@@ -108,7 +108,7 @@ module _ (T U : Tables) (S : Restates Alike T U) where
       ∙ sym (canonical-of (kindOf T k) (rowsOf U k))
       ∙ ap (λ c. canonical (of c) (rowsOf U k)) (kinds-same k)) (asTerm q) (λ x. junk)
 
-  typed-same : (J : Collection → Monoid → Bool) (q : Question) → typeOf J T (asTerm q) (λ x. wrong) ≡ typeOf J U (asTerm q) (λ x. wrong)
+  pub typed-same : (J : Collection → Monoid → Bool) (q : Question) → typeOf J T (asTerm q) (λ x. wrong) ≡ typeOf J U (asTerm q) (λ x. wrong)
   typed-same J q = type-same J T U kinds-same columns-same (asTerm q) (λ x. wrong)
 
   judge-as : (p : Posed) → let q = p .question in judge U (p .lent) q ≡ tests (namesHold q) (typesFit T q) (calendarsLent (p .lent) q) (generatorsFit T q) (sizeFits (normal (kindOf T) q)) (numbersFit (boundOf T) (normal (kindOf T) q)) (accepted U p)
@@ -173,7 +173,7 @@ module _ (T U : Tables) (S : Restates Reordered T U) where
       go bag e = e
       go set e = e
 
-  G-same : (p : Posed) → G (accepted T p) ≡ G (accepted U p)
+  pub G-same : (p : Posed) → G (accepted T p) ≡ G (accepted U p)
   unfolding G
   G-same p = raw-length T U rows-rearranged (normal (kindOf T) (p .question)) ∙ ap (λ f. length (words (normalValue raw U f))) (form-same T U (reordered-restates T U S) (p .question))
 
@@ -188,7 +188,7 @@ module _ (T U : Tables) (S : Restates Reordered T U) where
 
 -- Whatever else is lent, number, length, buffer and scratch are the same, by loops, by plan, from the checker and from the plan call.
 module _ (d d′ : Bytes) (l : Lent) (S : Rereads Reordered (readData d) (readData d′)) where
-  same-results : {A : Type 0} (k : Accepted → Result A) → ((T U : Tables) → Restates Reordered T U → (p : Posed) → k (accepted T p) ≡ k (accepted U p)) → andThen (examine d l) k ≡ andThen (examine d′ l) k
+  pub same-results : {A : Type 0} (k : Accepted → Result A) → ((T U : Tables) → Restates Reordered T U → (p : Posed) → k (accepted T p) ≡ k (accepted U p)) → andThen (examine d l) k ≡ andThen (examine d′ l) k
   same-results k h = examined-both Reordered reordered-restates (λ x y. x ≡ y) (λ n. refl) k k h d d′ l S
 
   loops-ordered : (s : List ℕ) (b : List ℤ) → byLoops d l s b ≡ byLoops d′ l s b

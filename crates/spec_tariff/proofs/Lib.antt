@@ -1,2 +1,3 @@
 -- Laws of tariffs and dues.
 pub mod Cases
+pub mod SameDues

@@ -1,6 +1,7 @@
 -- What the contracts of the open calls say of all data, questions, buffers and scratch.
 pub mod BothWays
 pub mod RowOrder
+pub mod Dues
 pub mod Portions
 pub mod SameRun
 pub mod SameTables
