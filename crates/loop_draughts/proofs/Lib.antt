@@ -1,0 +1,2 @@
+-- Laws of judging draughts.
+pub mod Exits

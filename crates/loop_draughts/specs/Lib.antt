@@ -1,0 +1,2 @@
+-- The draughts of heads, judged.
+pub mod Contract
