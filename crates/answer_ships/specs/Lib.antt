@@ -1,0 +1,2 @@
+-- The type of ships, read off the words of a normal form.
+pub mod Contract
