@@ -1,0 +1,2 @@
+-- Laws of charging in the buffer.
+pub mod Laws

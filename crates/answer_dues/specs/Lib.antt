@@ -1,0 +1,2 @@
+-- Draughts in the buffer that give way to their cents.
+pub mod Contract
