@@ -72,12 +72,7 @@ const MISFIT: Stop = Stop::Refused(25);
 /// 25 over the whole question; E4: "42, a calendar not lent, after 25 in a question"; then "26: a
 /// generator its monoid may not have".
 pub fn check_types(question: &Comprehension, lent: &Lent) -> Result<(), Stop> {
-    let mut types = Types {
-        lent,
-        names: HashMap::new(),
-        not_lent: false,
-        forbidden: false,
-    };
+    let mut types = Types::new(lent);
     types.comprehension(question)?;
     if types.not_lent {
         return Err(Stop::Refused(42));
@@ -86,6 +81,20 @@ pub fn check_types(question: &Comprehension, lent: &Lent) -> Result<(), Stop> {
         return Err(Stop::Refused(26));
     }
     Ok(())
+}
+
+/// E6: whether an accepted question gives "a bag of records (ship, draught), all numbers"; a table's row of two
+/// columns is such a record.
+pub fn gives_ships(question: &Comprehension, lent: &Lent) -> Result<bool, Stop> {
+    let mut types = Types::new(lent);
+    let found = types.comprehension(question)?;
+    let Type::Collection(Monoid::Bag, element) = found.as_ref() else {
+        return Ok(false);
+    };
+    let Type::Record(fields) = element.as_ref() else {
+        return Ok(false);
+    };
+    Ok(fields.len() == 2 && fields.iter().all(|field| number(field).is_ok()))
 }
 
 struct Types<'a> {
@@ -98,7 +107,16 @@ struct Types<'a> {
     forbidden: bool,
 }
 
-impl Types<'_> {
+impl<'a> Types<'a> {
+    fn new(lent: &'a Lent) -> Types<'a> {
+        Types {
+            lent,
+            names: HashMap::new(),
+            not_lent: false,
+            forbidden: false,
+        }
+    }
+
     fn comprehension(&mut self, inner: &Comprehension) -> Result<Rc<Type>, Stop> {
         for qualifier in &inner.qualifiers {
             self.qualifier(inner.monoid, qualifier)?;

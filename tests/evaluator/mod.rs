@@ -1,7 +1,8 @@
-//! A second evaluator of document 01 with the landed requests of document 02 (E1, E2, E4, E5, E9, E10, E11, E13), written from
-//! their text alone and as literally as it can be: trees are rewritten, streams are kept whole, and nothing
-//! is fast. It serves the four calls and says `Unknown` where an input would take it too long; it also
-//! turns tables from rows to columns and back, pairs two logs, and knows days, dates and open minutes.
+//! A second evaluator of document 01 with the landed requests of document 02 (E1, E2, E4, E5, E6, E9, E10, E11, E13), written
+//! from their text alone and as literally as it can be: trees are rewritten, streams are kept whole, and nothing
+//! is fast. It serves the four calls and says `Unknown` where an input would take it too long; it also charges
+//! dues by a tariff, turns tables from rows to columns and back, pairs two logs, and knows days, dates and open
+//! minutes.
 
 mod bounds;
 mod budget;
@@ -16,6 +17,7 @@ mod operators;
 mod plan;
 mod reader;
 mod tables;
+mod tariff;
 mod terms;
 mod values;
 
@@ -65,21 +67,12 @@ pub fn by_loops(
     scratch: usize,
     answer_words: u64,
 ) -> Result<Answer, Unknown> {
-    answered(
-        data,
-        calendars,
-        question,
-        scratch,
-        answer_words,
-        |accepted| {
-            let words = meaning::answer_by_loops(&accepted.question, &accepted.lent)?;
-            let again = meaning::answer_by_loops(&accepted.form, &accepted.lent)?;
-            if again != words {
-                return Err(budget::FAULT);
-            }
-            Ok((words, 0))
-        },
-    )
+    let answer = accept(data, calendars, question, scratch).and_then(|accepted| {
+        answered(&accepted, answer_words, |accepted| {
+            Ok((words_by_loops(accepted)?, 0))
+        })
+    });
+    refusal_or(answer, refused)
 }
 
 /// The answer by plan, from the operators' definitions.
@@ -90,18 +83,38 @@ pub fn by_plan(
     scratch: usize,
     answer_words: u64,
 ) -> Result<Answer, Unknown> {
-    answered(
-        data,
-        calendars,
-        question,
-        scratch,
-        answer_words,
-        |accepted| {
+    let answer = accept(data, calendars, question, scratch).and_then(|accepted| {
+        answered(&accepted, answer_words, |accepted| {
             let plan = plan::make_plan(&accepted.form)?;
             let run = operators::answer_by_plan(&plan, &accepted.lent)?;
             Ok((run.words, run.offered))
-        },
-    )
+        })
+    });
+    refusal_or(answer, refused)
+}
+
+/// E6: the dues on an answer. "44 .., after 31; 45, a question of another type, after 28; 46 .., after 32 and
+/// before a word is written". Both ways give the same words, so one of them is charged.
+pub fn with_tariff(
+    data: &[u8],
+    calendars: &[u8],
+    question: &[u8],
+    tariff: &[u8],
+    scratch: usize,
+    answer_words: u64,
+) -> Result<Answer, Unknown> {
+    let answer = enough(scratch)
+        .and_then(|()| tariff::read_tariff(tariff))
+        .and_then(|tariff| {
+            let accepted = accept(data, calendars, question, scratch)?;
+            if !checks::gives_ships(&accepted.question, &accepted.lent)? {
+                return Err(Stop::Refused(45));
+            }
+            answered(&accepted, answer_words, |accepted| {
+                Ok((tariff.dues(&words_by_loops(accepted)?)?, 0))
+            })
+        });
+    refusal_or(answer, refused)
 }
 
 /// The plan's lines; at a refusal its number and no bytes. The length is that of the bytes.
@@ -215,9 +228,7 @@ fn accept(
     question: &[u8],
     scratch: usize,
 ) -> Result<Accepted, Stop> {
-    if scratch < SCRATCH {
-        return Err(Stop::Refused(31));
-    }
+    enough(scratch)?;
     let lent = Lent {
         tables: tables::read_tables(data)?,
         calendars: calendars::read_calendars(calendars)?,
@@ -234,38 +245,55 @@ fn accept(
     })
 }
 
+/// The least scratch, which every call that is lent some asks for first.
+fn enough(scratch: usize) -> Result<(), Stop> {
+    if scratch < SCRATCH {
+        return Err(Stop::Refused(31));
+    }
+    Ok(())
+}
+
+/// The words by loops of the question as typed, which are those of its normal form.
+fn words_by_loops(accepted: &Accepted) -> Result<Vec<i64>, Stop> {
+    let words = meaning::answer_by_loops(&accepted.question, &accepted.lent)?;
+    let again = meaning::answer_by_loops(&accepted.form, &accepted.lent)?;
+    if again != words {
+        return Err(budget::FAULT);
+    }
+    Ok(words)
+}
+
 /// "32: the answer buffer has fewer than G words", then the words and the pairs offered.
 fn answered(
-    data: &[u8],
-    calendars: &[u8],
-    question: &[u8],
-    scratch: usize,
+    accepted: &Accepted,
     answer_words: u64,
     evaluate: impl Fn(&Accepted) -> Result<(Vec<i64>, u64), Stop>,
-) -> Result<Answer, Unknown> {
-    let answer = accept(data, calendars, question, scratch).and_then(|accepted| {
-        let greatest = meaning::greatest_length(&accepted.form, &accepted.lent)?;
-        if answer_words < greatest {
-            return Ok(Answer {
-                number: 32,
-                greatest,
-                ..Answer::default()
-            });
-        }
-        let (words, offered) = evaluate(&accepted)?;
-        let length = u64::try_from(words.len()).unwrap_or(u64::MAX);
-        Ok(Answer {
-            number: 0,
-            length,
-            words,
+) -> Result<Answer, Stop> {
+    let greatest = meaning::greatest_length(&accepted.form, &accepted.lent)?;
+    if answer_words < greatest {
+        return Ok(Answer {
+            number: 32,
             greatest,
-            offered,
-        })
-    });
-    refusal_or(answer, |number| Answer {
+            ..Answer::default()
+        });
+    }
+    let (words, offered) = evaluate(accepted)?;
+    let length = u64::try_from(words.len()).unwrap_or(u64::MAX);
+    Ok(Answer {
+        number: 0,
+        length,
+        words,
+        greatest,
+        offered,
+    })
+}
+
+/// An answering call's reply to a refusal.
+fn refused(number: u32) -> Answer {
+    Answer {
         number,
         ..Answer::default()
-    })
+    }
 }
 
 /// A refusal as a reply, a give-up as `Unknown`.

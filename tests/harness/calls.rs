@@ -138,6 +138,21 @@ extern "C" {
         answer4_words: usize,
     ) -> Round;
 
+    fn dislogha_answer_with_tariff(
+        data: *const u8,
+        data_bytes: usize,
+        calendars: *const u8,
+        calendars_bytes: usize,
+        question: *const u8,
+        question_bytes: usize,
+        tariff: *const u8,
+        tariff_bytes: usize,
+        scratch: *mut u64,
+        scratch_words: usize,
+        answer: *mut i64,
+        answer_words: usize,
+    ) -> Outcome;
+
     fn dislogha_pair_logs(
         data: *const u8,
         data_bytes: usize,
@@ -244,6 +259,35 @@ pub fn round(data: &[u8], calendars: &[u8], quotas: &[u64], seats: [LentSeat; 4]
             fourth.scratch.len(),
             fourth.answer.as_mut_ptr(),
             fourth.answer.len(),
+        )
+    }
+}
+
+/// The dues on an answer, by a tariff.
+pub fn answer_with_tariff(
+    data: &[u8],
+    calendars: &[u8],
+    question: &[u8],
+    tariff: &[u8],
+    scratch: &mut [u64],
+    answer: &mut [i64],
+) -> Outcome {
+    // SAFETY: each pointer goes with the length of its own slice, and what is written overlaps
+    // nothing else.
+    unsafe {
+        dislogha_answer_with_tariff(
+            data.as_ptr(),
+            data.len(),
+            calendars.as_ptr(),
+            calendars.len(),
+            question.as_ptr(),
+            question.len(),
+            tariff.as_ptr(),
+            tariff.len(),
+            scratch.as_mut_ptr(),
+            scratch.len(),
+            answer.as_mut_ptr(),
+            answer.len(),
         )
     }
 }

@@ -3,6 +3,7 @@
 
 use std::time::Instant;
 
+use super::answered::Recorded;
 use super::calls::Outcome;
 use super::generate::Input;
 use super::held::Held;
@@ -13,6 +14,8 @@ use super::tally::{Place, Tally};
 
 pub struct Comparison<'a, T> {
     call: &'a Call<T>,
+    /// Whether each call is made once more on blocks of exactly the lent lengths.
+    blocks: bool,
     scratch: Lent<u64>,
     buffer: Lent<T>,
     tally: Tally,
@@ -62,9 +65,19 @@ impl<'a, T: Unit> Comparison<'a, T> {
     pub fn new(call: &'a Call<T>) -> Comparison<'a, T> {
         Comparison {
             call,
+            blocks: false,
             scratch: Lent::new(),
             buffer: Lent::new(),
             tally: Tally::of_questions(call.name, call.numbers()),
+        }
+    }
+
+    /// The same, and each call is made once more on heap blocks of exactly the lent lengths, so that valgrind sees
+    /// a step outside.
+    pub fn on_blocks(call: &'a Call<T>) -> Comparison<'a, T> {
+        Comparison {
+            blocks: true,
+            ..Comparison::new(call)
         }
     }
 
@@ -112,21 +125,44 @@ impl<'a, T: Unit> Comparison<'a, T> {
     fn made(&mut self, case: &mut Case<T>, scratch: usize, buffer: usize) -> Result<(), String> {
         let lent_scratch = self.scratch.lend(scratch, case.random.next());
         let lent_buffer = self.buffer.lend(buffer, case.random.next());
+        let blocks = self
+            .blocks
+            .then(|| (lent_scratch.to_vec(), lent_buffer.to_vec()));
         let start = Instant::now();
         let outcome = (self.call.made)(case.input, lent_scratch, lent_buffer);
         self.tally
             .called(outcome.number, start.elapsed(), case.place);
         self.compare_call(case.reply, outcome)
+            .and_then(|()| match blocks {
+                Some(blocks) => self.same_on(blocks, case.input, outcome),
+                None => Ok(()),
+            })
             .map_err(|what| format!("scratch of {scratch}, buffer of {buffer}: {what}"))
+    }
+
+    /// The same call on blocks of their own, which held the same.
+    fn same_on(
+        &self,
+        (mut scratch, mut buffer): (Vec<u64>, Vec<T>),
+        input: &Input,
+        outcome: Outcome,
+    ) -> Result<(), String> {
+        let again = (self.call.made)(&input.clone(), &mut scratch, &mut buffer);
+        let same = again == outcome
+            && scratch == self.scratch.front(scratch.len())
+            && buffer == self.buffer.front(buffer.len());
+        match same {
+            true => Ok(()),
+            false => Err(format!("{outcome:?}, on blocks of their own {again:?}")),
+        }
     }
 
     /// The order of refusals that depend on what is lent, and what each outcome leaves behind.
     fn compare_call(&self, reply: &Reply<T>, outcome: Outcome) -> Result<(), String> {
         let number = match self.call.too_short {
             _ if self.scratch.len() < SCRATCH => 31,
-            _ if reply.number != 0 => reply.number,
             Some(too_short) if self.buffer.len() < reply.written.len() => too_short,
-            _ => 0,
+            _ => reply.number,
         };
         let (length, written): (u64, &[T]) = match number {
             0 => (reply.length, &reply.written),
@@ -140,6 +176,28 @@ impl<'a, T: Unit> Comparison<'a, T> {
             return Err(format!("after {number} unit {what}"));
         }
         cleared(&self.scratch, number)
+    }
+}
+
+impl Comparison<'_, i64> {
+    /// Holds the call against a recorded one.
+    pub fn recorded(&mut self, case: &Recorded) -> Result<(), String> {
+        let lent_scratch = self.scratch.lend(case.scratch, 1);
+        let lent_answer = self.buffer.lend(case.answer, 2);
+        let blocks = (lent_scratch.to_vec(), lent_answer.to_vec());
+        let outcome = (self.call.made)(&case.input, lent_scratch, lent_answer);
+        let wanted = Outcome {
+            number: case.number,
+            length: case.length,
+        };
+        if outcome != wanted {
+            return Err(format!("outcome is {outcome:?}, should be {wanted:?}"));
+        }
+        if let Some(what) = self.buffer.differs(&case.words, 0) {
+            return Err(format!("word {what}"));
+        }
+        cleared(&self.scratch, case.number)?;
+        self.same_on(blocks, &case.input, outcome)
     }
 }
 

@@ -118,6 +118,7 @@ impl Example {
             data: self.data.clone(),
             calendars: self.calendars.clone(),
             question: self.question.clone(),
+            tariff: Vec::new(),
         };
         let (checked, answered) = (self.reply(Vec::new()), self.reply(written));
         calls.check.hold(&input, &checked, self.scratch)?;

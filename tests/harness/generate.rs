@@ -2,10 +2,11 @@
 
 use super::by_column::of_either_kind;
 use super::calendars::{broken_calendars, Calendars};
-use super::nodes::{Node, Stored};
+use super::nodes::{Node, Stored, BAG};
 use super::numbers::Numbers;
 use super::random::Random;
-use super::typed::{random_tables, Size, Writer};
+use super::tariffs::{broken_tariff, random_ships, Tariff};
+use super::typed::{random_tables, Size, Type, Writer};
 use super::{breaks, chains, choices, columns, doublings, extremes, hours, limits, tall};
 
 /// What an input was made to be. What it is, only an evaluator can tell.
@@ -33,6 +34,7 @@ pub enum Family {
     Columns,
     Tall,
     Hours,
+    Ships,
 }
 
 /// One input of the calls, with the family it belongs to.
@@ -42,11 +44,12 @@ pub struct Input {
     pub data: Vec<u8>,
     pub calendars: Vec<u8>,
     pub question: Vec<u8>,
+    pub tariff: Vec<u8>,
 }
 
 /// Families with their weights, of 1,000.
-const FAMILIES: [(Family, usize); 22] = [
-    (Family::WellTyped, 205),
+const FAMILIES: [(Family, usize); 23] = [
+    (Family::WellTyped, 165),
     (Family::ForbiddenGenerator, 40),
     (Family::BrokenMeaning, 110),
     (Family::BrokenRecord, 60),
@@ -68,6 +71,7 @@ const FAMILIES: [(Family, usize); 22] = [
     (Family::Columns, 40),
     (Family::Tall, 15),
     (Family::Hours, 40),
+    (Family::Ships, 40),
 ];
 
 /// The input of an index.
@@ -77,6 +81,18 @@ pub fn generate(seed: u64, index: u64) -> Input {
     let family = FAMILIES
         .get(position)
         .map_or(Family::WellTyped, |(family, _)| *family);
+    of_family(random, family)
+}
+
+/// The same where every other input is of that family.
+pub fn often_of(family: Family, seed: u64, index: u64) -> Input {
+    match index % 2 {
+        0 => generate(seed, index),
+        _ => of_family(Random::new(seed, index), family),
+    }
+}
+
+fn of_family(mut random: Random, family: Family) -> Input {
     let made = Made::random(&mut random, family);
     let (data, question) = made.input_of(&mut random, family);
     let calendars = match family {
@@ -85,11 +101,16 @@ pub fn generate(seed: u64, index: u64) -> Input {
         _ if random.chance(3) => made.calendars.fewer(&mut random).bytes(),
         _ => made.calendars.bytes(),
     };
+    let tariff = match random.chance(6) {
+        true => broken_tariff(&mut random, &made.tariff),
+        false => made.tariff.bytes(),
+    };
     Input {
         family,
         data,
         calendars,
         question,
+        tariff,
     }
 }
 
@@ -102,15 +123,17 @@ pub fn questions(seed: u64, index: u64, count: usize) -> Vec<Input> {
         data: made.data(),
         calendars: made.calendars.bytes(),
         question: made.broken_or_whole(&mut random, 5),
+        tariff: made.tariff.bytes(),
     };
     (0..count).map(|_| question()).collect()
 }
 
-/// Tables of either kind, their numbers, and calendars.
+/// Tables of either kind, their numbers, calendars and a tariff.
 struct Made {
     numbers: Numbers,
     tables: Vec<Stored>,
     calendars: Calendars,
+    tariff: Tariff,
 }
 
 impl Made {
@@ -123,6 +146,7 @@ impl Made {
                 Family::Hours if random.chance(95) => Calendars::some(random),
                 _ => Calendars::random(random),
             },
+            tariff: Tariff::random(random),
         }
     }
 
@@ -185,6 +209,10 @@ impl Made {
             Family::Hours => perhaps_changed(random, numbers, |random| {
                 hours::random_hours(random, &self.calendars)
             }),
+            Family::Ships if random.chance(40) => (self.data(), self.ships(random).bytes()),
+            Family::Ships => {
+                perhaps_changed(random, numbers, |random| random_ships(random, &self.tariff))
+            }
         }
     }
 
@@ -196,6 +224,15 @@ impl Made {
     fn question(&self, random: &mut Random, lawless: bool) -> Node {
         let size = Size::random(random);
         let question = Writer::new(random, &self.tables, &self.calendars, size, lawless).question();
+        self.numbers.renamed(question)
+    }
+
+    /// A well-typed question that gives a bag of records of two numbers.
+    fn ships(&self, random: &mut Random) -> Node {
+        let size = Size::random(random);
+        let ship = Type::Record(vec![Type::Number, Type::Number]);
+        let mut writer = Writer::new(random, &self.tables, &self.calendars, size, false);
+        let question = writer.question_of(BAG, &ship);
         self.numbers.renamed(question)
     }
 

@@ -26,10 +26,14 @@ pub fn run(mut held: impl Held) -> ExitCode {
 /// The first inputs of a seed, each held in every way.
 pub fn inputs_of(seed: u64, count: u64, ways: &mut [&mut dyn Held]) {
     for index in 0..count {
-        let input = generate(seed, index);
-        for held in &mut *ways {
-            held.tally().inputs += 1;
-            held.input((seed, index), &input);
-        }
+        hold(ways, (seed, index), &generate(seed, index));
+    }
+}
+
+/// One input, held in every way.
+pub fn hold(ways: &mut [&mut dyn Held], place: Place, input: &Input) {
+    for held in &mut *ways {
+        held.tally().inputs += 1;
+        held.input(place, input);
     }
 }

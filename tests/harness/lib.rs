@@ -2,6 +2,7 @@
 //! evaluator on them.
 
 pub mod alike;
+pub mod answered;
 mod breaks;
 pub mod by_column;
 pub mod calendar_calls;
@@ -39,6 +40,7 @@ pub mod scene;
 mod seat;
 mod tall;
 pub mod tally;
+pub mod tariffs;
 pub mod timing;
 mod typed;
 pub mod ways;

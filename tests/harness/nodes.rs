@@ -34,6 +34,8 @@ pub const STORED: u16 = 20;
 /// An open minute, and a stored calendar (document 02, E4).
 pub const OPEN: u16 = 21;
 pub const CALENDAR: u16 = 24;
+/// A tariff (document 02, E6).
+pub const TARIFF: u16 = 22;
 /// A stored table by column (document 02, E10).
 pub const BY_COLUMN: u16 = 23;
 

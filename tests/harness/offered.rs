@@ -15,6 +15,7 @@ open_call!("test_offers", dislogha_offered_rows as offered_rows: scratch of u64)
 const OFFERED: Call<i64> = Call {
     name: "offered",
     too_short: None,
+    own: &[],
     always: false,
     made: |Input {
                data,

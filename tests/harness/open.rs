@@ -21,7 +21,8 @@ pub const NUMBERS: [u64; 17] = [
 pub struct Reply<T> {
     pub number: u64,
     pub length: u64,
-    /// What the buffer then begins with, up to G or the last byte; what is behind it stays.
+    /// What the buffer then begins with, up to G or the last byte; what is behind it stays. At a refusal that
+    /// comes behind `too_short` as many words as that one asks for.
     pub written: Vec<T>,
 }
 
@@ -30,6 +31,8 @@ pub struct Call<T> {
     pub name: &'static str,
     /// The refusal of a buffer that is too short; none where the call takes no buffer.
     pub too_short: Option<u64>,
+    /// The refusals that it has of its own.
+    pub own: &'static [u64],
     /// Whether it is made even where the evaluator gives up: it ends soon, and takes no buffer.
     pub always: bool,
     /// The call over an input, scratch and buffer.
@@ -42,13 +45,15 @@ impl<T> Call<T> {
     /// The numbers that the call may give.
     pub fn numbers(&self) -> Vec<u64> {
         let lent = [31].into_iter().chain(self.too_short);
-        NUMBERS.into_iter().chain(lent).collect()
+        let own = self.own.iter().copied();
+        NUMBERS.into_iter().chain(lent).chain(own).collect()
     }
 }
 
 pub const CHECK: Call<i64> = Call {
     name: "check",
     too_short: None,
+    own: &[],
     always: true,
     made: |Input {
                data,
@@ -76,6 +81,7 @@ pub const CHECK: Call<i64> = Call {
 pub const LOOPS: Call<i64> = Call {
     name: "loops",
     too_short: Some(32),
+    own: &[],
     always: false,
     made: |Input {
                data,
@@ -104,6 +110,7 @@ pub const LOOPS: Call<i64> = Call {
 pub const PLAN: Call<i64> = Call {
     name: "plan",
     too_short: Some(32),
+    own: &[],
     always: false,
     made: |Input {
                data,
@@ -129,10 +136,57 @@ pub const PLAN: Call<i64> = Call {
     },
 };
 
+/// With the input's tariff: "44 .. 45 .. 46".
+pub const TARIFF: Call<i64> = Call {
+    name: "tariff",
+    too_short: Some(32),
+    own: &[44, 45, 46],
+    always: false,
+    made: |Input {
+               data,
+               calendars,
+               question,
+               tariff,
+               ..
+           },
+           scratch,
+           answer| {
+        calls::answer_with_tariff(data, calendars, question, tariff, scratch, answer)
+    },
+    expected: |input| {
+        let Input {
+            data,
+            calendars,
+            question,
+            ..
+        } = input;
+        let answer = with_tariff(input, SCRATCH, u64::MAX)?;
+        // "46 .., after 32": to a buffer of as many words as the question itself asks for.
+        let greatest = match answer.number {
+            46 => evaluator::by_loops(data, calendars, question, SCRATCH, u64::MAX)?.greatest,
+            _ => answer.greatest,
+        };
+        reply_of_answer(Answer { greatest, ..answer })
+    },
+};
+
+/// What the evaluator says of an input with its tariff.
+pub fn with_tariff(input: &Input, scratch: usize, answer: u64) -> Result<Answer, Unknown> {
+    let Input {
+        data,
+        calendars,
+        question,
+        tariff,
+        ..
+    } = input;
+    evaluator::with_tariff(data, calendars, question, tariff, scratch, answer)
+}
+
 /// By plan in as few portions as there can be.
 pub const PORTIONS: Call<i64> = Call {
     name: "portions",
     too_short: Some(32),
+    own: &[],
     always: false,
     made: |Input {
                data,
@@ -159,6 +213,7 @@ pub const PORTIONS: Call<i64> = Call {
 pub const LINES: Call<u8> = Call {
     name: "lines",
     too_short: Some(33),
+    own: &[],
     always: false,
     made: |Input {
                data,

@@ -333,7 +333,7 @@ fn size_of(number: &Json) -> Option<usize> {
 }
 
 /// A count of scratch words: "min", the least that a call takes, some more or fewer, or a number.
-fn words_of(words: &Json) -> Option<usize> {
+pub fn words_of(words: &Json) -> Option<usize> {
     let Some(text) = words.text() else {
         return size_of(words);
     };

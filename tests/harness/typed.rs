@@ -191,12 +191,17 @@ impl<'a> Writer<'a> {
         let monoid = self
             .random
             .one_of(&[LIST, BAG, BAG, SET, SET, SUM, MAX, MIN, SOME, ALL], BAG);
+        let head = self.head_type(monoid);
+        self.question_of(monoid, &head)
+    }
+
+    /// A whole question of that monoid, with heads of that type.
+    pub fn question_of(&mut self, monoid: u8, head: &Type) -> Node {
         let room = Room {
             levels: self.left.levels,
             nesting: self.left.nesting,
         };
-        let head = self.head_type(monoid);
-        self.comprehension(monoid, &head, room)
+        self.comprehension(monoid, head, room)
     }
 
     fn head_type(&mut self, monoid: u8) -> Type {
