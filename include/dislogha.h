@@ -25,6 +25,11 @@
 // as 0, 1, 2, 3. Data may have both kinds; which one a table is in changes no answer and no refusal.
 // `table_to_columns` and `table_to_rows` turn one record into the other kind.
 //
+// `answer_with_tariff` (request E6) charges the ships of an answer by a tariff, a record of kind 22: one byte
+// of steps (1 to 16), the steps, a minimum charge in cents (at most 10,000,000). A step is an upper draught
+// in centimetres, above that of the step before, and a rate in cents per metre begun (at most 10,000,000).
+// Each of these numbers has four bytes, unsigned; nothing stands behind the record.
+//
 // `pair_logs` (request E11) pairs two list tables, a ship's log and a quay log, whose column 0 has seconds
 // that do not fall, and writes three such records of kind 20: pairs and singles by their rows' positions.
 //
@@ -38,7 +43,8 @@
 //
 // What the engine promises holds for buffers that do not overlap. A wrapper tests that first:
 // where a span that is written shares a byte with another one, it makes no call, changes nothing
-// and gives `Outcome::overlapping`. Data, calendars and question are only read, and may overlap one another.
+// and gives `Outcome::overlapping`. Data, calendars, question and tariff are only read, and may overlap one
+// another.
 #ifndef DISLOGHA_H
 #define DISLOGHA_H
 
@@ -109,6 +115,13 @@ dislogha_result dislogha_answer_by_plan(const std::uint8_t *data, std::uint64_t 
                                         std::uint64_t *scratch, std::uint64_t scratch_words,
                                         std::int64_t *answer, std::uint64_t answer_words) noexcept;
 
+dislogha_result dislogha_answer_with_tariff(const std::uint8_t *data, std::uint64_t data_bytes,
+                                            const std::uint8_t *calendars, std::uint64_t calendars_bytes,
+                                            const std::uint8_t *question, std::uint64_t question_bytes,
+                                            const std::uint8_t *tariff, std::uint64_t tariff_bytes,
+                                            std::uint64_t *scratch, std::uint64_t scratch_words,
+                                            std::int64_t *answer, std::uint64_t answer_words) noexcept;
+
 dislogha_result dislogha_plan_lines(const std::uint8_t *data, std::uint64_t data_bytes,
                                     const std::uint8_t *calendars, std::uint64_t calendars_bytes,
                                     const std::uint8_t *question, std::uint64_t question_bytes,
@@ -173,6 +186,10 @@ constexpr std::size_t stack_bytes = 131072;
 // Rows that a portion may offer.
 constexpr std::uint64_t most_rows = 65535;
 
+// Steps of a tariff, and cents that a rate or the minimum charge may be at most.
+constexpr std::size_t most_steps = 16;
+constexpr std::uint32_t most_cents = 10000000;
+
 // Seconds that two rows of paired logs may be apart at most.
 constexpr std::uint64_t most_tolerance = 3600;
 
@@ -212,6 +229,10 @@ enum class Refusal : std::uint64_t {
     // of `day_number` and `date` a date or day number that does not exist in the years 2000 to 2399.
     calendar_or_date_out_of_range = 41,
 
+    // Whoever packs the tariff, before all refusals of the data:
+    // A tariff that breaks its layout or is outside its ranges, bytes behind it, or none at all.
+    tariff_out_of_range = 44,
+
     // Whoever types the question:
     // Over 4,096 bytes.
     question_too_long = 21,
@@ -234,6 +255,10 @@ enum class Refusal : std::uint64_t {
     // A number in the normal form with bound over 2^62; a cell has the bound that its column
     // declares.
     number_out_of_bounds = 28,
+    // Of `answer_with_tariff` a question that does not give a bag of records of two numbers; after 28.
+    not_ships_and_draughts = 45,
+    // Of `answer_with_tariff` a draught of the answer below 0 or above the last step; after 32.
+    draught_out_of_range = 46,
 
     // Whoever calls:
     // Scratch under 2,048 words. Scratch stays untouched.
@@ -424,6 +449,24 @@ inline Result answer_by_loops(Bytes data, Bytes calendars, Bytes question, Words
 inline Result answer_by_plan(Bytes data, Bytes calendars, Bytes question, Words scratch,
                              Answer answer) noexcept {
     return call_with(dislogha_answer_by_plan, data, calendars, question, scratch, answer);
+}
+
+// The dues on an answer: the question gives a bag of records (ship, draught in centimetres), two numbers (a row
+// of a table with two columns is such a record), and the bag (ship, cents) is written, ascending. A ship pays
+// the rate of the first step whose upper draught is not below its own, times the metres begun, its draught
+// divided by 100 and rounded up, or the minimum charge where that is greater. `answered` and the count of
+// words, two for each ship and one more, which is G. The order of refusals: 31, 44, the data's, 41, 21 to 28,
+// 45, 32, 46; at each of them the answer buffer is as it was.
+inline Result answer_with_tariff(Bytes data, Bytes calendars, Bytes question, Bytes tariff, Words scratch,
+                                 Answer answer) noexcept {
+    if (overlaps(scratch, data, calendars, question, tariff, answer) ||
+        overlaps(answer, data, calendars, question, tariff)) {
+        return overlapping;
+    }
+    return result_of(dislogha_answer_with_tariff(
+        data.first(), data.count(), calendars.first(), calendars.count(), question.first(),
+        question.count(), tariff.first(), tariff.count(), scratch.first(), scratch.count(),
+        answer.first(), answer.count()));
 }
 
 // The plan's lines, byte 10 after each: `answered` and the count of their bytes, which stand at the

@@ -50,6 +50,12 @@ const char *words_of(dislogha::Refusal refusal) noexcept {
         return "question too large";
     case Refusal::number_out_of_bounds:
         return "number too large";
+    case Refusal::tariff_out_of_range:
+        return "tariff out of range";
+    case Refusal::not_ships_and_draughts:
+        return "no bag of ships";
+    case Refusal::draught_out_of_range:
+        return "draught beyond steps";
     case Refusal::scratch_too_short:
         return "scratch too short";
     case Refusal::answer_too_short:

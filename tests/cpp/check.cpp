@@ -220,6 +220,61 @@ void turn_listing() {
            "the record's own refusals come first");
 }
 
+// Up to 100 cm 500 cents per metre begun, up to 400 cm 1,000, at least 300: the listing's bag, (1, 110) and
+// (2, 0), taken for ships and draughts, owes 2,000 and 300.
+const std::vector<std::uint8_t> tariff{
+    21,  0, 22, 0, 2,                  //
+    100, 0, 0,  0, 244, 1, 0, 0,       //
+    144, 1, 0,  0, 232, 3, 0, 0, 44, 1, 0, 0, //
+};
+
+// The listing's dues in an answer of so many words, in blocks of their own.
+struct Dues {
+    std::vector<std::uint64_t> scratch;
+    std::vector<std::int64_t> answer;
+    Result result;
+
+    explicit Dues(std::size_t count, const std::vector<std::uint8_t> &lent = tariff,
+                  const std::vector<std::uint8_t> &asked = question, std::size_t words = dislogha::scratch_words + 3)
+        : scratch(words, rubbish), answer(count, -7),
+          result(dislogha::answer_with_tariff(bytes(tables), bytes(hours), bytes(asked), bytes(lent),
+                                              {scratch.data(), scratch.size()}, {answer.data(), answer.size()})) {}
+
+    bool refused(Refusal refusal) const {
+        return refuses(result, refusal) && cleared(scratch) &&
+               std::count(answer.begin(), answer.end(), -7) == static_cast<std::ptrdiff_t>(answer.size());
+    }
+};
+
+void charge_listing() {
+    const Dues dues(6);
+    expect(answers(dues.result, 5) && cleared(dues.scratch), "the listing's dues");
+    expect(dues.answer == std::vector<std::int64_t>{2, 1, 2000, 2, 300, -7}, "their words, and the one behind");
+    const Dues scant(6, {}, question, dislogha::scratch_words - 1);
+    expect(refuses(scant.result, Refusal::scratch_too_short), "31 comes before 44");
+    expect(Dues(6, {}).refused(Refusal::tariff_out_of_range), "no tariff is refused");
+    auto longer = tariff;
+    longer.push_back(0);
+    expect(Dues(6, longer).refused(Refusal::tariff_out_of_range), "nor may a byte stand behind it");
+    expect(Dues(6, longer, {}).refused(Refusal::tariff_out_of_range), "44 comes before the question");
+    // Its monoid, bag, becomes list.
+    const std::size_t monoid_at = 4;
+    auto listed = question;
+    listed[monoid_at] = 1;
+    expect(Dues(6, tariff, listed).refused(Refusal::generator_not_allowed), "26 comes first");
+    const std::vector<std::uint8_t> one{10, 0, 14, 0, 2, 5, 0, 0, 0};
+    expect(Dues(6, tariff, one).refused(Refusal::broken_record), "and so does 22");
+    const std::vector<std::uint8_t> seven{9, 0, 14, 0, 4, 4, 0, 1, 0, 7, 0, 0, 0};
+    expect(Dues(0, tariff, seven).refused(Refusal::not_ships_and_draughts), "a sum has no ships; 45 before 32");
+    // Up to 9 cm alone.
+    auto shallow = tariff;
+    shallow[5] = 8;
+    shallow[13] = 9;
+    shallow[14] = 0;
+    expect(Dues(4, shallow).refused(Refusal::answer_too_short), "32 comes before 46");
+    expect(Dues(5, shallow).refused(Refusal::draught_out_of_range), "110 cm is above the last step");
+}
+
 // Two logs, the seconds 0, 9 and 9, 12, and what a tolerance of 3 makes of them: a pair of rows 1 and 0, and
 // two singles.
 const std::vector<std::uint8_t> logs{
@@ -734,6 +789,15 @@ void check_overlap() {
     auto lent = logs;
     expect(overlaps(dislogha::pair_logs(bytes(lent), 0, 1, 3, {&lent.back(), 1})) && lent == logs,
            "nor is one inside the data");
+    const auto not_charged = [&](Bytes lent, Answer over, const char *what) {
+        expect(overlaps(dislogha::answer_with_tariff(bytes(tables), bytes(hours), bytes(question), lent,
+                                                     words(scratch), over)) &&
+                   scratch == before && answer[0] == -7,
+               what);
+    };
+    not_charged(in_last, answer, "a tariff inside scratch is not called with");
+    not_charged(in_answer, answer, "nor one inside the answer");
+    not_charged(bytes(tariff), in_scratch, "dues inside scratch are not written");
     const auto same =
         dislogha::check(bytes(question), bytes(hours), bytes(question), words(scratch));
     expect(refuses(same, Refusal::not_a_table), "data and question may be the same bytes");
@@ -746,6 +810,7 @@ void check_overlap() {
 int main() {
     check_listing();
     turn_listing();
+    charge_listing();
     pair_two_logs();
     for (const AnswerCall answer_by : {dislogha::answer_by_loops, dislogha::answer_by_plan}) {
         answer_listing(answer_by);

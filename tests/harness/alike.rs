@@ -8,7 +8,7 @@ use super::calls::{self, LentSeat, Outcome, Portioned};
 use super::generate::Input;
 use super::lent::{lengths, Unit, SCRATCH};
 use super::offers::most_offers;
-use super::open::{Call, CHECK, LINES, LOOPS, MOST_ROWS, MOST_WORDS, PLAN, PORTIONS};
+use super::open::{Call, CHECK, LINES, LOOPS, MOST_ROWS, MOST_WORDS, PLAN, PORTIONS, TARIFF};
 use super::random::Random;
 use super::tally::{Place, Tally};
 use super::ways::{agree, Way, MOST_OFFERS, OTHER};
@@ -27,7 +27,7 @@ struct Both<T = i64> {
 }
 
 pub struct Alike {
-    in_words: [Both; 3],
+    in_words: [Both; 4],
     lines: Both<u8>,
     portions: [Way; 2],
     pub tally: Tally,
@@ -41,6 +41,7 @@ impl Alike {
                 Both::new([CHECK, CHECK], 0),
                 Both::new([LOOPS, LOOPS], MOST_WORDS),
                 Both::new([PLAN, PLAN], MOST_WORDS),
+                Both::new([TARIFF, TARIFF], MOST_WORDS),
             ],
             lines: Both::new([LINES, LINES], MOST_BYTES),
             portions: [PORTIONS, PORTIONS].map(Way::new),

@@ -9,7 +9,7 @@ use std::time::{Duration, Instant};
 use harness::arguments;
 use harness::compare::Comparison;
 use harness::held::{inputs_of, Held};
-use harness::open::{CHECK, LINES, LOOPS, PLAN};
+use harness::open::{CHECK, LINES, LOOPS, PLAN, TARIFF};
 use harness::portioned::Portions;
 use harness::rota::Rounds;
 use harness::tally::{exit_code, Tally};
@@ -51,12 +51,14 @@ fn merged(mut totals: Vec<Tally>, tallies: Vec<Tally>) -> Vec<Tally> {
 fn tallies_until(seeds: &AtomicU64, end: Instant) -> Vec<Tally> {
     let (mut check, mut loops) = (Comparison::new(&CHECK), Comparison::new(&LOOPS));
     let (mut plan, mut lines) = (Comparison::new(&PLAN), Comparison::new(&LINES));
+    let mut tariff = Comparison::new(&TARIFF);
     let (mut both, mut portions, mut rounds) = (Ways::new(), Portions::new(), Rounds::new());
-    let mut held: [&mut dyn Held; 7] = [
+    let mut held: [&mut dyn Held; 8] = [
         &mut check,
         &mut loops,
         &mut plan,
         &mut lines,
+        &mut tariff,
         &mut both,
         &mut portions,
         &mut rounds,

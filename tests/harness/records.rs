@@ -11,7 +11,9 @@ use harness::record_order::other_order;
 use harness::tally::exit_code;
 
 /// What a call over data that reads can give.
-const NUMBERS: [u64; 14] = [0, 41, 21, 22, 23, 24, 25, 42, 26, 27, 28, 31, 32, 33];
+const NUMBERS: [u64; 17] = [
+    0, 41, 21, 22, 23, 24, 25, 42, 26, 27, 28, 31, 32, 33, 44, 45, 46,
+];
 
 fn main() -> ExitCode {
     let [seed, count] = arguments("seed, count of inputs", [1, 100_000]);

@@ -1,5 +1,5 @@
-//! "Survey order must not show" (document 02, E14): each way of answering against itself, over the
-//! tables as they were made and over the same tables in another state.
+//! "Survey order must not show" (document 02, E14): each way of answering, and answering with a tariff, against
+//! itself, over the tables as they were made and over the same tables in another state.
 
 use std::time::Instant;
 
@@ -8,7 +8,7 @@ use super::generate::Input;
 use super::lent::{lengths, SCRATCH};
 use super::nodes::*;
 use super::offers::most_offers;
-use super::open::{LOOPS, MOST_WORDS, NUMBERS, PLAN};
+use super::open::{LOOPS, MOST_WORDS, NUMBERS, PLAN, TARIFF};
 use super::random::Random;
 use super::tally::{Place, Tally};
 use super::ways::{agree, Way, MOST_OFFERS, OTHER};
@@ -50,19 +50,19 @@ pub enum Common {
     Words,
 }
 
-/// Both ways of answering, each over two states of the tables.
+/// Both ways of answering, and the dues, each over two states of the tables.
 pub struct RowOrder {
     change: Change,
     common: Common,
-    ways: [(Way, Way); 2],
+    ways: [(Way, Way); 3],
     pub tally: Tally,
 }
 
 impl RowOrder {
     pub fn new(name: &'static str, change: Change, common: Common) -> RowOrder {
         let known = match common {
-            Common::Outcome => LOOPS.numbers(),
-            Common::Words => NUMBERS.to_vec(),
+            Common::Outcome => TARIFF.numbers(),
+            Common::Words => [&NUMBERS, TARIFF.own].concat(),
         };
         RowOrder {
             change,
@@ -70,6 +70,7 @@ impl RowOrder {
             ways: [
                 (Way::new(LOOPS), Way::new(LOOPS)),
                 (Way::new(PLAN), Way::new(PLAN)),
+                (Way::new(TARIFF), Way::new(TARIFF)),
             ],
             tally: Tally::of_questions(name, known),
         }

@@ -1,5 +1,5 @@
-//! Both ways of answering over tables whose rows are rearranged, and repeated. Arguments: seed, count
-//! of inputs whose rows can be rearranged.
+//! Both ways of answering, and the dues, over tables whose rows are rearranged, and repeated. Arguments:
+//! seed, count of inputs whose rows can be rearranged.
 
 use std::process::ExitCode;
 

@@ -13,7 +13,10 @@ use harness::tally::exit_code;
 
 fn main() -> ExitCode {
     let [seed, count] = arguments("seed, count of inputs", [1, 100_000]);
-    let known = NUMBERS.into_iter().chain([31, 32, 33]).collect();
+    let known = NUMBERS
+        .into_iter()
+        .chain([31, 32, 33, 44, 45, 46])
+        .collect();
     let mut windows = Alike::new("windows", known);
     for index in 0..count {
         let (place, input) = ((seed, index), generate(seed, index));

@@ -170,6 +170,15 @@ for called, levels, unit, size, inside in NUMBERS:
     bindings, term = deep(unit, num(1), inside, 27 // levels)
     shape('open-of-' + called, inside, NONE, comp(ALL, bindings, opened(term)), HOURS)
 
+SHIPS = {  # how often a unit is in a ship's draught (document 02, E6), over nothing and over two rows
+    'plus-left': (122, 121), 'plus-right': (122, 121), 'sum': (236, 234), 'max': (236, 234), 'plus-sum': (80, 79),
+    'choice-first': (82, 81), 'choice-second': (82, 81), 'choice-sum': (61, 60),
+}
+for called, levels, unit, _, _ in NUMBERS:
+    for data, rows, size in zip((NONE, TWO), ([], [gen(200, table(0))]), SHIPS[called]):
+        bindings, term = deep(unit, num(1), size, 27 // levels)
+        shape('ships-' + called + '-rows' * len(rows), size, data, comp(BAG, [*bindings, *rows], record(num(1), term)))
+
 OPENED = [  # open minutes in one another: name, units in one term, unit, size
     ('open-choice', 14, lambda t: choice(opened(t), num(1), num(0)), 61),
     ('open-choice-second', 9, lambda t: choice(tru(0), num(1), choice(opened(t), num(1), num(0))), 35),

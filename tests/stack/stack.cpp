@@ -82,6 +82,27 @@ void by_plan() {
                  .number;
 }
 
+// By a tariff of all its steps, which holds every draught. 45 is no fault: most questions are of another type; how many are
+// charged is counted.
+const std::vector<std::uint8_t> tariff = [] {
+    std::vector<std::uint8_t> out = {133, 0, 22, 0, 16};
+    for (std::uint8_t i = 0; i < 16; i++) {
+        out.insert(out.end(), {i, 0, 0, static_cast<std::uint8_t>(i == 15 ? 255 : 0), 128, 150, 152, 0});
+    }
+    out.insert(out.end(), {0, 0, 0, 0});
+    return out;
+}();
+int charged = 0;
+
+void dues() {
+    number = dislogha_answer_with_tariff(data.data(), data.size(), calendars.data(), calendars.size(),
+                                         question.data(), question.size(), tariff.data(), tariff.size(),
+                                         scratch.data(), scratch.size(), answer.data(), answer.size())
+                 .number;
+    charged += number == 0;
+    if (number == 45) number = 0;
+}
+
 void plan_lines() {
     number = dislogha_plan_lines(data.data(), data.size(), calendars.data(), calendars.size(),
                                  question.data(), question.size(),
@@ -200,6 +221,7 @@ int main(int argc, char **argv) {
 
     Call calls[] = {{"check", check, 0, ""},           {"answer_by_loops", by_loops, 0, ""},
                     {"answer_by_plan", by_plan, 0, ""}, {"plan_lines", plan_lines, 0, ""},
+                    {"tariff", dues, 0, ""},
                     {"begin", begin, 0, ""},           {"portion", portions, 0, ""},
                     {"round", rounds, 0, ""},           {"both directions", turned, 0, ""},
                     {"paired logs", paired, 0, ""},
@@ -233,7 +255,7 @@ int main(int argc, char **argv) {
     }
     for (const Call &call : calls)
         std::printf("%-16s %7zu of %zu bytes (%s)\n", call.name, call.most, published, call.where.c_str());
-    std::printf("%d questions, each through %zu calls; %d refused\n", questions,
-                sizeof calls / sizeof *calls, refused);
-    return questions < 90 || refused != 0;
+    std::printf("%d questions, each through %zu calls, %d with dues; %d refused\n", questions,
+                sizeof calls / sizeof *calls, charged, refused);
+    return questions < 90 || charged < 20 || refused != 0;
 }
