@@ -52,6 +52,13 @@ class Engine {
                                             scratch(), answer);
         });
     }
+    // The dues on an answer.
+    Words with_tariff(const Packed &over, const Bytes &question, const Bytes &tariff) {
+        return grown([&](dislogha::Answer answer) {
+            return dislogha::answer_with_tariff(span_of(over.data), span_of(over.calendars), span_of(question), span_of(tariff),
+                                                scratch(), answer);
+        });
+    }
     Lines lines(const Packed &over, const Bytes &question) {
         Bytes buffer(lent.lines);
         const auto result = dislogha::plan_lines(span_of(over.data), span_of(over.calendars),

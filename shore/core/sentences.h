@@ -28,6 +28,9 @@ inline const char *sentence(std::uint64_t number) {
     case 41: return "a calendar that breaks its layout, or a fifth one";
     case 42: return "a calendar that is not lent";
     case 43: return "a bound over 2^31, or a cell beyond its column's";
+    case 44: return "a tariff that breaks its layout or is outside its ranges, or none";
+    case 45: return "a question that does not give a bag of ships and draughts, two numbers each";
+    case 46: return "a draught below 0 or above the last step";
     case 47: return "a portion of 0 rows or above 65,535";
     case 48: return "a portion where no question is unfinished";
     case 49: return "seats or quota outside their ranges";

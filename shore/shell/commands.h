@@ -256,6 +256,37 @@ class Commands {
             say(date_shown(asked.day) + " " + time_shown(asked.minute) + " is minute " + std::to_string(asked.minute_number()));
         }
     }
+    // The tariff, typed anew; the engine says whether it can be lent.
+    void tariff(const Arguments &arguments) {
+        if (arguments.size() == 1 && arguments[0] == "none") {
+            desk_.tariff.reset();
+            return;
+        }
+        const TariffReading read(joined(arguments, 0));
+        if (!read.fault().empty()) {
+            desk_.fail(read.fault());
+            return;
+        }
+        const std::uint64_t number = arguments.empty() ? 0 : tariff_number(read.tariff());
+        if (number != 0) {
+            desk_.refused(number, refused_part(read.tariff()));
+            return;
+        }
+        if (!arguments.empty()) {
+            desk_.tariff = read.tariff();
+        }
+        say(desk_.tariff ? drawn(*desk_.tariff) : Block{"no tariff; .tariff 400 1000, 800 1500, minimum 3000 makes one"});
+    }
+    static Block drawn(const Tariff &tariff) {
+        Grid grid({"up to cm", "cents per metre begun"});
+        for (const TariffStep &step : tariff.steps) {
+            grid.add({std::to_string(step.upper), std::to_string(step.rate)}, true);
+        }
+        Block lines = grid.drawn();
+        lines.push_back("at least " + grouped(tariff.minimum) + " cents; " + counted(packed(tariff).size(), "byte", "bytes"));
+        return lines;
+    }
+    void dues(const Arguments &arguments) { desk_.dues(line_.substr(line_.find(arguments[0], 5))); }
     // A table by its name, or by a number, which no table need have; false, and told, where none is called so.
     bool numbered(const std::string &word, std::uint64_t &number) {
         const std::int64_t given = unsigned_of(word, most_typed);
@@ -586,6 +617,7 @@ class Commands {
         const bool echo = desk_.echo;
         desk_.jobs.clear();
         desk_.stored = Stored();
+        desk_.tariff.reset();
         desk_.engine.lent = Lent();
         desk_.mode = Mode::box;
         desk_.timer = false;
@@ -622,6 +654,9 @@ inline const std::vector<Commands::Command> &Commands::all() {
         {".open", "CALENDAR MINUTE|DATE [TIME]", "whether it is open then, or when it opens", &Commands::open, 2, 3},
         {".minute", "MINUTE|DATE [TIME]", "the number of a minute, as 2026-11-17 09:30, or its date", &Commands::minute, 1, 2},
         {".day", "DAY|DATE", "the number of a day, as 2026-11-17, or its date", &Commands::day, 1, 1},
+        {".tariff", "[UPPER RATE, .. minimum CENTS|none]", "the tariff, or one of steps up to so many cm at so many cents per metre begun",
+         &Commands::tariff, 0, any},
+        {".dues", "QUESTION", "what the ships of an answer owe by it: bag{ (s.ship, s.draught) | s <- ships }", &Commands::dues, 1, any},
         {".pair", "TABLE TABLE SECONDS [save FILE]", "two logs side by side: which rows pair, no more than so many seconds apart",
          &Commands::pair, 3, 5},
         {".plan", "", "the last question's plan in words", &Commands::plan, 0, 0},
@@ -641,7 +676,7 @@ inline const std::vector<Commands::Command> &Commands::all() {
          &Commands::lend, 1, 2},
         {".read", "FILE", "take questions and commands from a file", &Commands::read, 1, 1},
         {".echo", "on|off", "show each line before what it gives", &Commands::echo, 1, 1},
-        {".reset", "", "forget tables, calendars, questions and settings", &Commands::reset, 0, 0},
+        {".reset", "", "forget tables, calendars, tariff, questions and settings", &Commands::reset, 0, 0},
         {".quit", "", "leave", &Commands::leave, 0, 0},
     };
     return commands;

@@ -8,6 +8,7 @@
 #include <string>
 
 #include "ask.h"
+#include "dues.h"
 #include "grid.h"
 #include "interrupt.h"
 #include "job.h"
@@ -53,6 +54,7 @@ class Desk {
     bool attended = false;
     // Rows of a portion where every question goes by portions, -1 where only long ones do.
     std::int64_t portion = -1;
+    std::optional<Tariff> tariff;
     // The last question that was understood.
     Reply last;
     std::map<int, std::unique_ptr<Job>> jobs;
@@ -87,6 +89,26 @@ class Desk {
             say("accepted: " + counted(reply.question->bytes.size(), "byte", "bytes"));
         } else {
             refused(reply);
+        }
+        keep(std::move(reply));
+    }
+    // What the ships of an answer owe by the tariff, beside the answer.
+    void dues(const std::string &typed) {
+        Reply reply = prepared(engine, stored, typed);
+        if (!reply.understood()) {
+            refused(reply);
+            return;
+        }
+        const Dues dues = dues_of(engine, reply, tariff);
+        if (dues.number == 0 && !dues.same()) {
+            differences++;
+            fail("THE DUES DIFFER: of each ship alone, and of all");
+        } else if (dues.number == 0) {
+            shown(reply, dues);
+        } else if (dues.number == reply.number) {
+            refused(reply);
+        } else {
+            refused(dues.number, dues.what);
         }
         keep(std::move(reply));
     }
@@ -262,6 +284,27 @@ class Desk {
             say(as_csv(reply));
         } else {
             say(as_box(reply));
+        }
+    }
+    void shown(const Reply &reply, const Dues &dues) const {
+        std::vector<std::string> names = heading(reply.type->parts[0]);
+        names.push_back("cents");
+        if (mode == Mode::words) {
+            say("answer" + in_words(dues.owed));
+            return;
+        }
+        Grid grid(names);
+        std::string lines = quoted(names[0]) + "," + quoted(names[1]) + ",cents";
+        double together = 0;
+        for (std::size_t i = 0; i < dues.cents.size(); i++) {
+            const std::string ship = std::to_string(dues.answer.words[2 * i + 1]), draught = std::to_string(dues.answer.words[2 * i + 2]);
+            grid.add({ship, draught, std::to_string(dues.cents[i])}, true);
+            lines += "\n" + ship + "," + draught + "," + std::to_string(dues.cents[i]);
+            together += static_cast<double>(dues.cents[i]);
+        }
+        say(mode == Mode::csv ? Block{lines} : grid.drawn());
+        if (mode == Mode::box) {
+            say(counted(dues.cents.size(), "row", "rows") + " charged, together " + grouped(together) + " cents");
         }
     }
     static Block as_box(const Reply &reply) {

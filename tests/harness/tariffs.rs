@@ -137,7 +137,10 @@ fn random_fleet(random: &mut Random, tariff: &Tariff) -> Stored {
     let count = random.one_of(&[0, 1, 2, 3, 3, 4, 6, 20], 3);
     let any = random.chance(25);
     let mut row = |_| {
-        let ship = random.one_of(&[1, 1, 2, 3, -4, i32::MAX], 1);
+        let ship = match random.chance(5) {
+            true => random_cell(random),
+            false => random.one_of(&[1, 1, 2, 3, -4], 1),
+        };
         let draught = match any {
             true if random.chance(30) => random_cell(random),
             true => tariff.edge(random),
@@ -210,19 +213,19 @@ impl Asked<'_> {
             };
         }
         let cell = field(1, name(SHIP));
-        match self.random.below(9) {
+        match self.random.below(10) {
             0 => constant,
             1 => two(PLUS, cell, number(random_cell(self.random))),
             2 => two(MINUS, cell, number(random_cell(self.random))),
             3 => two(TIMES, cell, constant),
             4 => choice(self.truth(ranges), cell, constant),
-            5 => self.deepest(),
+            5 | 6 => self.deepest(),
             _ => cell,
         }
     }
 
     fn deepest(&mut self) -> Node {
-        let monoid = self.random.one_of(&[MAX, MAX, MIN, SUM], MAX);
+        let monoid = self.random.one_of(&[MAX, MIN, SUM, SUM], MAX);
         let same = two(EQUAL, field(0, name(INNER)), field(0, name(SHIP)));
         let from = self.random.below(2) as u8;
         let ranged = vec![generator(INNER, table(from)), condition(same)];
