@@ -97,23 +97,34 @@ inline std::uint64_t tariff_number(const Tariff &tariff) {
     return number == static_cast<std::uint64_t>(dislogha::Refusal::tariff_out_of_range) ? number : 0;
 }
 
+// A part of a tariff that is wrong: a step, counted from 0, its upper draught or its rate; the minimum is behind the last step.
+struct TariffFault {
+    static constexpr std::size_t whole = SIZE_MAX;
+    static constexpr std::size_t upper = 0;
+    static constexpr std::size_t rate = 1;
+
+    std::size_t step = whole;
+    std::size_t cell = upper;
+    std::string what;
+};
+
 // Which part of a tariff is refused: the engine is asked about each step alone, the minimum alone, then two steps at a time.
-inline std::string refused_part(const Tariff &tariff) {
+inline TariffFault refused_part(const Tariff &tariff) {
     const auto step = [&](std::size_t at) { return "step " + std::to_string(at + 1) + ", up to " + std::to_string(tariff.steps[at].upper) + " cm"; };
     for (std::size_t i = 0; i < tariff.steps.size(); i++) {
         if (tariff_number({{tariff.steps[i]}, 0}) != 0) {
-            return step(i) + ", has a rate of " + std::to_string(tariff.steps[i].rate) + " cents";
+            return {i, TariffFault::rate, step(i) + ", has a rate of " + std::to_string(tariff.steps[i].rate) + " cents"};
         }
     }
     if (tariff_number({{{0, 0}}, tariff.minimum}) != 0) {
-        return "the minimum is " + std::to_string(tariff.minimum) + " cents";
+        return {tariff.steps.size(), 0, "the minimum is " + std::to_string(tariff.minimum) + " cents"};
     }
     for (std::size_t i = 1; i < tariff.steps.size(); i++) {
         if (tariff_number({{tariff.steps[i - 1], tariff.steps[i]}, 0}) != 0) {
-            return step(i) + ", is not above step " + std::to_string(i);
+            return {i, TariffFault::upper, step(i) + ", is not above step " + std::to_string(i)};
         }
     }
-    return "it has " + std::to_string(tariff.steps.size()) + (tariff.steps.size() == 1 ? " step" : " steps");
+    return {TariffFault::whole, 0, "it has " + std::to_string(tariff.steps.size()) + (tariff.steps.size() == 1 ? " step" : " steps")};
 }
 
 // bag{(number, truth)}.
@@ -209,7 +220,7 @@ inline Dues dues_of(Engine &engine, const Reply &reply, const std::optional<Tari
             dues.cents.push_back(charging.cents(dues.answer.words[i]));
         }
     } else if (refusal == Refusal::tariff_out_of_range) {
-        dues.what = tariff ? refused_part(*tariff) : "there is none";
+        dues.what = tariff ? refused_part(*tariff).what : "there is none";
     } else if (refusal == Refusal::not_ships_and_draughts) {
         dues.what = "it gives " + shape(reply.type) + ", not bag{(number, number)}";
     } else if (refusal == Refusal::draught_out_of_range) {

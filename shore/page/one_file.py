@@ -5,9 +5,11 @@ import sys
 from pathlib import Path
 
 HERE = Path(__file__).resolve().parent
-SCRIPTS = ['engine.js', 'values.js', 'tables.js', 'calendars.js', 'plan.js', 'question.js', 'seats.js', 'logs.js', 'page.js']
+SCRIPTS = ['engine.js', 'values.js', 'tables.js', 'calendars.js', 'plan.js', 'question.js', 'seats.js', 'dues.js', 'logs.js', 'page.js']
 EXAMPLES = HERE.parent / 'examples'
 HOURS = 'Mon-Fri 06:00-14:00, Sat 08:00-12:00'
+TARIFF = {'steps': [['400', '1000'], ['800', '1500'], ['1200', '2500']], 'minimum': '3000'}
+SHIPS = 'bag{ (ship: s.ship, draught: s.draught) | s <- ships }'
 
 
 def script(value):
@@ -21,9 +23,10 @@ def table(name, collection):
 
 
 def examples():
-    """The tables, calendars and questions that the page begins with, and the two logs that it has for pairing."""
+    """The tables, calendars and questions that the page begins with, the ships and the tariff, and the two logs that it has for pairing."""
     questions = [line.split(': ', 1) for line in (HERE / 'questions').read_text().splitlines() if line]
     return {'tables': [table('berths', 'bag'), table('bollards', 'bag'), table('locks', 'set')], 'calendars': [{'name': 'lock', 'hours': HOURS}],
+            'ships': table('ships', 'bag'), 'shipsQuestion': SHIPS, 'tariff': TARIFF,
             'logs': [table('ship', 'list'), table('quay', 'list')], 'questions': questions}
 
 

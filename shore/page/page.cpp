@@ -6,6 +6,7 @@
 
 #include "ask.h"
 #include "between.h"
+#include "dues.h"
 #include "logs.h"
 #include "portions.h"
 #include "json.h"
@@ -261,6 +262,85 @@ void tell_question(Json &json) {
     json.key("readBack").string(text_of(asked.question->bytes, page.stored, fault));
 }
 
+// -------------------------------------------------------------------------------------------- dues
+
+// A tariff as it is typed: a line for each step, its upper draught and its rate, then the minimum. What is no number is told with its place.
+Tariff read_tariff(const std::string &typed, TariffFault &fault) {
+    const auto lines = split(typed, '\n');
+    Tariff tariff;
+    for (std::size_t i = 0; i < lines.size(); i++) {
+        const auto cells = split(lines[i], cell_end);
+        std::uint32_t values[2] = {};
+        for (std::size_t j = 0; j < cells.size() && j < 2; j++) {
+            const std::int64_t value = unsigned_of(cells[j], most_unsigned);
+            if ((value < 0 || value > most_unsigned) && fault.what.empty()) {
+                fault = {i, j, "draughts and cents are numbers of 0 to 4294967295"};
+            }
+            values[j] = static_cast<std::uint32_t>(value);
+        }
+        if (i + 1 < lines.size()) {
+            tariff.steps.push_back({values[0], values[1]});
+        } else {
+            tariff.minimum = values[0];
+        }
+    }
+    return tariff;
+}
+
+void tell_fault(Json &json, const TariffFault &fault) {
+    json.key("fault").open('{').key("why").string(fault.what);
+    json.key("step").number(fault.step == TariffFault::whole ? -1 : static_cast<double>(fault.step));
+    json.key("cell").number(static_cast<double>(fault.cell)).close('}');
+}
+
+void tell_charged(Json &json, const Reply &reply, const Tariff &tariff, const Dues &dues) {
+    const std::vector<std::string> &names = reply.type->parts[0]->names;
+    json.key("names").open('[').string(names[0].empty() ? "0" : names[0]).string(names[1].empty() ? "1" : names[1]).string("cents").close(']');
+    json.key("count").number(static_cast<double>(dues.cents.size())).key("rows").open('[');
+    double together = 0;
+    for (std::size_t i = 0; i < dues.cents.size(); i++) {
+        together += static_cast<double>(dues.cents[i]);
+        if (i < most_told) {
+            json.open('[').word(dues.answer.words[2 * i + 1]).word(dues.answer.words[2 * i + 2]).word(dues.cents[i]).close(']');
+        }
+    }
+    std::string written;
+    for (std::int64_t word : dues.owed.words) {
+        written += (written.empty() ? "" : " ") + std::to_string(word);
+    }
+    json.close(']').key("together").number(together).key("bytes").number(static_cast<double>(packed(tariff).size())).key("words").string(written);
+}
+
+// `typed` has a tariff and a question.
+void tell_dues(Json &json, const Stored &stored, const std::vector<std::string> &typed) {
+    TariffFault fault;
+    const Tariff tariff = read_tariff(typed[0], fault);
+    const std::uint64_t refused = fault.what.empty() ? tariff_number(tariff) : 0;
+    if (!fault.what.empty() || refused != 0) {
+        if (refused != 0) {
+            tell_number(json, refused);
+        } else {
+            json.key("number").nothing();
+        }
+        tell_fault(json, refused != 0 ? refused_part(tariff) : fault);
+        return;
+    }
+    Reply reply = prepared(engine, stored, typed[1]);
+    const Dues dues = reply.understood() ? dues_of(engine, reply, tariff) : Dues();
+    if (!reply.understood()) {
+        json.key("number").nothing();
+        tell_fault(json, reply);
+    } else if (dues.number != 0) {
+        tell_number(json, dues.number);
+        reply.located.what = dues.number == reply.number ? reply.located.what : dues.what;
+        tell_fault(json, reply);
+    } else {
+        tell_number(json, 0);
+        json.key("same").truth(dues.same());
+        tell_charged(json, reply, tariff, dues);
+    }
+}
+
 // -------------------------------------------------------------------------------------------- logs
 
 void tell_seconds(Json &json, const Tables &tables, std::uint64_t number) {
@@ -371,6 +451,17 @@ EXPORT(hours) void hours(std::uint32_t bytes) {
         json.string(shown(hours_at(packed(calendars), i, read.moment()), ""));
     }
     reply_with(json.close(']').close('}'));
+}
+
+// What ships owe. Where a question stands are a tariff and a question.
+EXPORT(dues) void dues(std::uint32_t bytes) {
+    const TypedPage typed = PageReading(given.substr(0, bytes)).page();
+    Json json;
+    json.open('{');
+    if (!stored_wrong(json, typed)) {
+        tell_dues(json, typed.stored, split(typed.question, tariff_end));
+    }
+    reply_with(json.close('}'));
 }
 
 // Two logs paired. Where a question stands are the numbers of two tables and a tolerance; calendars are not lent.

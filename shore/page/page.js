@@ -11,6 +11,7 @@ function startTabs() {
       tab.tabIndex = tab === chosen ? 0 : -1;
       byId(tab.getAttribute('aria-controls')).hidden = tab !== chosen;
     });
+    chargeShips();
     pairLogs();
   };
   tabs.forEach((tab, place) => {
@@ -32,11 +33,13 @@ function start() {
   startCalendars();
   startQuestion();
   startSeats();
+  startDues();
   startLogs();
   storedChanged = () => {
     byId('shuffled').hidden = true;
     tellHours();
     storedChangedAtSeats();
+    chargeShips();
     pairLogs();
     ask();
   };

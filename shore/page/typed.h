@@ -15,6 +15,8 @@ namespace shore {
 constexpr char calendar_end = '\x1d';
 constexpr char table_end = '\x1e';
 constexpr char cell_end = '\x1f';
+// Behind a tariff.
+constexpr char tariff_end = '\x1c';
 
 // Rows of the page's tables above the first one that is stored.
 constexpr int bounds_row = -1;

@@ -269,7 +269,7 @@ class Commands {
         }
         const std::uint64_t number = arguments.empty() ? 0 : tariff_number(read.tariff());
         if (number != 0) {
-            desk_.refused(number, refused_part(read.tariff()));
+            desk_.refused(number, refused_part(read.tariff()).what);
             return;
         }
         if (!arguments.empty()) {

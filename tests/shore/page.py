@@ -412,6 +412,69 @@ def at_seats(page, seen):
     seen.same('other hours at a seat', page.value("[...seats[0].answer.querySelectorAll('td')].map(cell => cell.textContent).join(' ')"), '1 18')
 
 
+CHARGED = '''(() => ({
+  rows: [...document.querySelectorAll('#dues tr')].map(row => [...row.cells].map(cell => cell.textContent).join(' ')),
+  words: document.getElementById('dues-words').textContent,
+  wrong: [...document.querySelectorAll('#tariff .wrong input')].map(input => input.getAttribute('aria-label')).join(),
+  mark: document.querySelector('#dues-under mark')?.textContent ?? '',
+}))()'''
+
+
+def charged(page, said):
+    """The dues as they are shown, once that is said of them."""
+    page.wait("document.getElementById('dues-said').textContent.startsWith(%s)" % json.dumps(said))
+    return page.value(CHARGED)
+
+
+def ships_charged(page, seen):
+    """A tariff typed, ships charged, what is refused and where."""
+    fresh(page)
+    page.click('#tabs button:nth-child(3)')
+    charged(page, "no name and no table is called 'ships' here.")
+    page.click('#example-ships')
+    shown = charged(page, '5 rows charged, together 67,000 cents; the tariff has 33 bytes.')
+    seen.same('dues', shown['rows'], ['ship draught cents', '1 450 7500', '2 820 22500', '3 395 4000', '4 80 3000', '4 1180 30000'])
+    seen.same('their words', shown['words'], '5 1 7500 2 22500 3 4000 4 3000 4 30000')
+    page.picture(PICTURES / 'dues.png')
+    rate = '#tariff tr:nth-child(4) td:nth-child(2) input'
+    page.type(rate, '1')
+    shown = charged(page, '5 rows charged, together 20,500 cents')
+    seen.same('a lower rate', shown['rows'][1:], ['1 450 7500', '2 820 3000', '3 395 4000', '4 80 3000', '4 1180 3000'])
+    page.type(rate, '10000001')
+    shown = charged(page, 'Refused 44 (a tariff that breaks its layout or is outside its ranges, or none): step 3, up to 1200 cm, has a rate of 10000001 cents.')
+    seen.same('the rate is marked', [shown['wrong'], shown['rows'], shown['mark']], ['Rate of step 3', [], ''])
+    page.picture(PICTURES / 'dues-refused.png')
+    page.type(rate, 'free')
+    seen.same('no number', charged(page, 'draughts and cents are numbers')['wrong'], 'Rate of step 3')
+    page.type(rate, '2500')
+    page.type('#tariff tr:nth-child(3) td input', '400')
+    seen.same('a step that does not rise', charged(page, 'Refused 44')['wrong'], 'Upper draught of step 2')
+    page.type('#tariff tr:nth-child(3) td input', '800')
+    page.type('#tariff .minimum input', '10000001')
+    seen.same('the minimum', charged(page, 'Refused 44')['wrong'], 'Minimum charge in cents')
+    page.type('#tariff .minimum input', '0')
+    charged(page, '5 rows charged, together 65,000 cents')
+    page.click('#tariff tr:nth-child(4) button')
+    shown = charged(page, 'Refused 46 (a draught below 0 or above the last step): ship 2 has 820 cm, and the last step ends at 800 cm.')
+    seen.same('nothing is marked in the tariff', shown['wrong'], '')
+    for place in range(14):
+        page.click('#add-step')
+    seen.so('sixteen steps', page.value("byId('add-step').disabled && tariff.steps.length === 16"))
+    charged(page, '5 rows charged, together 44,000 cents; the tariff has 137 bytes.')
+    page.type('#dues-question', 'set{ (s.ship, s.draught) | s <- ships }')
+    shown = charged(page, 'Refused 45 (')
+    seen.same('another type', [shown['mark'], shown['rows']], ['set{ (s.ship, s.draught) | s <- ships }', []])
+    page.type('#dues-question', 'bag{ (s.ship, s.draft) | s <- ships }')
+    seen.same('not understood', charged(page, "no column is called 'draft'")['mark'], 'draft')
+    page.type('#dues-question', 'bag{ s | s <- ships, s.ship < 3 }')
+    charged(page, '2 rows charged')
+    page.type('#tables .table:nth-child(4) tr:nth-child(3) td:nth-child(2) input', '99999')
+    charged(page, 'Refused 46 (a draught below 0 or above the last step): ship 1 has 99999 cm')
+    while page.value('tariff.steps.length') > 0:
+        page.click('#tariff .step button')
+    charged(page, 'Refused 44 (a tariff that breaks its layout or is outside its ranges, or none): it has 0 steps.')
+
+
 # The logs as they are drawn: what stands beside each dot, the rows that are marked, and the rows that each line joins, found by the dots at its ends.
 DRAWN = '''(() => {
   const rows = [...document.querySelectorAll('#logs .row')];
@@ -435,7 +498,7 @@ def paired(page, said):
 def two_logs(page, seen):
     """Two logs side by side: pairs joined, singles marked, what is refused."""
     fresh(page)
-    page.click('#tabs button:nth-child(3)')
+    page.click('#tabs button:nth-child(4)')
     no_log = 'Refused 53 (a time column that falls, or a table that is absent or not a list): '
     paired(page, no_log + 'berths is a bag.')
     page.click('#example-logs')
@@ -478,7 +541,7 @@ def other_panels(page, seen):
     fresh(page)
     page.focus('#question')
     page.value("document.querySelector('#tabs button').focus()")
-    for _ in range(3):
+    for _ in range(4):
         page.press(*RIGHT)
     seen.so('tabs go by keys', page.value("!document.getElementById('proved-panel').hidden && document.getElementById('question-panel').hidden"))
     proved = page.text('#proved-panel')
@@ -510,6 +573,7 @@ def main():
         shuffled(page, beside)
         long_question(page, beside, folder)
         at_seats(page, beside)
+        ships_charged(page, beside)
         two_logs(page, beside)
         other_panels(page, beside)
         beside.same('no script failed', page.faults, [])
