@@ -224,6 +224,50 @@ Said dates(const Input &input) noexcept {
     return said(result, sum);
 }
 
+// A tariff of 1 to 16 steps, some of which hold any draught; now and then one that is broken.
+class Tariff {
+  public:
+    explicit Tariff(Numbers &numbers) noexcept {
+        const std::uint64_t any = numbers.next();
+        const std::uint64_t steps = any % 40 == 0 ? 17 : 1 + any % 16;
+        std::uint64_t upper = any % 3 == 0 ? 0 : any % 900;
+        put(1 + 8 * steps + 4, 2);
+        put(22, 2);
+        put(steps, 1);
+        for (std::uint64_t i = 0; i < steps; i++) {
+            const std::uint64_t more = numbers.next();
+            put(i + 1 == steps && any % 2 == 0 ? 0xffffffff : upper, 4);
+            put(more % 10000001, 4);
+            upper += more % 50 == 0 ? 0 : 1 + more % 300;
+        }
+        put(any % 10000001, 4);
+    }
+    Said charged(const Input &input, std::size_t words) const noexcept {
+        const auto lent = scratch[0].lend(dislogha::scratch_words);
+        const auto buffer = answer[0].lend(words);
+        return left(dislogha::answer_with_tariff(input.data, input.calendars, input.question, {bytes_, count_}, lent, buffer), answer[0]);
+    }
+
+  private:
+    void put(std::uint64_t value, std::size_t count) noexcept {
+        for (std::size_t i = 0; i < count; i++) {
+            bytes_[count_++] = static_cast<std::uint8_t>(value >> (8 * i) & 255);
+        }
+    }
+
+    std::size_t count_ = 0;
+    std::uint8_t bytes_[9 + 8 * 17];
+};
+
+Said *charge(const Input &input, Said *out) noexcept {
+    Numbers numbers(input);
+    const Tariff tariff(numbers);
+    const Said enough = *out++ = tariff.charged(input, most_words);
+    *out++ = tariff.charged(input, enough.length);
+    *out++ = tariff.charged(input, enough.length - (enough.length > 0));
+    return out;
+}
+
 Said written(Result result) noexcept {
     Sum sum;
     lines.add_to(sum);
@@ -301,7 +345,7 @@ void pair(const Input &input, Said *out) noexcept {
     *out++ = logs.paired(enough.length - (enough.length > 0));
 }
 
-constexpr std::uint32_t made = 18;
+constexpr std::uint32_t made = 21;
 
 // The calls with what is enough and what is not.
 void make(const Input &input, Said *out) noexcept {
@@ -319,6 +363,7 @@ void make(const Input &input, Said *out) noexcept {
     *out++ = in_rounds(input);
     *out++ = first_open(input);
     *out++ = dates(input);
+    out = charge(input, out);
     pair(input, out);
 }
 
