@@ -1,7 +1,7 @@
 #!/usr/bin/env python3
-"""Writes tests/examples/cases and docs/EXAMPLES.md from the cases under tests/examples.
+"""Writes tests/examples/cases, tests/tariffs/worked.jsonl and docs/EXAMPLES.md from the cases under tests/examples.
 
-With --check nothing is written; the exit code says whether both files are what would be written.
+With --check nothing is written; the exit code says whether the files are what would be written.
 """
 import sys
 from pathlib import Path
@@ -15,6 +15,7 @@ import request_e1  # noqa: E402
 import request_e2  # noqa: E402
 import request_e4  # noqa: E402
 import request_e5  # noqa: E402
+import request_e6  # noqa: E402
 import request_e9  # noqa: E402
 import request_e10  # noqa: E402
 import request_e13  # noqa: E402
@@ -31,7 +32,7 @@ SOURCES = [source_000, source_001, source_002, source_003, source_004, edges, re
 
 OPENING = '''# Example queries
 
-Made by `tests/examples.py`; do not edit. `tests/harness/examples.rs` runs every case.
+Made by `tests/examples.py`; do not edit. `tests/harness/examples.rs` runs every case, `tests/harness/dues.rs` those with a tariff.
 
 The example queries of the source documents, recast over tables, the cases of document 01's "At the
 edges", and cases of document 02's requests. The words were worked out by hand from the papers and
@@ -58,7 +59,8 @@ Each case's plan is in `tests/examples/cases`, written by hand too.
 
 A line of `tests/examples/cases` is one case, its fields separated by a tab: name, scratch words,
 data, calendars and question in hexadecimal, the checker's number, G, the answer's words, the
-plan's lines with `\\n` for byte 10; `-` where there is nothing.
+plan's lines with `\\n` for byte 10; `-` where there is nothing. Cases with a tariff are lines of
+`tests/tariffs/worked.jsonl`, as the recorded calls there are.
 '''
 
 
@@ -118,9 +120,12 @@ def tables_of(source):
     return tables.values()
 
 
+def names(tables):
+    return ', '.join(named(table) for table in tables)
+
+
 def names_of(case):
-    stored = ', '.join(named(table) for table in case.tables)
-    absent = ', '.join(named(table) for table in case.absent)
+    stored, absent = names(case.tables), names(case.absent)
     calendars = [calendar.name for calendar in case.calendars] + ['%d bytes 0' % case.tail] * (case.tail > 0)
     parts = [stored, absent and 'not there: ' + absent, ', '.join(calendars)]
     return '; '.join(part for part in parts if part)
@@ -159,13 +164,30 @@ def gives(case):
     return result + ('. ' + ' '.join(case.says.split()) if case.says else '')
 
 
+def tables_text(source):
+    text = heading(['Table', 'Collection', 'Columns', 'Rows'])
+    for table in tables_of(source):
+        text += row([code(table.name), table.collection, columns_of(table), rows_of(table) + stored_by(table)])
+    return text
+
+
+def dues_text():
+    """The cases of E6: tariffs with their bytes by hand, and what each question owes by one of them."""
+    source = request_e6
+    text = '\n## %s\n\n%s\n' % (source.TITLE, tables_text(source))
+    text += heading(['Tariff', 'Steps: cents per metre begun', 'Minimum', 'Bytes'])
+    for tariff in dict.fromkeys(case.tariff for case in source.CASES):
+        text += row([code(tariff.name), tariff.shown(), str(tariff.minimum), code(tariff.by_hand)])
+    text += '\n' + heading(['Case', 'In the paper', 'Tariff', 'Tables', 'Question', 'Gives'])
+    for case in source.CASES:
+        text += row([case.name, code(case.paper), code(case.tariff.name), names(case.tables), asked(case.ask), gives(case)])
+    return text
+
+
 def document():
     text = OPENING
     for source in SOURCES:
-        text += '\n## %s\n\n' % source.TITLE
-        text += heading(['Table', 'Collection', 'Columns', 'Rows'])
-        for table in tables_of(source):
-            text += row([code(table.name), table.collection, columns_of(table), rows_of(table) + stored_by(table)])
+        text += '\n## %s\n\n%s' % (source.TITLE, tables_text(source))
         if calendars_of(source):
             text += '\n' + heading(['Calendar', 'Windows'])
         for calendar in calendars_of(source):
@@ -179,23 +201,21 @@ def document():
             text += '\nNot recast:\n\n' + heading(['Where', 'Query', 'Why'])
             for where, query, why in source.LEFT_OUT:
                 text += row([where, query.replace('|', '\\|'), why])
-    return text
+    return text + dues_text()
 
 
-def cases():
-    lines = []
-    for source in SOURCES:
-        for case in source.CASES:
-            case.check()
-            lines.append(case.line())
-    names = [line.split('\t')[0] for line in lines]
-    if len(set(names)) != len(names):
+def lines_of(sources):
+    cases = [case for source in sources for case in source.CASES]
+    if len({case.name for case in cases}) != len(cases):
         raise ValueError('two cases have one name')
-    return ''.join(lines)
+    for case in cases:
+        case.check()
+    return ''.join(case.line() for case in cases)
 
 
 def main():
-    wanted = {ROOT / 'tests' / 'examples' / 'cases': cases(), ROOT / 'docs' / 'EXAMPLES.md': document()}
+    wanted = {ROOT / 'tests' / 'examples' / 'cases': lines_of(SOURCES), ROOT / 'tests' / 'tariffs' / 'worked.jsonl': lines_of([request_e6]),
+              ROOT / 'docs' / 'EXAMPLES.md': document()}
     for path, text in wanted.items():
         if '--check' not in sys.argv:
             path.write_text(text)
