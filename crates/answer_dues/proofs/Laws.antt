@@ -123,6 +123,15 @@ charged-bag t l h R =
     charged-words t l h (pos (count (fromList l)) ∷ []) R 2 refl
     ∙ ap (λ (k : ℕ). pos k ∷ (wordsOf (map (shipDue t) l) ++ R)) (count-from l ∙ sym (length-map l (shipDue t)) ∙ sym (count-from (map (shipDue t) l)))
 
+-- a count, and two words for each
+pub ships-size : (l : List Value) → All (Of shipType) l → length (words (coll (fromList l))) ≡ 1 + 2 * length l
+unfolding words
+ships-size l h = ap suc (go l h) ∙ omega arith
+  where
+    go : (l : List Value) → All (Of shipType) l → length (wordsOf l) ≡ 2 * length l
+    go [] h = refl
+    go (v ∷ l) h = let S = ship-of v (h .0) in subst (λ (w : Value). length (wordsOf (w ∷ l)) ≡ 2 * length (v ∷ l)) (sym (S .is)) (omega (arith, go l (h .1)))
+
 -- ---- settle_dues
 due-of : (t : Tariff) (v : Value) → Of shipType v → Of shipType (shipDue t v)
 due-of t v h = let S = ship-of v h in
@@ -145,7 +154,7 @@ flat-map [] = refl
 flat-map (v ∷ l) = ap₂ _∷_ (flat-same shipType v (tt, (tt, tt))) (flat-map l)
 
 -- a bag of ships is ordered, and its elements stay as they are
-arrange-ships : (l : List Value) → arrangeAs (Ty.coll bag shipType) (coll (fromList l)) ≡ canonical (of bag) l
+pub arrange-ships : (l : List Value) → arrangeAs (Ty.coll bag shipType) (coll (fromList l)) ≡ canonical (of bag) l
 arrange-ships l =
     arrange-coll bag shipType (fromList l)
     ∙ ap (λ (m : List Value). coll (fromList (arranged bag m))) (ap (map (arrangeAs shipType)) (to-from l) ∙ flat-map l)

@@ -1,3 +1,4 @@
 -- Laws of tariffs and dues.
+pub mod OrderUnseen
 pub mod Cases
 pub mod SameDues

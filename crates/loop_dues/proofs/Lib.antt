@@ -1,0 +1,2 @@
+-- What stands in scratch, and the four ways out.
+pub mod DuesOutcome

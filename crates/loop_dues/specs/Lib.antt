@@ -1,0 +1,2 @@
+-- Answering with a tariff by loops.
+pub mod Contract
