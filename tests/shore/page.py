@@ -441,7 +441,8 @@ def ships_charged(page, seen):
     shown = charged(page, '5 rows charged, together 20,500 cents')
     seen.same('a lower rate', shown['rows'][1:], ['1 450 7500', '2 820 3000', '3 395 4000', '4 80 3000', '4 1180 3000'])
     page.type(rate, '10000001')
-    shown = charged(page, 'Refused 44 (a tariff that breaks its layout or is outside its ranges, or none): step 3, up to 1200 cm, has a rate of 10000001 cents.')
+    no_tariff = 'Refused 44 (a tariff that breaks its layout or is outside its ranges, or none): '
+    shown = charged(page, no_tariff + 'step 3, up to 1200 cm, has a rate of 10000001 cents.')
     seen.same('the rate is marked', [shown['wrong'], shown['rows'], shown['mark']], ['Rate of step 3', [], ''])
     page.picture(PICTURES / 'dues-refused.png')
     page.type(rate, 'free')
@@ -472,7 +473,7 @@ def ships_charged(page, seen):
     charged(page, 'Refused 46 (a draught below 0 or above the last step): ship 1 has 99999 cm')
     while page.value('tariff.steps.length') > 0:
         page.click('#tariff .step button')
-    charged(page, 'Refused 44 (a tariff that breaks its layout or is outside its ranges, or none): it has 0 steps.')
+    charged(page, no_tariff + 'it has 0 steps.')
 
 
 # The logs as they are drawn: what stands beside each dot, the rows that are marked, and the rows that each line joins, found by the dots at its ends.

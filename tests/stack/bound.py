@@ -28,10 +28,10 @@ def times(count, *lists):
 
 
 # Loops for collections, and below them loops for totals; what leads from the former to the latter is there once. A function that
-# the compiler puts in line takes nothing.
-def loops(f):
+# the compiler puts in line takes nothing. `above`: other functions that go from generator to generator above them.
+def loops(f, above=()):
     collect, scalar = 'loop_collect::', 'loop_scalar::'
-    generators = [[collect + 'collect', collect + 'each'], [scalar + 'fold', scalar + 'rounds', scalar + 'total']]
+    generators = [[collect + 'collect', collect + 'each'], [scalar + 'fold', scalar + 'rounds', scalar + 'total'], *above]
     record = [collect + name for name in ('write', 'flat', 'parts', 'part')]
     total = [scalar + name for name in ('term', 'reduced')]
     operand = [scalar + name for name in ('scalar', 'operand', 'term')]
@@ -51,6 +51,8 @@ GROUPS = {
     'front_bounds': times(NESTED, ['form_size']),
     'loop_collect': loops,
     'loop_scalar': loops,
+    # each row is judged, and its head read, before the answer's words are written (document 02, E6)
+    'loop_draughts': lambda f: loops(f, [['loop_draughts::judge', 'loop_draughts::judge_each']]) + f('draught') + f('one_draught'),
     'plan_marks': lambda f: along(f, [['term', 'registers', 'clauses'], ['term', 'terms']], [['registers']]),
     'plan_links::term': lambda f: along(f, [['term', 'clauses']], [['clauses']]) + f('terms'),
     'plan_links::loops': times(NODES // 2, ['loops']),
@@ -75,7 +77,7 @@ ANY_WORDS = {key: (lambda rule: lambda f: rule(f) * WORDS // NESTED)(GROUPS[key]
              for key in GROUPS if key.startswith(('exec_', 'answer_'))}
 # Groups that go down one chain of terms, the later ones from where the earlier ones stand: together they take no more than
 # the dearest of them does for the whole chain.
-CHAINS = [['front_emit', 'front_resolve'], ['loop_collect', 'loop_scalar'], [key for key in GROUPS if key.startswith('plan_lines')],
+CHAINS = [['front_emit', 'front_resolve'], ['loop_collect', 'loop_scalar', 'loop_draughts'], [key for key in GROUPS if key.startswith('plan_lines')],
           ['plan_links::term', 'plan_links::loops'], [key for key in GROUPS if key.startswith('answer_')]]
 
 

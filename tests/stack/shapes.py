@@ -236,6 +236,9 @@ shape('copies-all', 12, ONE, comp(ALL, copies(20, 12), tru(1)))
 shape('copies-all-empty', 12, EMPTY, comp(ALL, copies(20, 12), tru(1)))
 shape('copies-set', 12, ONE, comp(SET, copies(20, 12), num(1)))
 
+shape('copies-ships', 12, ONE, comp(BAG, copies(20, 12), record(num(1), num(1))))
+shape('copies-ships-sum', 12, ONE, comp(BAG, copies(20, 12), record(num(1), comp(SUM, [], num(1)))))
+
 INNER = [
     ('bags', BAG, lambda t: comp(BAG, [], t), num(1), [(20, 5, 189), (20, 8, 183), (20, 11, 70), (10, 12, 193), (12, 13, 189), (10, 16, 187)]),
     ('recs', BAG, lambda t: record(t), num(1), [(20, 5, 189), (20, 8, 183), (20, 11, 70)]),
