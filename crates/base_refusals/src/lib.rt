@@ -36,6 +36,13 @@ pub const CALENDAR_NOT_LENT: u64 = 42;
 // A column's bound is over 2^31, or a cell is beyond it.
 pub const CELL_BEYOND_BOUND: u64 = 43;
 
+pub const TARIFF_OUT_OF_RANGE: u64 = 44;
+
+// A question that gives no bag of ships with their draughts.
+pub const NOT_SHIPS_AND_DRAUGHTS: u64 = 45;
+
+pub const DRAUGHT_OUT_OF_RANGE: u64 = 46;
+
 pub const ROWS_OUT_OF_RANGE: u64 = 47;
 
 pub const NOTHING_UNFINISHED: u64 = 48;
