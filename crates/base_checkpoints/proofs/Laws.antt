@@ -17,7 +17,7 @@ use Rattle.spec_encoding.specs.Record.{Bytes, four, signed}
 use Rattle.spec_encoding.specs.Columns.{plus, unfolded, summed}
 use Rattle.base_signed.proofs.SignedWords.{by-test, no}
 use Rattle.base_scratch.specs.Map.{scratchSize, checkpointsAt, checkpointsEnd}
-use Rattle.base_tables.specs.Description.{mostTables, columnsIn, rowsIn, kindIn, descriptionIn, tableIn, columnPlaceIn, wordIn, cellIn, CellPost}
+use Rattle.base_tables.specs.Description.{mostTables, columnsIn, rowsIn, kindIn, fullIn, descriptionIn, tableIn, columnPlaceIn, storedWordIn, wordIn, cellIn, CellPost}
 use Rattle.base_tables.proofs.ByteReaders.{few}
 use Rattle.base_tables.proofs.TableWords.{description-same}
 use Rattle.base_checkpoints.specs.Checkpoints.{checkpointAt, checkpointIn, firstRow, secondRow, tallIn, checkpointOf, Checkpointed, usesCheckpoint, checkpointedWord, checkpointedCellIn, CheckpointTablePost, CheckpointTablesPost, CheckpointedCellPost}
@@ -81,6 +81,7 @@ pub record Uses (w r c : ℕ) : Type 0 where
   pub few : c < 8
   pub behind : firstRow ≤ r
   pub kind : eqb (kindIn w) 1 ≡ true
+  pub full : fullIn w ≡ true
 
 uses-by : (w r c : ℕ) → usesCheckpoint w r c ≡ true → Uses w r c
 unfolding usesCheckpoint pick
@@ -89,7 +90,9 @@ uses-by w r c =
     (λ a. by-test (ltb c (columnsIn w))
     (λ b. by-test (ltb c 8)
     (λ e. by-test (leb firstRow r)
-    (λ f. rw (a, b, e, f) (λ k. record { row = ltb-true r (rowsIn w) a; column = ltb-true c (columnsIn w) b; few = ltb-true c 8 e; behind = leb-true firstRow r f; kind = k }))
+    (λ f. by-test (eqb (kindIn w) 1)
+    (λ h. rw (a, b, e, f, h) (λ k. record { row = ltb-true r (rowsIn w) a; column = ltb-true c (columnsIn w) b; few = ltb-true c 8 e; behind = leb-true firstRow r f; kind = h; full = k }))
+    (λ h. rw (a, b, e, f, h) (λ k. no (sym k))))
     (λ f. rw (a, b, e, f) (λ k. no (sym k))))
     (λ e. rw (a, b, e) (λ k. no (sym k))))
     (λ b. rw (a, b) (λ k. no (sym k))))
@@ -103,8 +106,8 @@ unfolding tallIn pick
 uses-tall {w} U = rw (U .kind) (le-leb firstRow (rowsIn w) (omega (arith, U .behind, U .row)))
 
 uses-cell : (d : Bytes) {w r c : ℕ} → Uses w r c → cellIn d w r c ≡ signed (summed d (columnPlaceIn w c) (suc r))
-unfolding cellIn wordIn pick
-uses-cell d {w} {r} {c} U = rw (lt-ltb r (rowsIn w) (U .row), lt-ltb c (columnsIn w) (U .column), U .kind)
+unfolding cellIn wordIn storedWordIn pick
+uses-cell d {w} {r} {c} U = rw (lt-ltb r (rowsIn w) (U .row), lt-ltb c (columnsIn w) (U .column), U .full, U .kind)
 
 -- where scratch is checkpointed, what is read is the cell
 pub checkpointed-is : {d : Bytes} {s : List ℕ} → Checkpointed d s → (n r c : ℕ) → checkpointedCellIn d s n r c ≡ cellIn d (descriptionIn s n) r c
@@ -244,9 +247,14 @@ module _ (w r c : ℕ) {n : ℕ} (N : n ≡ rowsIn w) where
         unfolding usesCheckpoint pick
         unused-first g = rw (lt-ltb r (rowsIn w) (rw N at l), lt-ltb c (columnsIn w) (rw M at h), lt-ltb c 8 f, lt-leb firstRow r g)
 
-        pub used-by : firstRow ≤ r → {t : Bool} → t ≡ eqb (kindIn w) 1 → t ≡ usesCheckpoint w r c
-        unfolding usesCheckpoint pick
-        used-by g e = rw (lt-ltb r (rowsIn w) (rw N at l), lt-ltb c (columnsIn w) (rw M at h), lt-ltb c 8 f, le-leb firstRow r g) e
+        module _ (g : firstRow ≤ r) {t : Bool} (e : t ≡ eqb (kindIn w) 1) where
+          pub used-by : t ≡ true → {u : Bool} → u ≡ fullIn w → u ≡ usesCheckpoint w r c
+          unfolding usesCheckpoint pick
+          used-by k v = rw (lt-ltb r (rowsIn w) (rw N at l), lt-ltb c (columnsIn w) (rw M at h), lt-ltb c 8 f, le-leb firstRow r g, ← e, k) v
+
+          pub unused-rows : t ≡ false → false ≡ usesCheckpoint w r c
+          unfolding usesCheckpoint pick
+          unused-rows k = rw (lt-ltb r (rowsIn w) (rw N at l), lt-ltb c (columnsIn w) (rw M at h), lt-ltb c 8 f, le-leb firstRow r g, ← e, k)
 
 module _ (d : Bytes) (w m r c : ℕ) {p y x : ℕ} (P : p ≡ columnPlaceIn w c) where
   pub word-low : r < secondRow → y ≡ summed d (p + 4 * firstRow) (r + 1 - firstRow) → x ≡ plus (m % 2 ^ 32) y → x ≡ checkpointedWord d w m r c

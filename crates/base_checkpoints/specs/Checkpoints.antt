@@ -10,7 +10,7 @@ use Rattle.spec_calculus.specs.Lists.{pick}
 use Rattle.spec_encoding.specs.Record.{Bytes, signed}
 use Rattle.spec_encoding.specs.Columns.{plus, summed}
 use Rattle.base_scratch.specs.Map.{scratchSize, checkpointsAt, checkpointsEnd}
-use Rattle.base_tables.specs.Description.{columnsIn, rowsIn, kindIn, descriptionIn, columnPlaceIn, cellIn}
+use Rattle.base_tables.specs.Description.{columnsIn, rowsIn, kindIn, fullIn, descriptionIn, columnPlaceIn, cellIn}
 
 -- where that of column c of table n - 1 stands; a table has at most 8
 abbrev pub checkpointAt : ℕ → ℕ → ℕ
@@ -38,9 +38,9 @@ checkpointOf d w c = summed d (columnPlaceIn w c) firstRow + 2 ^ 32 * summed d (
 pub record Checkpointed (d : Bytes) (s : List ℕ) : Type 0 where
   pub each : (n c : ℕ) → c < 8 → tallIn (descriptionIn s n) ≡ true → checkpointIn s n c ≡ checkpointOf d (descriptionIn s n) c
 
--- whether the cell in row r and column c is read by a checkpoint: it stands behind the first of the rows
+-- whether the cell in row r and column c is read by a checkpoint: it stands behind the first of the rows, of which none is left out
 unfoldable pub usesCheckpoint : ℕ → ℕ → ℕ → Bool
-usesCheckpoint w r c = pick (ltb r (rowsIn w)) (pick (ltb c (columnsIn w)) (pick (ltb c 8) (pick (leb firstRow r) (eqb (kindIn w) 1) false) false) false) false
+usesCheckpoint w r c = pick (ltb r (rowsIn w)) (pick (ltb c (columnsIn w)) (pick (ltb c 8) (pick (leb firstRow r) (pick (eqb (kindIn w) 1) (fullIn w) false) false) false) false) false
 
 -- the number of its four bytes, by the checkpoint m
 unfoldable pub checkpointedWord : Bytes → ℕ → ℕ → ℕ → ℕ → ℕ

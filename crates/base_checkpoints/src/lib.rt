@@ -13,6 +13,7 @@ use base_tables::cell;
 use base_tables::column_place;
 use base_tables::columns;
 use base_tables::description;
+use base_tables::full;
 use base_tables::rows;
 use base_tables::signed_of;
 use base_tables::sum_down;
@@ -90,7 +91,10 @@ fn uses_checkpoint(w: u64, r: usize, c: usize) -> bool
     if r < FIRST_ROW {
         return false;
     }
-    by_columns(w)
+    if by_columns(w) {
+        return full(w);
+    }
+    false
 }
 
 // The checkpoint of column c of the table whose number is n - 1.

@@ -18,7 +18,7 @@ use Rattle.spec_logs.specs.Logs.{Log, Paired, noRows, withPair, withFirst, with
 use Rattle.spec_logs.specs.Pairing.{NoneLost}
 use Rattle.spec_logs.proofs.Distance.{since, between, earlier, near-is}
 use Rattle.spec_logs.proofs.OwnPairs.{counts-from}
-use Rattle.base_tables.specs.Description.{rowsIn, wordIn}
+use Rattle.base_tables.specs.Description.{rowsIn, storedWordIn}
 use Rattle.base_logs.specs.declared.Move.{Move}
 use Rattle.base_logs.specs.declared.Move.the-variants.{Pair, First, Second}
 use Rattle.base_logs.specs.declared.Rows.{Rows}
@@ -89,10 +89,10 @@ module _ (d : Bytes) (a b t : ℕ) where
   turned i j v = onMove v i j (leftAt (firstAfter v i) (secondAfter v j))
 
   abbrev X : ℕ → ℤ
-  X i = signed (wordIn d a i 0)
+  X i = signed (storedWordIn d a i 0)
 
   abbrev Y : ℕ → ℤ
-  Y j = signed (wordIn d b j 0)
+  Y j = signed (storedWordIn d b j 0)
 
   module _ (i j : ℕ) where
     abbrev xs : Log
@@ -130,8 +130,8 @@ module _ (d : Bytes) (a b t : ℕ) where
   pub record Standing (r : Rows) : Type 0 where
     pub first-in : r .i ≤ rowsIn a
     pub second-in : r .j ≤ rowsIn b
-    pub first-word : r .x ≡ wordIn d a (r .i) 0
-    pub second-word : r .y ≡ wordIn d b (r .j) 0
+    pub first-word : r .x ≡ storedWordIn d a (r .i) 0
+    pub second-word : r .y ≡ storedWordIn d b (r .j) 0
 
   module _ (r : Rows) (S : Standing r) (l : r .i + r .j < rowsIn a + rowsIn b) where
     -- One turn: a pair or a single, and what is left behind it.
@@ -191,7 +191,7 @@ module _ (d : Bytes) (a b : ℕ) (r : Rows) {v : Move} where
   after-second e ey = rw e (ap (λ (y : ℕ). record { i = r .i; x = r .x; j = r .j + 1; y = y }) ey)
 
 -- the words of the rows behind a move are theirs
-below-next : (d : Bytes) (w r : ℕ) {x : ℕ} → x ≡ wordIn d w r 0 → wordBelow d w (r + 1) x ≡ wordIn d w (suc r) 0
+below-next : (d : Bytes) (w r : ℕ) {x : ℕ} → x ≡ storedWordIn d w r 0 → wordBelow d w (r + 1) x ≡ storedWordIn d w (suc r) 0
 unfolding aboveWord
 below-next d w r {x} e = ap (λ (k : ℕ). wordBelow d w k x) (add-one r) ∙ ap (wordBelow d w (suc r)) e ∙ below-is d w (suc r)
 
@@ -200,8 +200,8 @@ module _ (d : Bytes) (a b t : ℕ) (r : Rows) (S : Standing d a b t r) where
   pub record Stood (v : Move) (q : Rows) : Type 0 where
     pub first-is : q .i ≡ firstAfter v (r .i)
     pub second-is : q .j ≡ secondAfter v (r .j)
-    pub first-word : q .x ≡ wordIn d a (firstAfter v (r .i)) 0
-    pub second-word : q .y ≡ wordIn d b (secondAfter v (r .j)) 0
+    pub first-word : q .x ≡ storedWordIn d a (firstAfter v (r .i)) 0
+    pub second-word : q .y ≡ storedWordIn d b (secondAfter v (r .j)) 0
 
   stood : (v : Move) → Stood v (rowsAfter d a b r v)
   unfolding rowsAfter firstAfter secondAfter
@@ -225,8 +225,8 @@ module _ (d : Bytes) (a b t : ℕ) (r : Rows) (S : Standing d a b t r) where
         record {
           first-in = omega (arith, s .first-is, m .first-in);
           second-in = omega (arith, s .second-is, m .second-in);
-          first-word = s .first-word ∙ ap (λ (k : ℕ). wordIn d a k 0) (sym (s .first-is));
-          second-word = s .second-word ∙ ap (λ (k : ℕ). wordIn d b k 0) (sym (s .second-is));
+          first-word = s .first-word ∙ ap (λ (k : ℕ). storedWordIn d a k 0) (sym (s .first-is));
+          second-word = s .second-word ∙ ap (λ (k : ℕ). storedWordIn d b k 0) (sym (s .second-is));
         },
         omega (arith, s .first-is, s .second-is, m .more),
         turned-by d a b t r S k f ∙ ap₂ (λ (i j : ℕ). onMove v (r .i) (r .j) (leftAt d a b t i j)) (sym (s .first-is)) (sym (s .second-is)),

@@ -16,7 +16,7 @@ use Rattle.spec_encoding.proofs.Data.{signed-small}
 use Rattle.base_signed.proofs.SignedWords.{by-test}
 use Rattle.spec_logs.specs.Logs.{Log, neverFalls}
 use Rattle.spec_logs.proofs.Distance.{since, not-later}
-use Rattle.base_tables.specs.Description.{collectionIn, columnsIn, rowsIn, kindIn, placeIn, columnPlaceIn, wordIn}
+use Rattle.base_tables.specs.Description.{collectionIn, columnsIn, rowsIn, kindIn, placeIn, columnPlaceIn, storedWordIn}
 use Rattle.base_logs.specs.Times.{wordBelow, timesFrom, timesIn, isLogIn}
 
 -- ---- a time counted from -2^31 on
@@ -41,11 +41,11 @@ module _ (d : Bytes) (w r a : ℕ) {b : Bool} (e : b ≡ eqb (kindIn w) 1) where
 -- the word above row r: none above the first
 unfoldable pub aboveWord : Bytes → ℕ → ℕ → ℕ
 aboveWord d w zero = 0
-aboveWord d w (suc r) = wordIn d w r 0
+aboveWord d w (suc r) = storedWordIn d w r 0
 
 -- A walk down the column gives each row's word.
-pub below-is : (d : Bytes) (w r : ℕ) → wordBelow d w r (aboveWord d w r) ≡ wordIn d w r 0
-unfolding wordBelow aboveWord wordIn pick summed
+pub below-is : (d : Bytes) (w r : ℕ) → wordBelow d w r (aboveWord d w r) ≡ storedWordIn d w r 0
+unfolding wordBelow aboveWord storedWordIn pick summed
 below-is d w r = by-test (eqb (kindIn w) 1) (λ t. rw t (columns r t)) (λ t. rw t refl)
   where
     columns : (r : ℕ) → eqb (kindIn w) 1 ≡ true → plus (aboveWord d w r) (unfolded (four d (columnPlaceIn w 0 + 4 * r))) ≡ summed d (columnPlaceIn w 0) (suc r)
@@ -54,7 +54,7 @@ below-is d w r = by-test (eqb (kindIn w) 1) (λ t. rw t (columns r t)) (λ t. rw
         (ap (λ b. pick b (summed d (columnPlaceIn w 0) (suc r)) (four d (placeIn w r 0))) t)
 
 -- ---- times from a row on
-pub times-next : (d : Bytes) (w r n : ℕ) → r < n → timesFrom d w r (n - r) ≡ signed (wordIn d w r 0) ∷ timesFrom d w (suc r) (n - suc r)
+pub times-next : (d : Bytes) (w r n : ℕ) → r < n → timesFrom d w r (n - r) ≡ signed (storedWordIn d w r 0) ∷ timesFrom d w (suc r) (n - suc r)
 unfolding timesFrom
 times-next d w r n l = let e : n - r ≡ suc (n - suc r) = omega arith in ap (timesFrom d w r) e
 
@@ -77,16 +77,16 @@ falls-on : (d : Bytes) (w r n : ℕ) (z : ℤ) → natAbs z ≤ 2 ^ 31 → never
 unfolding neverFalls timesFrom goesOn
 falls-on d w r zero z h = refl
 falls-on d w r (suc n) z h =
-    let y = signed (wordIn d w r 0) in
-    let s = signed-small (wordIn d w r 0) in
+    let y = signed (storedWordIn d w r 0) in
+    let s = signed-small (storedWordIn d w r 0) in
     ap₂ _&&_ (not-later (2 ^ 31) z y h s) (falls-on d w (suc r) n y s)
 
 falls-from : (d : Bytes) (w r n : ℕ) → neverFalls (timesFrom d w r n) ≡ goesOn 0 (timesFrom d w r n)
 unfolding neverFalls timesFrom goesOn
 falls-from d w r zero = refl
 falls-from d w r (suc n) =
-    let y = signed (wordIn d w r 0) in
-    falls-on d w (suc r) n y (signed-small (wordIn d w r 0)) ∙ ap (λ b. b && goesOn (since (2 ^ 31) y) (timesFrom d w (suc r) n)) (sym (le-leb 0 (since (2 ^ 31) y) (omega arith)))
+    let y = signed (storedWordIn d w r 0) in
+    falls-on d w (suc r) n y (signed-small (storedWordIn d w r 0)) ∙ ap (λ b. b && goesOn (since (2 ^ 31) y) (timesFrom d w (suc r) n)) (sym (le-leb 0 (since (2 ^ 31) y) (omega arith)))
 
 pub record Falling (d : Bytes) (w n last x r : ℕ) : Type 0 where
   pub count : n ≡ rowsIn w
@@ -104,10 +104,10 @@ falling-first d w {n} e = record {
 }
 
 module _ {d : Bytes} {w n last x r : ℕ} (F : Falling d w n last x r) (l : r < n) {y t : ℕ} (ey : y ≡ wordBelow d w r x) (et : t ≡ since (2 ^ 31) (signed y)) where
-  word-here : y ≡ wordIn d w r 0
+  word-here : y ≡ storedWordIn d w r 0
   word-here = ey ∙ ap (wordBelow d w r) (F .above) ∙ below-is d w r
 
-  time-here : t ≡ since (2 ^ 31) (signed (wordIn d w r 0))
+  time-here : t ≡ since (2 ^ 31) (signed (storedWordIn d w r 0))
   time-here = et ∙ ap (λ (n : ℕ). since (2 ^ 31) (signed n)) word-here
 
   left-here : neverFalls (timesIn d w) ≡ (leb last t && goesOn t (timesFrom d w (suc r) (n - suc r)))

@@ -7,7 +7,7 @@ use Rattle.spec_calculus.specs.Lists.{pick}
 use Rattle.spec_encoding.specs.Record.{Bytes, four, signed}
 use Rattle.spec_encoding.specs.Columns.{plus, unfolded}
 use Rattle.spec_logs.specs.Logs.{Log, neverFalls}
-use Rattle.base_tables.specs.Description.{collectionIn, columnsIn, rowsIn, kindIn, placeIn, columnPlaceIn, wordIn}
+use Rattle.base_tables.specs.Description.{collectionIn, columnsIn, rowsIn, kindIn, placeIn, columnPlaceIn, storedWordIn}
 
 -- the number of the time's four bytes in row r, where above is that of the row above
 unfoldable pub wordBelow : Bytes → ℕ → ℕ → ℕ → ℕ
@@ -16,7 +16,7 @@ wordBelow d w r above = pick (eqb (kindIn w) 1) (plus above (unfolded (four d (c
 -- n times, from row r on
 unfoldable pub timesFrom : Bytes → ℕ → ℕ → ℕ → Log
 timesFrom d w r zero = []
-timesFrom d w r (suc n) = signed (wordIn d w r 0) ∷ timesFrom d w (suc r) n
+timesFrom d w r (suc n) = signed (storedWordIn d w r 0) ∷ timesFrom d w (suc r) n
 
 abbrev pub timesIn : Bytes → ℕ → Log
 timesIn d w = timesFrom d w 0 (rowsIn w)

@@ -62,3 +62,9 @@ pub const TARGET_TOO_SHORT: u64 = 52;
 pub const NOT_A_LOG: u64 = 53;
 
 pub const TOLERANCE_OUT_OF_RANGE: u64 = 54;
+
+// Outages are counted of a question whose monoid is some or all.
+pub const NEITHER_SOME_NOR_ALL: u64 = 55;
+
+// The table whose outages are counted is absent, or has more than 12 rows.
+pub const OUTAGE_TABLE_OUT_OF_RANGE: u64 = 56;

@@ -23,7 +23,7 @@ use Rattle.spec_encoding.specs.Columns.{plus, unfolded, summed}
 use Rattle.spec_encoding.specs.Data.{isKind, isTable, tableNumber, tableCollection, tableColumns, tableRows, boundsAt, fits, tableBy, bounded}
 use Rattle.spec_encoding.proofs.Folding.{unfold-even, unfold-odd}
 use Rattle.spec_encoding.proofs.Data.{Fit, fit}
-use Rattle.base_tables.specs.Description.{oneColumn, oneRow, oneKind, onePosition, kindBit, descriptionOf, columnsIn, rowsIn, kindIn, subsetIn, positionIn, presentIn, wordIn, cellIn, boundIn, placeIn, columnPlaceIn, placedIn, Placed, PlacedPost, CellPost, BoundPost}
+use Rattle.base_tables.specs.Description.{oneColumn, oneRow, oneKind, onePosition, kindBit, descriptionOf, columnsIn, rowsIn, kindIn, subsetIn, fullIn, positionIn, presentIn, subsetRows, keptRow, wholeIn, storedWordIn, wordIn, cellIn, boundIn, placeIn, columnPlaceIn, placedIn, Placed, PlacedPost, CellPost, BoundPost}
 use Rattle.base_tables.specs.DataReader.{headerGives, headerAt, numberedTable, tableAt}
 use Rattle.base_tables.proofs.DataRecords.{passes, TableRecord, whole, whole-is, fit-is}
 use Rattle.base_tables.specs.declared.TableHeader.{TableHeader}
@@ -164,19 +164,19 @@ module _ {d : Bytes} {w r c : ℕ} where
     unfolding cellIn pick
     cell-beside q = cell-is (rw (lt-ltb r (rowsIn w) (rw en at p), le-ltb c (columnsIn w) (rw em at q))) (omega arith)
 
-    module _ (q : c < m) {x : ℕ} {z : ℤ} (h : (z ≡ signed x) × (natAbs z ≤ 2 ^ 31)) where
-      at-word : x ≡ wordIn d w r c → CellPost d w r c z
-      unfolding cellIn pick
-      at-word e = cell-is (rw (lt-ltb r (rowsIn w) (rw en at p), lt-ltb c (columnsIn w) (rw em at q)) (h .0 ∙ ap signed e)) (h .1)
+    pub cell-inside : c < m → {x : ℕ} {z : ℤ} → (z ≡ signed x) × (natAbs z ≤ 2 ^ 31) → x ≡ wordIn d w r c → CellPost d w r c z
+    unfolding cellIn pick
+    cell-inside q h e = cell-is (rw (lt-ltb r (rowsIn w) (rw en at p), lt-ltb c (columnsIn w) (rw em at q)) (h .0 ∙ ap signed e)) (h .1)
 
-      pub cell-inside : {t : Bool} → t ≡ eqb (kindIn w) 1 → t ≡ false → {k : ℕ} → k ≡ placeIn w r c → x ≡ four d k → CellPost d w r c z
-      unfolding wordIn pick
-      cell-inside et y ek ex = at-word (ex ∙ ap (four d) ek ∙ sym (ap (λ b. pick b (summed d (columnPlaceIn w c) (suc r)) (four d (placeIn w r c))) (sym et ∙ y)))
+-- stored_word
+module _ (d : Bytes) (w r c : ℕ) {t : Bool} (e : t ≡ eqb (kindIn w) 1) where
+  pub stored-summed : t ≡ true → {k x : ℕ} → k ≡ columnPlaceIn w c → x ≡ summed d k (r + 1) → x ≡ storedWordIn d w r c
+  unfolding storedWordIn pick
+  stored-summed y ek ex = ex ∙ ap₂ (summed d) ek (add-one r) ∙ sym (ap (λ b. pick b (summed d (columnPlaceIn w c) (suc r)) (four d (placeIn w r c))) (sym e ∙ y))
 
-      pub cell-summed : {t : Bool} → t ≡ eqb (kindIn w) 1 → t ≡ true → {k : ℕ} → k ≡ columnPlaceIn w c → x ≡ summed d k (r + 1) → CellPost d w r c z
-      unfolding wordIn pick
-      cell-summed et y ek ex =
-          at-word (ex ∙ ap₂ (summed d) ek (add-one r) ∙ sym (ap (λ b. pick b (summed d (columnPlaceIn w c) (suc r)) (four d (placeIn w r c))) (sym et ∙ y)))
+  pub stored-row : t ≡ false → {k x : ℕ} → k ≡ placeIn w r c → x ≡ four d k → x ≡ storedWordIn d w r c
+  unfolding storedWordIn pick
+  stored-row y ek ex = ex ∙ ap (four d) ek ∙ sym (ap (λ b. pick b (summed d (columnPlaceIn w c) (suc r)) (four d (placeIn w r c))) (sym e ∙ y))
 
 -- bound
 module _ {d : Bytes} {w c : ℕ} where
@@ -197,6 +197,17 @@ module _ {d : Bytes} {w c : ℕ} where
     bound-inside q p h =
         bound-is (rw (lt-ltb c (columnsIn w) (rw em at q), le-leb (4 * columnsIn w) (positionIn w) (rw em at p)) (h .0 ∙ ap (λ (x : ℕ). four d (positionIn w - 4 * x + 4 * c)) em)) (h .1)
 
+-- cell_word
+module _ (d : Bytes) (w r c : ℕ) {n x : ℕ} (e : n ≡ subsetIn w) where
+  pub word-full : n ≡ 0 → (x ≡ storedWordIn d w r c) × (x < 2 ^ 32) → (x ≡ wordIn d w r c) × (x < 2 ^ 32)
+  unfolding wordIn pick
+  word-full z h = (h .0 ∙ sym (ap (λ b. pick b (storedWordIn d w r c) (storedWordIn d (wholeIn w) (keptRow subsetRows (subsetIn w) r) c)) (eq-eqb (subsetIn w) 0 (sym e ∙ z))), h .1)
+
+  pub word-kept : (n ≡ 0 → ⊥) → {v q : ℕ} → v ≡ wholeIn w → q ≡ keptRow subsetRows n r → (x ≡ storedWordIn d v q c) × (x < 2 ^ 32) → (x ≡ wordIn d w r c) × (x < 2 ^ 32)
+  unfolding wordIn pick
+  word-kept z ev eq h = (h .0 ∙ ap₂ (λ (y p : ℕ). storedWordIn d y p c) ev (eq ∙ ap (λ (k : ℕ). keptRow subsetRows k r) e)
+      ∙ sym (ap (λ b. pick b (storedWordIn d w r c) (storedWordIn d (wholeIn w) (keptRow subsetRows (subsetIn w) r) c)) (ne-eqb (subsetIn w) 0 (λ y. z (e ∙ y)))), h .1)
+
 -- placed
 pub row-within : {m r n c : ℕ} → r < n → c < m → m * r + c + 1 ≤ m * n
 row-within {m} {r} {n} {c} p q = omega (arith, mul-le-mul-left {m = r + 1} {n = n} m (omega arith), mul-add m r 1, mul-one m)
@@ -208,14 +219,22 @@ four-low d B p = omega (arith, B p, B (p + 1), B (p + 2), B (p + 2 + 1))
 column-within : {m r n c : ℕ} → r < n → c < m → n * c + r + 1 ≤ m * n
 column-within {m} {r} {n} {c} p q = omega (arith, row-within {m = n} {r = c} {n = m} {c = r} q p, mul-comm m n)
 
-word-low : (d : Bytes) → ((i : ℕ) → getD d i 0 < 256) → (w r c : ℕ) → wordIn d w r c < 2 ^ 32
-unfolding wordIn pick summed
-word-low d B w r c = by-test (eqb (kindIn w) 1) (λ t. rw t (omega arith)) (λ t. rw t (four-low d B (placeIn w r c)))
+stored-low : (d : Bytes) → ((i : ℕ) → getD d i 0 < 256) → (w r c : ℕ) → storedWordIn d w r c < 2 ^ 32
+unfolding storedWordIn pick summed
+stored-low d B w r c = by-test (eqb (kindIn w) 1) (λ t. rw t (omega arith)) (λ t. rw t (four-low d B (placeIn w r c)))
 
-placed-is : {d : Bytes} {w n k : ℕ} → ((i : ℕ) → getD d i 0 < 256) → n ≡ rowsIn w → k ≡ placeIn w n 0 → k ≤ length d → Placed d w
+pub stored-small : (d : Bytes) (w r c : ℕ) {x : ℕ} → ((i : ℕ) → getD d i 0 < 256) → x ≡ storedWordIn d w r c → (x ≡ storedWordIn d w r c) × (x < 2 ^ 32)
+stored-small d w r c B e = (e, omega (arith, e, stored-low d B w r c))
+
+word-low : (d : Bytes) → ((i : ℕ) → getD d i 0 < 256) → (w r c : ℕ) → wordIn d w r c < 2 ^ 32
+unfolding wordIn pick
+word-low d B w r c = by-test (fullIn w) (λ t. rw t (stored-low d B w r c)) (λ t. rw t (stored-low d B (wholeIn w) (keptRow subsetRows (subsetIn w) r) c))
+
+placed-is : {d : Bytes} {w n k : ℕ} → ((i : ℕ) → getD d i 0 < 256) → subsetIn w ≡ 0 → n ≡ rowsIn w → k ≡ placeIn w n 0 → k ≤ length d → Placed d w
 unfolding cellIn pick
-placed-is {d} {w} {n} {k} B en ek l =
+placed-is {d} {w} {n} {k} B z en ek l =
     record {
+      full = eq-eqb (subsetIn w) 0 z;
       by-rows = λ {r} {c} p q. omega (arith, row-within {m = columnsIn w} {r = r} {n = rowsIn w} {c = c} p q, ap (λ (x : ℕ). placeIn w x 0) en);
       by-columns = λ {r} {c} p q. omega (arith, column-within {m = columnsIn w} {r = r} {n = rowsIn w} {c = c} p q, ap (λ (x : ℕ). placeIn w x 0) en);
       low = λ {r} {c} p q. word-low d B w r c;
@@ -226,7 +245,7 @@ pub placed-full : {d : Bytes} {w n k : ℕ} → ((i : ℕ) → getD d i 0 < 256)
 unfolding placedIn pick
 placed-full {w = w} B z en ek = record {
   is = rw (eq-eqb (subsetIn w) 0 z) (rw (ek, en));
-  cells = λ e. placed-is B en ek (leb-true _ _ e);
+  cells = λ e. placed-is B z en ek (leb-true _ _ e);
 }
 
 pub placed-other : {d : Bytes} {w : ℕ} → (subsetIn w ≡ 0 → ⊥) → PlacedPost d w false

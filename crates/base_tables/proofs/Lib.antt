@@ -7,3 +7,4 @@ mod NumberedTables
 mod ReadLoop
 pub mod ReadData
 pub mod TableWords
+pub mod Subsets

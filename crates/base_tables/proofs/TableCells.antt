@@ -22,7 +22,7 @@ use Rattle.spec_encoding.proofs.Columns.{summed-same, summed-cell, by-bound}
 use Rattle.spec_encoding.proofs.Data.{rows-length, bounds-length, Fit, fit, table-read}
 use Rattle.spec_encoding.proofs.ColumnBounds.{four-same, four-drop, row-at, contentCell, bound-read, cell-read, bounded-column}
 use Rattle.base_signed.proofs.SignedWords.{by-test}
-use Rattle.base_tables.specs.Description.{oneColumn, oneRow, oneKind, onePosition, kindBit, descriptionOf, collectionIn, columnsIn, rowsIn, kindIn, subsetIn, positionIn, wordIn, cellIn, cellsIn, boundIn, collectionNumber, Describes}
+use Rattle.base_tables.specs.Description.{oneColumn, oneRow, oneKind, onePosition, kindBit, descriptionOf, collectionIn, columnsIn, rowsIn, kindIn, subsetIn, positionIn, storedWordIn, wordIn, cellIn, cellsIn, boundIn, collectionNumber, Describes}
 use Rattle.base_tables.proofs.DataRecords.{content-length, kindAt, contentAt, ReadAt, read-whole}
 use Rattle.base_tables.proofs.ByteReaders.{row-within}
 
@@ -94,13 +94,13 @@ content-at d p x q =
     getD-take (lengthOf (drop p d)) (drop 4 (drop p d)) x 0 q ∙ getD-drop 4 (drop p d) x 0 ∙ getD-drop p d (4 + x) 0 ∙ simp add-assoc
 
 -- the cell's number, by rows and by columns
-word-by-rows : (d : Bytes) (w r c : ℕ) {m p : ℕ} → kindIn w ≡ 0 → columnsIn w ≡ m → positionIn w ≡ p → wordIn d w r c ≡ four d (p + 4 * (m * r + c))
-unfolding wordIn pick
-word-by-rows d w r c k em ep = rw (ne-eqb (kindIn w) 1 (λ e. omega (arith, k, e))) (rw (em, ep))
+word-by-rows : (d : Bytes) (w r c : ℕ) {m p : ℕ} → subsetIn w ≡ 0 → kindIn w ≡ 0 → columnsIn w ≡ m → positionIn w ≡ p → wordIn d w r c ≡ four d (p + 4 * (m * r + c))
+unfolding wordIn storedWordIn pick
+word-by-rows d w r c z k em ep = rw (eq-eqb (subsetIn w) 0 z, ne-eqb (kindIn w) 1 (λ e. omega (arith, k, e))) (rw (em, ep))
 
-word-by-columns : (d : Bytes) (w r c : ℕ) {n p : ℕ} → kindIn w ≡ 1 → rowsIn w ≡ n → positionIn w ≡ p → wordIn d w r c ≡ summed d (p + 4 * (n * c)) (suc r)
-unfolding wordIn pick
-word-by-columns d w r c k en ep = rw (eq-eqb (kindIn w) 1 k) (rw (en, ep))
+word-by-columns : (d : Bytes) (w r c : ℕ) {n p : ℕ} → subsetIn w ≡ 0 → kindIn w ≡ 1 → rowsIn w ≡ n → positionIn w ≡ p → wordIn d w r c ≡ summed d (p + 4 * (n * c)) (suc r)
+unfolding wordIn storedWordIn pick
+word-by-columns d w r c z k en ep = rw (eq-eqb (subsetIn w) 0 z, eq-eqb (kindIn w) 1 k) (rw (en, ep))
 
 cell-found : (d : Bytes) (w r c : ℕ) {n m : ℕ} → rowsIn w ≡ n → columnsIn w ≡ m → r < n → c < m → cellIn d w r c ≡ signed (wordIn d w r c)
 unfolding cellIn pick
@@ -195,7 +195,7 @@ module _ {d : Bytes} {p k w e : ℕ} (R : ReadAt d p k w e) (c : Bytes) (s : c �
     cell-by-rows b =
         found-here
         ∙ ap signed
-        (word-by-rows d W r j (kind-in K c from fit-here ∙ ap (λ t. pick t 1 0) b) (columns-in K c from fit-here) (position-in K c from fit-here)
+        (word-by-rows d W r j (subset-in K c from fit-here) (kind-in K c from fit-here ∙ ap (λ t. pick t 1 0) b) (columns-in K c from fit-here) (position-in K c from fit-here)
         ∙ sym (four-here (boundsAt + 4 * tableColumns c + 4 * (tableColumns c * r + j))
         (from + 4 * tableColumns c + 4 * (tableColumns c * r + j)) inside (omega arith)))
       where
@@ -207,7 +207,7 @@ module _ {d : Bytes} {p k w e : ℕ} (R : ReadAt d p k w e) (c : Bytes) (s : c �
     cell-by-columns b =
         found-here
         ∙ ap signed
-        (word-by-columns d W r j (kind-in K c from fit-here ∙ ap (λ t. pick t 1 0) b) (rows-in K c from fit-here) (position-in K c from fit-here)
+        (word-by-columns d W r j (subset-in K c from fit-here) (kind-in K c from fit-here ∙ ap (λ t. pick t 1 0) b) (rows-in K c from fit-here) (position-in K c from fit-here)
         ∙ sym (summed-same c d (cellsAt c + 4 * (tableRows c * j)) (from + 4 * tableColumns c + 4 * (tableRows c * j)) (suc r) at))
         ∙ sym (summed-cell c (fit-here .long) t q)
       where
@@ -277,7 +277,6 @@ module _ {d : Bytes} {p k w e : ℕ} (R : ReadAt d p k w e) (c : Bytes) (s : c �
         most-columns = g .columns-most;
         rows = rows-in K c from fit-here ∙ sym (head .rows) ∙ sym (rows-length (tableColumns f) (tableRows f) l);
         most-rows = rw rows-length (g .rows-most);
-        subset = subset-in K c from fit-here;
         row = λ r q. let u : r < tableRows f = rw rows-length at q in
             row-at (tableColumns f) (tableRows f) r l u
             ∙ ap rec (cells-found d W r (rowBytes f r) (tableColumns f) (λ j t. row-here r j u t) (tableColumns f) 0 (omega arith));
@@ -313,7 +312,6 @@ module _ (T U : Tables) (k j : ℕ) (e : getD T k noTable ≡ getD U j noTable) 
         most-columns = rw columns-same at (D .most-columns);
         rows = rw rows-same at (D .rows);
         most-rows = rw rows-same at (D .most-rows);
-        subset = D .subset;
         row = rw (rows-same, columns-same) at (D .row);
         cell = rw (rows-same, columns-same) at (D .cell);
         bound = λ c. D .bound c ∙ bound-same c;
@@ -324,3 +322,6 @@ module _ (T U : Tables) (k j : ℕ) (e : getD T k noTable ≡ getD U j noTable) 
 pub described-here : {d : Bytes} {p k w e : ℕ} → ReadAt d p k w e → (T : Tables) → getD T k noTable ≡ tableBy (kindAt d p) (contentAt d p) → Describes d T k w
 unfolding tableBy
 described-here {d} {p} {k} R T e = described-same (tableOf (contentBy (kindAt d p) (contentAt d p)) ∷ []) T 0 k (sym e) (described-alone R (contentAt d p) refl)
+
+pub full-here : {d : Bytes} {p k w e : ℕ} → ReadAt d p k w e → subsetIn w ≡ 0
+full-here {d} {p} R = rw (← R .word) (subset-in (kindAt d p) (contentAt d p) (p + 4 + boundsAt) (fit (contentAt d p) (R .fitting)))

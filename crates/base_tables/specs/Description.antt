@@ -1,8 +1,9 @@
 -- A table's description: the one word that the engine keeps of a table. Collection (2 bits), columns (4), rows (11), kind (1: 0 by rows, 1 by columns),
--- subset of rows (12), and above them the position of the table's first cell in the data. The subset has no meaning yet: 0.
+-- subset of rows (12), and above them the position of the table's first cell in the data. The subset has a bit for each of the first 12 rows that are
+-- stored, the first row's the lowest, set where the row is left out; `rows` is how many are not. A table that is read has subset 0: all rows.
 use mathlib.Core.Path.{_≡_}
 use mathlib.Core.Bool.{Bool, true, false}
-use mathlib.Core.List.{List}
+use mathlib.Core.List.{List, [], _∷_}
 use Prim.Native.Nat.{ℕ, zero, suc, _+_, _-_, _*_, _/_, _%_, _≤_, _<_, _^_}
 use lib.Dec.{eqb, ltb, leb}
 use lib.ListN.{length, getD}
@@ -89,9 +90,39 @@ placeIn w r c = positionIn w + 4 * (columnsIn w * r + c)
 abbrev pub columnPlaceIn : ℕ → ℕ → ℕ
 columnPlaceIn w c = positionIn w + 4 * (rowsIn w * c)
 
--- the number of that cell's four bytes, by either
+-- the number of that cell's four bytes, by either, of all rows that are stored
+unfoldable pub storedWordIn : Bytes → ℕ → ℕ → ℕ → ℕ
+storedWordIn d w r c = pick (eqb (kindIn w) 1) (summed d (columnPlaceIn w c) (suc r)) (four d (placeIn w r c))
+
+-- ---- a subset of the rows (document 02, E12): m has a bit for each of n rows, set where the row is left out
+abbrev pub subsetRows : ℕ
+subsetRows = 12
+
+-- how many are left out
+unfoldable pub onesIn : ℕ → ℕ → ℕ
+onesIn zero m = 0
+onesIn (suc n) m = m % 2 + onesIn n (m / 2)
+
+-- which of the n rows is row r of those that are not: the first where that is not left out and r is 0, else one behind
+unfoldable pub keptRow : ℕ → ℕ → ℕ → ℕ
+keptRow zero m r = 0
+keptRow (suc n) m r = pick (ltb r (1 - m % 2)) 0 (suc (keptRow n (m / 2) (r - (1 - m % 2))))
+
+-- the rows that are not
+unfoldable pub kept : {A : Type 0} → ℕ → List A → List A
+kept m [] = []
+kept m (a ∷ l) = pick (eqb (m % 2) 0) (a ∷ kept (m / 2) l) (kept (m / 2) l)
+
+-- the description of all rows that are stored; that of the rows that m does not leave out, where w has them all
+unfoldable pub wholeIn : ℕ → ℕ
+wholeIn w = w - oneSubset * subsetIn w + oneRow * onesIn subsetRows (subsetIn w)
+
+unfoldable pub withoutIn : ℕ → ℕ → ℕ
+withoutIn w m = w + oneSubset * m - oneRow * onesIn subsetRows m
+
+-- the number of the four bytes of the cell in row r, of the rows that w does not leave out, and column c
 unfoldable pub wordIn : Bytes → ℕ → ℕ → ℕ → ℕ
-wordIn d w r c = pick (eqb (kindIn w) 1) (summed d (columnPlaceIn w c) (suc r)) (four d (placeIn w r c))
+wordIn d w r c = pick (fullIn w) (storedWordIn d w r c) (storedWordIn d (wholeIn w) (keptRow subsetRows (subsetIn w) r) c)
 
 -- that cell; 0 outside
 unfoldable pub cellIn : Bytes → ℕ → ℕ → ℕ → ℤ
@@ -103,6 +134,7 @@ placedIn d w = pick (fullIn w) (leb (placeIn w (rowsIn w) 0) (length d)) false
 
 -- What every cell is stored as stands in the data, by rows or by columns: all that a loop over cells asks of a table.
 pub record Placed (d : Bytes) (w : ℕ) : Type 0 where
+  pub full : fullIn w ≡ true
   pub by-rows : {r c : ℕ} → r < rowsIn w → c < columnsIn w → placeIn w r c + 4 ≤ length d
   pub by-columns : {r c : ℕ} → r < rowsIn w → c < columnsIn w → columnPlaceIn w c + 4 * r + 4 ≤ length d
   pub low : {r c : ℕ} → r < rowsIn w → c < columnsIn w → wordIn d w r c < 2 ^ 32
@@ -130,7 +162,6 @@ pub record Describes (d : Bytes) (T : Tables) (k w : ℕ) : Type 0 where
   pub most-columns : columnsOf T k ≤ 8
   pub rows : rowsIn w ≡ length (rowsOf T k)
   pub most-rows : length (rowsOf T k) ≤ 1024
-  pub subset : subsetIn w ≡ 0
   pub row : (r : ℕ) → r < length (rowsOf T k) → getD (rowsOf T k) r junk ≡ rec (cellsIn d w r 0 (columnsOf T k))
   pub cell : (r c : ℕ) → r < length (rowsOf T k) → c < columnsOf T k → cellIn d w r c ≡ asInt (fieldOf c (getD (rowsOf T k) r junk))
   pub bound : (c : ℕ) → boundIn d w c ≡ boundOf T k c

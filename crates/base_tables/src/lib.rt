@@ -8,7 +8,7 @@ ghost use Rattle.spec_encoding.specs.Record.{four, signed};
 ghost use lib.Dec.{leb, eqb};
 ghost use Rattle.spec_encoding.specs.Columns.{plus, unfolded, summed};
 ghost use Rattle.spec_encoding.specs.Data.{fits, isKind, contentByRows, contentBy, tableBy, bounded};
-ghost use Rattle.base_tables.specs.Description.{kindBit, descriptionOf, collectionIn, columnsIn, rowsIn, kindIn, presentIn, tableIn, descriptionIn, placeIn, columnPlaceIn, PlacedPost, CellPost, BoundPost};
+ghost use Rattle.base_tables.specs.Description.{kindBit, descriptionOf, collectionIn, columnsIn, rowsIn, kindIn, presentIn, tableIn, descriptionIn, subsetIn, fullIn, subsetRows, onesIn, keptRow, wholeIn, withoutIn, placeIn, columnPlaceIn, storedWordIn, wordIn, PlacedPost, CellPost, BoundPost};
 ghost use Rattle.base_tables.specs.ColumnBounds.{ColumnPre, ColumnWithinPost, ColumnBoundedPost};
 ghost use Rattle.base_tables.specs.DataReader.{headerGives, headerAt, numberedTable, tableAt, ReadDataPost};
 use base_scratch::DESCRIPTIONS;
@@ -53,12 +53,15 @@ const ONE_SUBSET: u64 = 262144;
 
 const ONE_POSITION: u64 = 1073741824;
 
-// So many numbers of columns and rows has such a word, and so many subsets, of which 0 is all rows.
+// So many numbers of columns and rows has such a word, and so many subsets, of which 0 leaves no row out.
 const COLUMNS: u64 = 16;
 
 const ROWS: u64 = 2048;
 
 const SUBSETS: u64 = 4096;
+
+// A subset is of a table of so many rows at most: it has a bit for each, set where the row is left out.
+pub const SUBSET_ROWS: usize = 12;
 
 // A whole record of kind 20 or 23 with the length of its content, or none.
 pub enum TableHeader {
@@ -436,6 +439,88 @@ pub fn placed(data: &[u8], w: u64) -> bool
     false
 }
 
+// Whether w leaves no row out.
+pub fn full(w: u64) -> bool
+    ensures { λ r. ⌜ r ≡ fullIn w ⌝ }
+{
+    w / ONE_SUBSET % SUBSETS == 0
+}
+
+// How many rows m leaves out.
+fn ones(m: u64) -> u64
+    requires { ⌜ m < 4096 ⌝ }
+    ensures { λ n. ⌜ (n ≡ onesIn subsetRows m) × (n ≤ m) ⌝ }
+{
+    let mut x = m;
+    let mut n = 0;
+    let mut i = 0;
+    while i < SUBSET_ROWS {
+        n += x % 2;
+        x = x / 2;
+        i += 1;
+    }
+    n
+}
+
+// Which of the stored rows is row r of those that m does not leave out.
+fn kept_row(m: u64, r: usize) -> usize
+    requires { ⌜ m < 4096 ⌝ }
+    ensures { λ q. ⌜ (q ≡ keptRow subsetRows m r) × (q ≤ 12) ⌝ }
+{
+    let mut x = m;
+    let mut before = r;
+    let mut q = 0;
+    while q < SUBSET_ROWS {
+        let here = 1 - (x % 2) as usize;
+        if before < here {
+            return q;
+        }
+        before -= here;
+        x = x / 2;
+        q += 1;
+    }
+    q
+}
+
+// The description of all rows that are stored, where w leaves those of m out.
+fn whole(w: u64, m: u64) -> u64
+    requires { ⌜ m ≡ subsetIn w ⌝ }
+    ensures { λ v. ⌜ v ≡ wholeIn w ⌝ }
+{
+    w - ONE_SUBSET * m + ONE_ROW * ones(m)
+}
+
+// The description of the rows that m does not leave out, where w has them all.
+pub fn without(w: u64, m: u64) -> u64
+    requires { ⌜ (subsetIn w ≡ 0) × (m < 4096) ⌝ }
+    ensures { λ v. ⌜ v ≡ withoutIn w m ⌝ }
+{
+    w + ONE_SUBSET * m - ONE_ROW * ones(m)
+}
+
+// The four bytes of the cell in row r and column c, of all rows that are stored.
+fn stored_word(data: &[u8], w: u64, r: usize, c: usize) -> usize
+    requires { ⌜ (r < 2048) × (c < 16) ⌝ }
+    ensures { λ x. ⌜ (x ≡ storedWordIn (now («data» .entry)) w r c) × (x < 2 ^ 32) ⌝ }
+{
+    if by_columns(w) {
+        return sum_down(data, column_place(w, c), r + 1) as usize;
+    }
+    four_at(data, place(w, r, c))
+}
+
+// The same of the rows that w does not leave out.
+fn cell_word(data: &[u8], w: u64, r: usize, c: usize) -> usize
+    requires { ⌜ (r < 2048) × (c < 16) ⌝ }
+    ensures { λ x. ⌜ (x ≡ wordIn (now («data» .entry)) w r c) × (x < 2 ^ 32) ⌝ }
+{
+    let m = w / ONE_SUBSET % SUBSETS;
+    if m == 0 {
+        return stored_word(data, w, r, c);
+    }
+    stored_word(data, whole(w, m), kept_row(m, r), c)
+}
+
 // The cell in row r and column c of the table that w describes; 0 outside.
 pub fn cell(data: &[u8], w: u64, r: usize, c: usize) -> i64
     ensures { λ z. ⌜ CellPost (now («data» .entry)) w r c z ⌝ }
@@ -447,10 +532,7 @@ pub fn cell(data: &[u8], w: u64, r: usize, c: usize) -> i64
     if width <= c {
         return 0;
     }
-    if by_columns(w) {
-        return signed_of(sum_down(data, column_place(w, c), r + 1) as usize);
-    }
-    signed_of(four_at(data, place(w, r, c)))
+    signed_of(cell_word(data, w, r, c))
 }
 
 // The bound that column c of the table that w describes declares: it stands before the first cell. 0 outside.

@@ -1,5 +1,5 @@
 -- `base_checkpoints::uses_checkpoint` meets its contract, by Laws.
-use Rattle.base_checkpoints.proofs.Laws.{unused-row, unused-column, unused-wide, unused-first, used-by}
+use Rattle.base_checkpoints.proofs.Laws.{unused-row, unused-column, unused-wide, unused-first, used-by, unused-rows}
 use borrow.Author.Needs.{needs}
 use Rattle.base_checkpoints.proofs.uses_checkpoint.Statement.{statement}
 use Rattle.base_checkpoints.proofs.uses_checkpoint.Tie as tie
@@ -15,4 +15,6 @@ uses-checkpoint-spec =
     (λ c. unused-wide (c .before .before .before .before .before .args .w) (c .before .before .before .before .before .args .r) (c .before .before .before .before .before .args .c) (c .before .before .before .before .rows .ensures) (c .before .before .before .if1 .left) (c .before .before .columns .ensures) (c .before .if2 .left) (c .if3 .taken))
     (λ c. unused-first (c .before .before .before .before .before .before .args .w) (c .before .before .before .before .before .before .args .r) (c .before .before .before .before .before .before .args .c) (c .before .before .before .before .before .rows .ensures) (c .before .before .before .before .if1 .left) (c .before .before .before .columns .ensures) (c .before .before .if2 .left) (c .before .if3 .left) (c .if4 .taken))
     (λ c κs. search needs)
-    (λ c. used-by (c .before .before .before .before .before .before .before .args .w) (c .before .before .before .before .before .before .before .args .r) (c .before .before .before .before .before .before .before .args .c) (c .before .before .before .before .before .before .rows .ensures) (c .before .before .before .before .before .if1 .left) (c .before .before .before .before .columns .ensures) (c .before .before .before .if2 .left) (c .before .before .if3 .left) (c .before .if4 .left) (c .by-columns .ensures)))
+    (λ c κs. search needs)
+    (λ c. used-by (c .before .before .before .before .before .before .before .before .before .args .w) (c .before .before .before .before .before .before .before .before .before .args .r) (c .before .before .before .before .before .before .before .before .before .args .c) (c .before .before .before .before .before .before .before .before .rows .ensures) (c .before .before .before .before .before .before .before .if1 .left) (c .before .before .before .before .before .before .columns .ensures) (c .before .before .before .before .before .if2 .left) (c .before .before .before .before .if3 .left) (c .before .before .before .if4 .left) (c .before .before .by-columns .ensures) (c .before .if5 .taken) (c .full .ensures))
+    (λ c. unused-rows (c .before .before .before .before .before .before .before .before .args .w) (c .before .before .before .before .before .before .before .before .args .r) (c .before .before .before .before .before .before .before .before .args .c) (c .before .before .before .before .before .before .before .rows .ensures) (c .before .before .before .before .before .before .if1 .left) (c .before .before .before .before .before .columns .ensures) (c .before .before .before .before .if2 .left) (c .before .before .before .if3 .left) (c .before .before .if4 .left) (c .before .by-columns .ensures) (c .if5 .left)))

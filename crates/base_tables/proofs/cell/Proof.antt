@@ -2,7 +2,7 @@
 use native.Mathlib.Omega.{arith}
 use mir.Facts.{toZ-ofZ}
 use Rattle.base_signed.proofs.SignedWords.{fits}
-use Rattle.base_tables.proofs.ByteReaders.{rows-few, cell-below, cell-beside, cell-inside, cell-summed}
+use Rattle.base_tables.proofs.ByteReaders.{rows-few, cell-below, cell-beside, cell-inside}
 use borrow.Author.Needs.{needs}
 use Rattle.base_tables.proofs.cell.Statement.{statement}
 use Rattle.base_tables.proofs.cell.Tie as tie
@@ -16,12 +16,7 @@ returns-2 c = cell-beside (c .before .before .before .rows .ensures) (c .before 
 returns-3 : tie.Need-returns-3
 returns-3 c =
     rw (toZ-ofZ (fits (c .signed-of .ok)))
-    (cell-summed (c .before .before .before .before .before .before .before .before .rows .ensures) (c .before .before .before .before .before .before .before .if1 .left) (c .before .before .before .before .before .before .columns .ensures) (c .before .before .before .before .before .if2 .left) (c .signed-of .ensures) (c .before .before .before .before .by-columns .ensures) (c .before .before .before .if3 .taken) (c .before .before .column-place .ensures .0) (c .before .sum-down .ensures))
-
-returns-4 : tie.Need-returns-4
-returns-4 c =
-    rw (toZ-ofZ (fits (c .signed-of2 .ok)))
-    (cell-inside (c .before .before .before .before .before .before .before .before .rows .ensures) (c .before .before .before .before .before .before .before .if1 .left) (c .before .before .before .before .before .before .columns .ensures) (c .before .before .before .before .before .if2 .left) (c .signed-of2 .ensures) (c .before .before .before .before .by-columns .ensures) (c .before .before .before .if3 .left) (c .before .before .place .ensures .0) (c .before .four-at .ensures .0))
+    (cell-inside (c .before .before .before .before .before .rows .ensures) (c .before .before .before .before .if1 .left) (c .before .before .before .columns .ensures) (c .before .before .if2 .left) (c .signed-of .ensures) (c .before .cell-word .ensures .0))
 
 pub cell-spec : {M : Type 1} → statement M
 cell-spec =
@@ -33,12 +28,4 @@ cell-spec =
     returns-2
     (λ c κs. search needs)
     (λ c κs. search needs)
-    (λ c. search needs)
-    (λ c κs. (c .column-place .ensures .1, omega (arith, rows-few (c .before .before .before .before .before .before .before .before .args .w), c .before .before .before .before .before .before .rows .ensures, c .before .before .before .before .before .if1 .left)))
-    (λ c. search needs)
-    (λ c κs. search needs)
-    returns-3
-    (λ c κs. search needs)
-    (λ c κs. search needs)
-    (λ c κs. search needs)
-    returns-4)
+    returns-3)
