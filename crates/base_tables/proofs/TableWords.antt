@@ -7,7 +7,7 @@ use native.Mathlib.Numerals.{one-add, unary-clauses}
 use native.Mathlib.Omega.{arith}
 use borrow.Author.Tests.{lt-ltb, le-ltb, ltb-true}
 use lib.Dec.{ltb, leb}
-use lib.ListN.{getD}
+use lib.ListN.{length, getD}
 use Rattle.spec_calculus.specs.Lists.{pick}
 use Rattle.spec_calculus.specs.Syntax.{Collection, list, bag, set}
 use Rattle.spec_calculus.specs.Value.{Tables, isThere}
@@ -49,6 +49,9 @@ by-number bag = refl
 by-number set = refl
 
 -- ---- the tables that were read
+pub numbers-eight : (d : Bytes) {T : Tables} → readData d ≡ got T → length T ≡ mostTables
+numbers-eight d h = numbered d h .tables
+
 module _ {d : Bytes} {T : Tables} {s : List ℕ} (S : Stored d s) (h : readData d ≡ got T) (k : ℕ) where
   pub present-is : presentIn s k ≡ isThere T k
   present-is = present-word (numbered d h) s (S .each) k
