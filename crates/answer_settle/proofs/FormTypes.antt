@@ -22,7 +22,7 @@ ran-behind done S = refl
 ran-behind (gen g k q) S = ran-behind q (upd g true S)
 ran-behind (cond t q) S = ran-behind q S
 
-module _ {d : Bytes} {s : List ℕ} (H : Held d s) where
+module _ {d : Bytes} {s : List ℕ} (H : Held d (tablesIn d) s) where
   abbrev T : Tables
   T = tablesIn d
 

@@ -20,7 +20,7 @@ use Rattle.form_words.specs.FormTree.{formTree, left}
 use Rattle.form_words.proofs.ReadBack.{read-back}
 use Rattle.form_prepared.specs.PreparedQuestion.{Prepared}
 use Rattle.form_env.specs.Environment.{envOf, tablesIn, Held}
-use Rattle.form_env.proofs.BoundRows.{tables-in, env-empty}
+use Rattle.form_env.proofs.BoundRows.{tables-in, env-empty, held-read}
 use Rattle.answer_types.proofs.RawValueType.{SomeF, Solid, SolidF, Even}
 use Rattle.answer_settle.proofs.ChoiceSorts.{normal-even}
 use Rattle.answer_writer.specs.RecordFields.{filled, someF, filledF}
@@ -56,13 +56,8 @@ module _ {d : Bytes} {a : Accepted} {s : List ℕ} (P : Prepared d a s) where
   pub passed : Passed a
   passed = judged (a .tables) (a .lent) (a .question) a (P .judged)
 
-  pub held : Held d s
-  held = record {
-    read = P .tables ∙ ap got (sym tables-are);
-    stored = P .stored;
-    checkpointed = P .checkpointed;
-    long = omega (arith, P .long);
-  }
+  pub held : Held d (tablesIn d) s
+  held = held-read (P .tables ∙ ap got (sym tables-are)) (P .stored) (P .checkpointed) (omega (arith, P .long))
 
   pub form-is : (f : ℕ) → left 0 < f → formTree f s 0 ≡ asForm (a .form)
   form-is f l = read-back (asForm (a .form)) s 0 (P .fits) (P .lent) (omega (arith, P .few)) (P .held) f l

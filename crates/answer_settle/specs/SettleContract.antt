@@ -14,12 +14,12 @@ use Rattle.spec_outcome.specs.Outcome.{G, written}
 use Rattle.form_words.specs.FormTree.{formTree, left}
 use Rattle.form_prepared.specs.PreparedQuestion.{Prepared}
 use Rattle.spec_outcome.specs.Gives.{Settles}
-use Rattle.form_env.specs.Environment.{Held}
+use Rattle.form_env.specs.Environment.{Held, tablesIn}
 use Rattle.form_env.specs.NamedTables.{tableOf, Named}
 
 -- scratch has the question's tables, its normal form, and each generator's table still
 pub record Still (d : Bytes) (a : Accepted) (s : List ℕ) : Type 0 where
-  pub held : Held d s
+  pub held : Held d (tablesIn d) s
   pub named : Named (tableOf s) (asForm (a .form))
   pub form : formTree (suc (left 0)) s 0 ≡ asForm (a .form)
 

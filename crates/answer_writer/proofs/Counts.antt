@@ -146,7 +146,7 @@ rows-upd g {v} ρ s R x = go (eqb g x)
 abbrev valueOf : Bytes → Form → Env → Value
 valueOf d t ρ = value raw (tablesIn d) t ρ
 
-module _ {d : Bytes} {s : List ℕ} (H : Held d s) where
+module _ {d : Bytes} {s : List ℕ} (H : Held d (tablesIn d) s) where
   loops-whole : (k : Env → List Value) → ((σ : Env) → Rows σ → All ExactCounts (k σ)) → (q : Clauses) (ρ : Env) → Rows ρ → All ExactCounts (loops raw (tablesIn d) q k ρ)
   unfolding loops
   loops-whole k h done ρ R = h ρ R

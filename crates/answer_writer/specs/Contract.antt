@@ -9,4 +9,4 @@ use Rattle.answer_writer.specs.LaidWords.{pt, lays, cutWords}
 
 -- the row of generator g
 pub record RowPost (d : Bytes) (s : List ℕ) (lim : ℕ) (o : List ℤ) (g p : ℕ) (o′ : List ℤ) (r : ℕ) : Type 0 where
-  pub is : Held d s → pt o′ r ≡ lays lim (cutWords (envOf (tablesIn d) s g)) (pt o p)
+  pub is : Held d (tablesIn d) s → pt o′ r ≡ lays lim (cutWords (envOf (tablesIn d) s g)) (pt o p)

@@ -205,8 +205,11 @@ module _ (d : Bytes) (w r c : ℕ) {n x : ℕ} (e : n ≡ subsetIn w) where
 
   pub word-kept : (n ≡ 0 → ⊥) → {v q : ℕ} → v ≡ wholeIn w → q ≡ keptRow subsetRows n r → (x ≡ storedWordIn d v q c) × (x < 2 ^ 32) → (x ≡ wordIn d w r c) × (x < 2 ^ 32)
   unfolding wordIn pick
-  word-kept z ev eq h = (h .0 ∙ ap₂ (λ (y p : ℕ). storedWordIn d y p c) ev (eq ∙ ap (λ (k : ℕ). keptRow subsetRows k r) e)
-      ∙ sym (ap (λ b. pick b (storedWordIn d w r c) (storedWordIn d (wholeIn w) (keptRow subsetRows (subsetIn w) r) c)) (ne-eqb (subsetIn w) 0 (λ y. z (e ∙ y)))), h .1)
+  word-kept z ev eq h = (
+    h .0 ∙ ap₂ (λ (y p : ℕ). storedWordIn d y p c) ev (eq ∙ ap (λ (k : ℕ). keptRow subsetRows k r) e)
+        ∙ sym (ap (λ b. pick b (storedWordIn d w r c) (storedWordIn d (wholeIn w) (keptRow subsetRows (subsetIn w) r) c)) (ne-eqb (subsetIn w) 0 (λ y. z (e ∙ y)))),
+    h .1,
+  )
 
 -- placed
 pub row-within : {m r n c : ℕ} → r < n → c < m → m * r + c + 1 ≤ m * n

@@ -11,10 +11,10 @@ use Rattle.loop_scalar.specs.Contract.{headsAt}
 
 -- the heads behind the clauses at i
 pub record HeadsPost {X : Type 0} (acts : List Value → X → X) (d : Bytes) (s : List ℕ) (i : ℕ) (x : X) (s′ : List ℕ) (y : X) : Type 0 where
-  pub is : (f : ℕ) → left i + 1 < f → y ≡ acts (headsAt d f s i (envOf (tablesIn d) s)) x
+  pub is : (f : ℕ) → left i + 1 < f → y ≡ acts (headsAt (tablesIn d) f s i (envOf (tablesIn d) s)) x
   pub kept : s′ ≡ s
 
 -- for each row of table k as generator g
 pub record RowsPost {X : Type 0} (acts : List Value → X → X) (d : Bytes) (s : List ℕ) (i g k : ℕ) (x : X) (s′ : List ℕ) (y : X) : Type 0 where
-  pub is : (f : ℕ) → left i + 1 < f → y ≡ acts (bindL (rowsOf (tablesIn d) k) (λ v. headsAt d f s i (upd g v (envOf (tablesIn d) s)))) x
+  pub is : (f : ℕ) → left i + 1 < f → y ≡ acts (bindL (rowsOf (tablesIn d) k) (λ v. headsAt (tablesIn d) f s i (upd g v (envOf (tablesIn d) s)))) x
   pub kept : s′ ≡ s

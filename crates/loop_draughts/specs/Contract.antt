@@ -9,6 +9,7 @@ use Rattle.spec_calculus.specs.Value.{Value}
 use Rattle.spec_encoding.specs.Record.{Bytes}
 use Rattle.spec_tariff.specs.Tariff.{inReach}
 use Rattle.form_words.specs.FormTree.{left}
+use Rattle.form_env.specs.Environment.{tablesIn}
 use Rattle.answer_writer.specs.LaidWords.{bump, cutWords}
 use Rattle.loop_scalar.specs.Contract.{valueAt}
 use Rattle.loop_collect.specs.HeadLoops.{HeadsPost, RowsPost}
@@ -19,7 +20,7 @@ abbrev pub secondWord : Value → ℤ
 secondWord v = getD (cutWords v) 1 (pos 0)
 
 pub record DraughtPost (d : Bytes) (s : List ℕ) (i : ℕ) (s′ : List ℕ) (r : ℤ) : Type 0 where
-  pub is : (f : ℕ) → left i < f → r ≡ secondWord (valueAt d f s i)
+  pub is : (f : ℕ) → left i < f → r ≡ secondWord (valueAt (tablesIn d) f s i)
   pub kept : s′ ≡ s
 
 -- how many heads, and whether all of their draughts are in reach
