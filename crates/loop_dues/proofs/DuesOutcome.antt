@@ -89,24 +89,24 @@ judged-within t (v ∷ l) n b h =
 -- ---- what is asked
 module _ {d : Bytes} {s : List ℕ} (A : Asked d s) {b : Bool} (B : ShipsPost s b) (e : b ≡ true) where
   pub ready-judge : CollectPre d s 2 1
-  ready-judge = ready-collect (record { form = asked-ready A; below = omega arith }) (ships-collection B e)
+  ready-judge = ready-collect (record { form = asked-ready A .form; held = asked-ready A .held; below = omega arith }) (ships-collection B e)
 
   -- how many are judged is at most 2^62
   pub few : {h : ℕ} {x r : Judged} {s′ : List ℕ} → x .count ≡ 0 → JudgePost d h s 1 x s′ r → r .count ≤ numberLimit
   unfolding countIn
   few {h} {x} {r} z J =
       let R = ready-judge in
-      omega (arith, ap countIn (J .heads .is (R .fuel) (R .enough)), judged-count h (headsAt d (R .fuel) s 1 (envOf (tablesIn d) s)) (x .count) (x .within) (omega (arith, z)))
+      omega (arith, ap countIn (J .heads .is (R .fuel) (R .enough)), judged-count h (headsAt (tablesIn d) (R .fuel) s 1 (envOf (tablesIn d) s)) (x .count) (x .within) (omega (arith, z)))
 
   pub ready-write : {g : ℕ} {s′ : List ℕ} → s′ ≡ s → g ≤ numberLimit → WritePre d s′ g 0
-  ready-write {g} k l = subst (λ (x : List ℕ). WritePre d x g 0) (sym k) (record { form = asked-ready A; below = l })
+  ready-write {g} k l = subst (λ (x : List ℕ). WritePre d x g 0) (sym k) (record { form = asked-ready A .form; held = asked-ready A .held; below = l })
 
 -- ---- a question that gives ships
 module _ {d : Bytes} {a : Accepted} {s : List ℕ} (P : Prepared d a s) (q : Lent) (r : readLent q ≡ got (posedOf a)) {b : Bool} (B : ShipsPost s b) where
   module _ (e : b ≡ true) where
     -- the heads, at enough fuel
     abbrev heads : List Value
-    heads = headsAt d (suc (left 0)) s 1 (envOf (tablesIn d) s)
+    heads = headsAt (tablesIn d) (suc (left 0)) s 1 (envOf (tablesIn d) s)
 
     raw-heads : normalValue raw (a .tables) (a .form) ≡ Va.coll (fromList heads)
     unfolding formTree
@@ -179,7 +179,7 @@ module _ {d : Bytes} {a : Accepted} {s : List ℕ} (P : Prepared d a s) (q : Len
           raw-words : o₁ ≡ words (Va.coll (fromList (heads e))) ++ drop (G a) o
           unfolding G
           raw-words =
-              let v : valueAt d (suc (left 0)) s 0 ≡ Va.coll (fromList (heads e)) = raw-value-is P (suc (left 0)) (omega arith) ∙ raw-heads e in
+              let v : valueAt (tablesIn d) (suc (left 0)) s 0 ≡ Va.coll (fromList (heads e)) = raw-value-is P (suc (left 0)) (omega arith) ∙ raw-heads e in
               laid-full (held P) (suc (left 0)) g o (ap filled (form-is P (suc (left 0)) (omega arith)) ∙ no-empty P q r)
               (omega (arith, E, count-all, ap (λ (u : Value). length (words u)) v, ships-size (heads e) (all-ships e))) (omega (arith, E)) (omega (arith, E)) (W .is (suc (left 0)) (omega arith))
               ∙ ap (λ (u : Value). words u ++ drop (length (words u)) o) v

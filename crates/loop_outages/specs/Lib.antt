@@ -1,0 +1,2 @@
+-- What the functions that count outages ask and give.
+pub mod Contract

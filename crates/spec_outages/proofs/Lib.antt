@@ -1,0 +1,3 @@
+-- Laws of counted outages.
+pub mod Subsets
+pub mod WithRows
