@@ -29,9 +29,10 @@ use Rattle.form_words.proofs.NodeWords.{formNode}
 use Rattle.base_syntax.specs.MonoidWord.{monoidOf}
 use Rattle.form_prepared.specs.PreparedQuestion.{Prepared}
 use Rattle.form_prepared.proofs.SettledOutcome.{settles-refused, settles-got}
+use Rattle.answer_settle.proofs.PreparedQuestion.{passed, form-is}
 use Rattle.loop_outages.specs.Contract.{truthRead, truthAsked, countableIn, countTo, TruthsPre, TruthsPost}
 use Rattle.loop_outages.proofs.SubsetCounts.{count-same, count-subsets}
-use Rattle.loop_outages.proofs.SubsetTables.{passed, form-is, countable-is, rows-said, number, held-subset, holds-pre, truth-is}
+use Rattle.loop_outages.proofs.SubsetTables.{countable-is, rows-said, number, held-subset, holds-pre, truth-is}
 
 -- ---- "another monoid": that of the question as typed is that of the form in scratch
 monoid-node : (s : List ℕ) (f : ℕ) (n : FormNode) {m : Monoid} {q : Clauses} {h : Form} → formNode f s 0 n ≡ comp m q h → truthRead (monoidIn n) ≡ asksTruth m

@@ -20,7 +20,7 @@ use Rattle.spec_normal_form.specs.Form.{Form, asForm, value, normalValue}
 use Rattle.spec_normal_form.specs.Bound.{Declared, within}
 use Rattle.spec_normal_form.proofs.GeneratorTables as Ge
 use Rattle.spec_outcome.specs.Acceptance.{Accepted}
-use Rattle.spec_outcome.proofs.Checks.{Passed, judged, form-within}
+use Rattle.spec_outcome.proofs.Checks.{form-within}
 use Rattle.spec_outages.specs.Outages.{withRows, countable}
 use Rattle.spec_outages.proofs.WithRows.{with-length, with-other, with-rows, with-kind, with-columns, with-there, with-bound, with-fit, truth-over}
 use Rattle.base_signed.proofs.SignedWords.{by-test, no}
@@ -31,12 +31,12 @@ use Rattle.base_tables.proofs.TableCells.{described-same}
 use Rattle.base_tables.proofs.Subsets.{kept-length, kept-each, height, described-subset}
 use Rattle.base_checkpoints.specs.Checkpoints.{checkpointAt, checkpointIn, tallIn, checkpointOf, Checkpointed}
 use Rattle.form_words.specs.FormTree.{formTree, left}
-use Rattle.form_words.proofs.ReadBack.{read-back}
 use Rattle.form_env.specs.Environment.{slots, slotOf, rowSpan, envOf, Held, declaredIn}
 use Rattle.form_env.specs.NamedTables.{Rowless, tableOf, Named}
 use Rattle.form_env.proofs.SameForm.{form-same}
 use Rattle.form_env.proofs.BoundRows.{held-read, rows-in, named-declared, env-empty}
 use Rattle.form_prepared.specs.PreparedQuestion.{Prepared}
+use Rattle.answer_settle.proofs.PreparedQuestion.{passed, form-is}
 use Rattle.loop_scalar.specs.Contract.{valueAt, Evaluable}
 use Rattle.loop_outages.specs.Contract.{countableIn, leaving, HoldsPre}
 
@@ -72,12 +72,6 @@ low-table w p = by-test (eqb (kindIn w) 1) (λ e. rw e (lt-leb 352 (rowsIn w) (o
 module _ {d : Bytes} {a : Accepted} {s : List ℕ} (P : Prepared d a s) where
   abbrev T : Tables
   T = a .tables
-
-  pub passed : Passed a
-  passed = judged (a .tables) (a .lent) (a .question) a (P .judged)
-
-  pub form-is : (f : ℕ) → left 0 < f → formTree f s 0 ≡ asForm (a .form)
-  form-is f l = read-back (asForm (a .form)) s 0 (P .fits) (P .lent) (omega (arith, P .few)) (P .held) f l
 
   held-all : Held d T s
   held-all = held-read (P .tables) (P .stored) (P .checkpointed) (omega (arith, P .long))
@@ -167,7 +161,7 @@ module _ {d : Bytes} {a : Accepted} {s : List ℕ} (P : Prepared d a s) where
 
       -- ---- the form is the same, and no generator stands for a row
       form-here : (f : ℕ) → left 0 < f → formTree f s′ 0 ≡ asForm (a .form)
-      form-here f p = form-else s k (withoutIn w m) number f ∙ form-is f p
+      form-here f p = form-else s k (withoutIn w m) number f ∙ form-is P f p
 
       named-here : Named (tableOf s′) (asForm (a .form))
       named-here = subst (λ (C : ℕ → ℕ). Named C (asForm (a .form))) (fun-ext λ g. ap (λ (e : ℕ). e / rowSpan) (sym (slot-else s k (withoutIn w m) number g))) (P .named)
@@ -188,7 +182,7 @@ module _ {d : Bytes} {a : Accepted} {s : List ℕ} (P : Prepared d a s) where
             fuel = suc (left 0);
             enough = omega arith;
             named = subst (Ge.Named C (boundOf U)) (sym e) N;
-            small = ap (within C) e ∙ form-within passed C (subst (λ (B : ℕ → ℕ → ℕ). Ge.Named C B (asForm (a .form))) bounds-here N);
+            small = ap (within C) e ∙ form-within (passed P) C (subst (λ (B : ℕ → ℕ → ℕ). Ge.Named C B (asForm (a .form))) bounds-here N);
           }
 
       pub holds-pre : HoldsPre d s k w m
@@ -203,4 +197,4 @@ module _ {d : Bytes} {a : Accepted} {s : List ℕ} (P : Prepared d a s) where
       truth-is f p =
           ap (λ (t : Form). asBool (value raw (withRows T k (kept m rows)) t (envOf (withRows T k (kept m rows)) s′))) (form-here f p)
           ∙ ap (λ (ρ : Env). asBool (value raw (withRows T k (kept m rows)) (asForm (a .form)) ρ)) empty
-          ∙ sym (truth-over T k (kept m rows) passed refl)
+          ∙ sym (truth-over T k (kept m rows) (passed P) refl)
