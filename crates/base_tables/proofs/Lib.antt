@@ -2,7 +2,7 @@
 pub mod DataRecords
 pub mod ByteReaders
 mod ColumnBounds
-mod TableCells
+pub mod TableCells
 mod NumberedTables
 mod ReadLoop
 pub mod ReadData

@@ -12,6 +12,7 @@ use lib.ListN.{length, getD}
 use lib.IntN.{ℤ, pos, natAbs}
 use Rattle.spec_calculus.specs.Lists.{pick}
 use Rattle.spec_calculus.specs.Value.{Value, Values, vcons, num, rec, junk, asInt, fieldOf, Tables, kindOf, columnsOf, boundOf, rowsOf}
+use Rattle.spec_calculus.proofs.Lists.{All}
 use Rattle.spec_encoding.specs.Record.{Bytes, signed}
 use Rattle.base_signed.proofs.SignedWords.{by-test}
 use Rattle.base_tables.specs.Description.{oneRow, oneSubset, onePosition, collectionIn, columnsIn, rowsIn, kindIn, subsetIn, fullIn, positionIn, subsetRows, onesIn, keptRow, kept, wholeIn, withoutIn, storedWordIn, wordIn, cellIn, cellsIn, boundIn, collectionNumber, Describes}
@@ -185,6 +186,12 @@ kept-at {A} a (suc n) m (b ∷ l) r p = by-test (eqb (m % 2) 0)
     odd : (m % 2 ≡ 0 → ⊥) → eqb (m % 2) 0 ≡ false → Rest → r < length (kept (m / 2) l) → KeptAt a (suc n) m (b ∷ l) r
     odd z t I q = kept-later b l (ap (λ (x : List A). getD x r a) (kept-without m b l t)) (kept-behind n m r {q = r} (omega (arith, z)) (omega (arith, z)))
         (I r q)
+
+-- what holds of all rows holds of those
+pub kept-each : {A : Type 0} (P : A → Type 0) (m : ℕ) (l : List A) → All P l → All P (kept m l)
+unfolding kept pick
+kept-each P m [] h = tt
+kept-each P m (a ∷ l) h = by-test (eqb (m % 2) 0) (λ t. rw t (h .0, kept-each P (m / 2) l (h .1))) (λ t. rw t (kept-each P (m / 2) l (h .1)))
 
 -- where none is left out
 kept-all : (n r : ℕ) → r < n → keptRow n 0 r ≡ r

@@ -1,3 +1,4 @@
 -- Laws of counted outages.
+pub mod Cases
 pub mod Subsets
 pub mod WithRows
