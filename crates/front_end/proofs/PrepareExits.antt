@@ -39,7 +39,7 @@ use Rattle.front_bounds.specs.CutBounds.{BoundFitsPost}
 use Rattle.front_bounds.proofs.CutBounds.{verdict-is}
 use Rattle.form_env.specs.Environment.{tablesIn, Held, declaredIn}
 use Rattle.form_env.specs.NamedTables.{tableOf, NameTablesPost, Named}
-use Rattle.form_env.proofs.BoundRows.{empty-slot, tables-in, named-declared}
+use Rattle.form_env.proofs.BoundRows.{empty-slot, tables-in, named-declared, held-read}
 use Rattle.form_env.proofs.NamedTables.{Away, names-away, all-named, none-has-row, others-stay}
 use Rattle.form_prepared.specs.PreparedQuestion.{Prepared}
 use Rattle.front_end.specs.LoadedQuestion.{BehindKept}
@@ -166,8 +166,8 @@ module _ {d : Bytes} {l : Lent} {s s₁ s₀ s₄ s₂ s₃ : List ℕ} {n k : �
   tables-are : tablesIn d ≡ T
   tables-are = tables-in d (F .passed .ready .loaded .tables)
 
-  data-held : Held d s₃
-  data-held = record { read = F .passed .ready .loaded .tables ∙ ap got (sym tables-are); stored = stored; checkpointed = checkpointed; long = omega (arith, named .long, room) }
+  data-held : Held d (tablesIn d) s₃
+  data-held = held-read (F .passed .ready .loaded .tables ∙ ap got (sym tables-are)) stored checkpointed (omega (arith, named .long, room))
 
   said : a ≡ numbersFit (boundOf T) f
   said = verdict-is B (boundOf T) f numbered (subst (λ (X : Tables). Ge.Named (declaredIn d s₃) (boundOf X) (asForm f)) tables-are (named-declared data-held (asForm f) all-ranges)) fits all-there few held
