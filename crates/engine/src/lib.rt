@@ -12,6 +12,7 @@ ghost use Rattle.spec_outcome.specs.Outcome.{byLoops, byPlan, checked, planLine
 ghost use Rattle.spec_outcome.specs.Gives.{Gives};
 ghost use Rattle.spec_outcome.specs.Directions.{tableToColumns, tableToRows, Fills};
 ghost use Rattle.spec_logs.specs.PairLogs.{pairLogs};
+ghost use Rattle.spec_outages.specs.Outages.{countOutages};
 ghost use Rattle.engine.specs.Replies.{AdmitPost, Replies};
 ghost use Rattle.engine.specs.Portions.{BeginPost, PortionPost, Says, EndedPost};
 ghost use Rattle.engine.specs.Rota.{seatOf, SeatPost, TwoSeatsPost, RoundPost};
@@ -23,6 +24,7 @@ use base_scratch::WORDS;
 use exec_portions::Progress;
 use form_prepared::Answer;
 use front_end::Checked;
+use loop_outages::Counted;
 use plan_lines::Printed;
 
 // "47, a portion of 0 or above 65,535"
@@ -108,6 +110,31 @@ pub extern "C" fn dislogha_answer_by_loops(
         Admitted::Accepted => match loop_answer::answer(scratch, tables, answer) {
             Answer::Short => finish(scratch, base_refusals::ANSWER_TOO_SHORT, 0),
             Answer::Length(n) => finish(scratch, 0, n as u64),
+        },
+    }
+}
+
+// Over every subset of a table's rows: how many give true and how many false.
+#[no_mangle]
+pub extern "C" fn dislogha_count_outages(
+    tables: &[u8],
+    calendars: &[u8],
+    question: &[u8],
+    table: u64,
+    scratch: &mut [u64],
+    answer: &mut [i64],
+) -> Reply
+    ensures { λ r. ⌜ Gives (countOutages (now (tables .entry)) (lentAs (now (calendars .entry)) (now (question .entry))) table (now (scratch .entry)) (now (answer .entry))) (r .number) (r .length) (now (answer .exit)) (now (scratch .exit)) ⌝ }
+{
+    match admit(tables, calendars, question, scratch) {
+        Admitted::Scant => Reply {
+            number: base_refusals::SCRATCH_TOO_SHORT,
+            length: 0,
+        },
+        Admitted::Refused(k) => finish(scratch, k, 0),
+        Admitted::Accepted => match loop_outages::count(scratch, tables, table as usize, answer) {
+            Counted::Refused(k) => finish(scratch, k, 0),
+            Counted::Written => finish(scratch, 0, loop_outages::ANSWER_WORDS as u64),
         },
     }
 }
