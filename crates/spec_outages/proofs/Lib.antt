@@ -2,3 +2,4 @@
 pub mod Cases
 pub mod Subsets
 pub mod WithRows
+pub mod SameOutages

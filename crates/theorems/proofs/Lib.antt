@@ -2,6 +2,7 @@
 pub mod BothWays
 pub mod RowOrder
 pub mod Dues
+pub mod Outages
 pub mod Portions
 pub mod SameRun
 pub mod SameTables
