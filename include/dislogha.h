@@ -30,6 +30,9 @@
 // in centimetres, above that of the step before, and a rate in cents per metre begun (at most 10,000,000).
 // Each of these numbers has four bytes, unsigned; nothing stands behind the record.
 //
+// `count_outages` (request E12) counts over every subset of a table's rows, of 12 at most, how many give true
+// and how many false to a question that is a some or an all.
+//
 // `pair_logs` (request E11) pairs two list tables, a ship's log and a quay log, whose column 0 has seconds
 // that do not fall, and writes three such records of kind 20: pairs and singles by their rows' positions.
 //
@@ -122,6 +125,13 @@ dislogha_result dislogha_answer_with_tariff(const std::uint8_t *data, std::uint6
                                             std::uint64_t *scratch, std::uint64_t scratch_words,
                                             std::int64_t *answer, std::uint64_t answer_words) noexcept;
 
+dislogha_result dislogha_count_outages(const std::uint8_t *data, std::uint64_t data_bytes,
+                                       const std::uint8_t *calendars, std::uint64_t calendars_bytes,
+                                       const std::uint8_t *question, std::uint64_t question_bytes,
+                                       std::uint64_t table, std::uint64_t *scratch,
+                                       std::uint64_t scratch_words, std::int64_t *answer,
+                                       std::uint64_t answer_words) noexcept;
+
 dislogha_result dislogha_plan_lines(const std::uint8_t *data, std::uint64_t data_bytes,
                                     const std::uint8_t *calendars, std::uint64_t calendars_bytes,
                                     const std::uint8_t *question, std::uint64_t question_bytes,
@@ -190,6 +200,9 @@ constexpr std::uint64_t most_rows = 65535;
 constexpr std::size_t most_steps = 16;
 constexpr std::uint32_t most_cents = 10000000;
 
+// Rows of a table whose outages are counted at most.
+constexpr std::size_t most_outages = 12;
+
 // Seconds that two rows of paired logs may be apart at most.
 constexpr std::uint64_t most_tolerance = 3600;
 
@@ -257,6 +270,10 @@ enum class Refusal : std::uint64_t {
     number_out_of_bounds = 28,
     // Of `answer_with_tariff` a question that does not give a bag of records of two numbers; after 28.
     not_ships_and_draughts = 45,
+    // Of `count_outages` a question whose monoid is neither some nor all; after 28.
+    not_some_or_all = 55,
+    // Of `count_outages` a table that is absent (a number above 7, too) or has more than 12 rows; after 55.
+    no_table_of_outages = 56,
     // Of `answer_with_tariff` a draught of the answer below 0 or above the last step; after 32.
     draught_out_of_range = 46,
 
@@ -264,7 +281,7 @@ enum class Refusal : std::uint64_t {
     // Scratch under 2,048 words. Scratch stays untouched.
     scratch_too_short = 31,
     // The answer buffer has fewer than G words, G being the answer's length in normal form with
-    // each set written as a bag.
+    // each set written as a bag; of `count_outages` fewer than two.
     answer_too_short = 32,
     // The plan call's byte buffer is shorter than the plan's lines. Bytes behind the lines never
     // change.
@@ -467,6 +484,21 @@ inline Result answer_with_tariff(Bytes data, Bytes calendars, Bytes question, By
         data.first(), data.count(), calendars.first(), calendars.count(), question.first(),
         question.count(), tariff.first(), tariff.count(), scratch.first(), scratch.count(),
         answer.first(), answer.count()));
+}
+
+// How many outages are survived: over every subset of the rows of table `table`, the others being out, in how many
+// the question gives true and in how many false. Rows are taken by position, so equal ones are two; the table may be
+// one that the question does not name. `answered` and length 2: the counts, true first, which add up to 2 to the
+// rows; later words are as they were. The order of refusals: 31, the data's, 41, 21 to 28, 55, 56, 32. It answers
+// the question up to 4,096 times.
+inline Result count_outages(Bytes data, Bytes calendars, Bytes question, std::uint64_t table, Words scratch,
+                            Answer answer) noexcept {
+    if (overlaps(scratch, data, calendars, question, answer) || overlaps(answer, data, calendars, question)) {
+        return overlapping;
+    }
+    return result_of(dislogha_count_outages(data.first(), data.count(), calendars.first(), calendars.count(),
+                                            question.first(), question.count(), table, scratch.first(),
+                                            scratch.count(), answer.first(), answer.count()));
 }
 
 // The plan's lines, byte 10 after each: `answered` and the count of their bytes, which stand at the

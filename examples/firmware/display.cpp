@@ -56,6 +56,10 @@ const char *words_of(dislogha::Refusal refusal) noexcept {
         return "no bag of ships";
     case Refusal::draught_out_of_range:
         return "draught beyond steps";
+    case Refusal::not_some_or_all:
+        return "no some, no all";
+    case Refusal::no_table_of_outages:
+        return "no table / over 12";
     case Refusal::scratch_too_short:
         return "scratch too short";
     case Refusal::answer_too_short:

@@ -275,6 +275,57 @@ void charge_listing() {
     expect(Dues(5, shallow).refused(Refusal::draught_out_of_range), "110 cm is above the last step");
 }
 
+// some{ true | l <- table 1 }: whether there is a bollard at all.
+const std::vector<std::uint8_t> any_bollard{17, 0, 14, 0, 6, 7, 0, 16, 0, 3, 0, 1, 0, 15, 0, 1, 1, 0, 2, 0, 1};
+
+// A list of so many rows with one column, table 5.
+std::vector<std::uint8_t> list_of(std::uint8_t rows) {
+    std::vector<std::uint8_t> out{static_cast<std::uint8_t>(9 + 4 * rows), 0, 20, 0, 5, 1, 1, rows, 0, 0, 0, 0, 128};
+    out.resize(out.size() + 4u * rows, 3);
+    return out;
+}
+
+// The outages of a table counted into an answer of so many words, in blocks of their own.
+struct Outages {
+    std::vector<std::uint64_t> scratch;
+    std::vector<std::int64_t> answer;
+    Result result;
+
+    Outages(std::uint64_t table, std::size_t count, const std::vector<std::uint8_t> &asked = any_bollard,
+            const std::vector<std::uint8_t> &data = tables)
+        : scratch(dislogha::scratch_words + 3, rubbish), answer(count, -7),
+          result(dislogha::count_outages(bytes(data), bytes(hours), bytes(asked), table, words(scratch),
+                                         {answer.data(), answer.size()})) {}
+
+    bool counts(std::int64_t truths, std::int64_t falses) const {
+        return answers(result, 2) && cleared(scratch) && answer == std::vector<std::int64_t>{truths, falses, -7};
+    }
+    bool refused(Refusal refusal) const {
+        return refuses(result, refusal) && cleared(scratch) &&
+               std::count(answer.begin(), answer.end(), -7) == static_cast<std::ptrdiff_t>(answer.size());
+    }
+};
+
+void count_bollards() {
+    expect(Outages(1, 3).counts(3, 1), "one subset of two bollards is empty");
+    expect(Outages(0, 3).counts(4, 0), "berths that are out do not matter");
+    expect(Outages(0, 0, question).refused(Refusal::not_some_or_all), "a bag is not counted; 55 before 32");
+    expect(Outages(9, 0, question).refused(Refusal::not_some_or_all), "and before 56");
+    expect(Outages(2, 0).refused(Refusal::no_table_of_outages), "an absent table; 56 before 32");
+    expect(Outages(256, 3).refused(Refusal::no_table_of_outages), "a number is not cut to a byte");
+    expect(Outages(1, 1).refused(Refusal::answer_too_short), "one word is too few");
+    auto twelve = tables, thirteen = tables;
+    for (const std::uint8_t byte : list_of(12)) {
+        twelve.push_back(byte);
+    }
+    for (const std::uint8_t byte : list_of(13)) {
+        thirteen.push_back(byte);
+    }
+    expect(Outages(5, 3, any_bollard, twelve).counts(4096, 0), "twelve rows");
+    expect(Outages(5, 3, any_bollard, thirteen).refused(Refusal::no_table_of_outages), "thirteen are too many");
+    expect(Outages(1, 3, any_bollard, thirteen).counts(3, 1), "in the table that is asked for");
+}
+
 // Two logs, the seconds 0, 9 and 9, 12, and what a tolerance of 3 makes of them: a pair of rows 1 and 0, and
 // two singles.
 const std::vector<std::uint8_t> logs{
@@ -798,6 +849,16 @@ void check_overlap() {
     not_charged(in_last, answer, "a tariff inside scratch is not called with");
     not_charged(in_answer, answer, "nor one inside the answer");
     not_charged(bytes(tariff), in_scratch, "dues inside scratch are not written");
+    const auto not_counted = [&](Bytes lent, Answer over, const char *what) {
+        expect(overlaps(dislogha::count_outages(bytes(tables), bytes(hours), lent, 0, words(scratch), over)) &&
+                   overlaps(dislogha::count_outages(lent, bytes(hours), bytes(question), 0, words(scratch), over)) &&
+                   overlaps(dislogha::count_outages(bytes(tables), lent, bytes(question), 0, words(scratch), over)) &&
+                   scratch == before && answer[0] == -7,
+               what);
+    };
+    not_counted(in_last, answer, "outages are not counted over what is inside scratch");
+    not_counted(in_answer, answer, "nor inside the answer");
+    not_counted(bytes(question), in_scratch, "counts inside scratch are not written");
     const auto same =
         dislogha::check(bytes(question), bytes(hours), bytes(question), words(scratch));
     expect(refuses(same, Refusal::not_a_table), "data and question may be the same bytes");
@@ -811,6 +872,7 @@ int main() {
     check_listing();
     turn_listing();
     charge_listing();
+    count_bollards();
     pair_two_logs();
     for (const AnswerCall answer_by : {dislogha::answer_by_loops, dislogha::answer_by_plan}) {
         answer_listing(answer_by);

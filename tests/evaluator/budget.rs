@@ -39,6 +39,11 @@ impl Budget {
         }
     }
 
+    /// How many of so many steps were taken.
+    pub fn spent(&self, of: u64) -> u64 {
+        of.saturating_sub(self.left)
+    }
+
     /// Takes steps away; gives up where too few are left.
     pub fn spend(&mut self, steps: u64) -> Result<(), Stop> {
         match self.left.checked_sub(steps) {

@@ -1,7 +1,7 @@
-//! A second evaluator of document 01 with the landed requests of document 02 (E1, E2, E4, E5, E6, E9, E10, E11, E13), written
+//! A second evaluator of document 01 with the landed requests of document 02 (E1, E2, E4, E5, E6, E9, E10, E11, E12, E13), written
 //! from their text alone and as literally as it can be: trees are rewritten, streams are kept whole, and nothing
 //! is fast. It serves the four calls and says `Unknown` where an input would take it too long; it also charges
-//! dues by a tariff, turns tables from rows to columns and back, pairs two logs, and knows days, dates and open
+//! dues by a tariff, counts outages, turns tables from rows to columns and back, pairs two logs, and knows days, dates and open
 //! minutes.
 
 mod bounds;
@@ -14,6 +14,7 @@ mod logs;
 mod meaning;
 mod normal;
 mod operators;
+mod outages;
 mod plan;
 mod reader;
 mod tables;
@@ -21,8 +22,8 @@ mod tariff;
 mod terms;
 mod values;
 
-use budget::Stop;
 pub use budget::Unknown;
+use budget::{Budget, Stop};
 use calendars::Calendars;
 use tables::{Kind, Tables};
 use terms::Comprehension;
@@ -114,6 +115,55 @@ pub fn with_tariff(
                 Ok((tariff.dues(&words_by_loops(accepted)?)?, 0))
             })
         });
+    refusal_or(answer, refused)
+}
+
+/// Steps of the evaluator over all subsets together.
+const STEPS_OF_SUBSETS: u64 = 30_000_000;
+
+/// E12: how many subsets of a table's rows "give true and how many false. The counts, true first, are the answer's two
+/// words; 32 is then a buffer under two. 55 ..; 56 ..; both after 28, 55 first."
+pub fn count_outages(
+    data: &[u8],
+    calendars: &[u8],
+    question: &[u8],
+    table: u64,
+    scratch: usize,
+    answer_words: u64,
+) -> Result<Answer, Unknown> {
+    let answer = accept(data, calendars, question, scratch).and_then(|accepted| {
+        outages::check_monoid(&accepted.question)?;
+        let (number, table) = outages::table_of(&accepted.lent.tables, table)?;
+        if answer_words < 2 {
+            return Ok(Answer {
+                number: 32,
+                greatest: 2,
+                ..Answer::default()
+            });
+        }
+        let mut budget = Budget::new(STEPS_OF_SUBSETS, "too many subsets");
+        let mut counts = [0, 0];
+        for subset in 0..1 << table.rows.len() {
+            let lent = Lent {
+                tables: outages::with_rows_of(data, number, table, subset)?,
+                calendars: calendars::read_calendars(calendars)?,
+            };
+            let (words, steps) = meaning::counted_by_loops(&accepted.question, &lent)?;
+            budget.spend(steps)?;
+            match words[..] {
+                [1] => counts[0] += 1,
+                [0] => counts[1] += 1,
+                _ => return Err(budget::FAULT),
+            }
+        }
+        Ok(Answer {
+            number: 0,
+            length: 2,
+            words: counts.to_vec(),
+            greatest: 2,
+            offered: 0,
+        })
+    });
     refusal_or(answer, refused)
 }
 

@@ -8,7 +8,9 @@ use super::calls::{self, LentSeat, Outcome, Portioned};
 use super::generate::Input;
 use super::lent::{lengths, Unit, SCRATCH};
 use super::offers::most_offers;
-use super::open::{Call, CHECK, LINES, LOOPS, MOST_ROWS, MOST_WORDS, PLAN, PORTIONS, TARIFF};
+use super::open::{
+    Call, CHECK, LINES, LOOPS, MOST_ROWS, MOST_WORDS, OUTAGES, PLAN, PORTIONS, TARIFF,
+};
 use super::random::Random;
 use super::tally::{Place, Tally};
 use super::ways::{agree, Way, MOST_OFFERS, OTHER};
@@ -27,7 +29,7 @@ struct Both<T = i64> {
 }
 
 pub struct Alike {
-    in_words: [Both; 4],
+    in_words: [Both; 5],
     lines: Both<u8>,
     portions: [Way; 2],
     pub tally: Tally,
@@ -42,6 +44,7 @@ impl Alike {
                 Both::new([LOOPS, LOOPS], MOST_WORDS),
                 Both::new([PLAN, PLAN], MOST_WORDS),
                 Both::new([TARIFF, TARIFF], MOST_WORDS),
+                Both::new([OUTAGES, OUTAGES], MOST_WORDS),
             ],
             lines: Both::new([LINES, LINES], MOST_BYTES),
             portions: [PORTIONS, PORTIONS].map(Way::new),

@@ -67,6 +67,7 @@ impl Recorded {
                 calendars: bytes_or_none(line.get("calendars"))?,
                 question: line.get("question")?.bytes()?,
                 tariff: bytes_or_none(line.get("tariff"))?,
+                table: line.get("table").map_or(Some(0), Json::unsigned)?,
             },
             scratch: words_of(line.get("scratch")?)?,
             answer: usize::try_from(line.get("answer")?.unsigned()?).ok()?,

@@ -153,6 +153,20 @@ extern "C" {
         answer_words: usize,
     ) -> Outcome;
 
+    fn dislogha_count_outages(
+        data: *const u8,
+        data_bytes: usize,
+        calendars: *const u8,
+        calendars_bytes: usize,
+        question: *const u8,
+        question_bytes: usize,
+        table: u64,
+        scratch: *mut u64,
+        scratch_words: usize,
+        answer: *mut i64,
+        answer_words: usize,
+    ) -> Outcome;
+
     fn dislogha_pair_logs(
         data: *const u8,
         data_bytes: usize,
@@ -284,6 +298,34 @@ pub fn answer_with_tariff(
             question.len(),
             tariff.as_ptr(),
             tariff.len(),
+            scratch.as_mut_ptr(),
+            scratch.len(),
+            answer.as_mut_ptr(),
+            answer.len(),
+        )
+    }
+}
+
+/// How many subsets of a table's rows give true, and how many false.
+pub fn count_outages(
+    data: &[u8],
+    calendars: &[u8],
+    question: &[u8],
+    table: u64,
+    scratch: &mut [u64],
+    answer: &mut [i64],
+) -> Outcome {
+    // SAFETY: each pointer goes with the length of its own slice, and what is written overlaps
+    // nothing else.
+    unsafe {
+        dislogha_count_outages(
+            data.as_ptr(),
+            data.len(),
+            calendars.as_ptr(),
+            calendars.len(),
+            question.as_ptr(),
+            question.len(),
+            table,
             scratch.as_mut_ptr(),
             scratch.len(),
             answer.as_mut_ptr(),

@@ -119,6 +119,7 @@ impl Example {
             calendars: self.calendars.clone(),
             question: self.question.clone(),
             tariff: Vec::new(),
+            table: 0,
         };
         let (checked, answered) = (self.reply(Vec::new()), self.reply(written));
         calls.check.hold(&input, &checked, self.scratch)?;

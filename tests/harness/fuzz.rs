@@ -9,7 +9,7 @@ use std::time::{Duration, Instant};
 use harness::arguments;
 use harness::compare::Comparison;
 use harness::held::{inputs_of, Held};
-use harness::open::{CHECK, LINES, LOOPS, PLAN, TARIFF};
+use harness::open::{CHECK, LINES, LOOPS, OUTAGES, PLAN, TARIFF};
 use harness::portioned::Portions;
 use harness::rota::Rounds;
 use harness::tally::{exit_code, Tally};
@@ -51,14 +51,15 @@ fn merged(mut totals: Vec<Tally>, tallies: Vec<Tally>) -> Vec<Tally> {
 fn tallies_until(seeds: &AtomicU64, end: Instant) -> Vec<Tally> {
     let (mut check, mut loops) = (Comparison::new(&CHECK), Comparison::new(&LOOPS));
     let (mut plan, mut lines) = (Comparison::new(&PLAN), Comparison::new(&LINES));
-    let mut tariff = Comparison::new(&TARIFF);
+    let (mut tariff, mut outages) = (Comparison::new(&TARIFF), Comparison::new(&OUTAGES));
     let (mut both, mut portions, mut rounds) = (Ways::new(), Portions::new(), Rounds::new());
-    let mut held: [&mut dyn Held; 8] = [
+    let mut held: [&mut dyn Held; 9] = [
         &mut check,
         &mut loops,
         &mut plan,
         &mut lines,
         &mut tariff,
+        &mut outages,
         &mut both,
         &mut portions,
         &mut rounds,

@@ -2,10 +2,11 @@
 
 use super::by_column::of_either_kind;
 use super::calendars::{broken_calendars, Calendars};
-use super::nodes::{Node, Stored, BAG};
+use super::nodes::{Node, Stored, ALL, BAG, SOME};
 use super::numbers::Numbers;
 use super::random::Random;
 use super::tariffs::{broken_tariff, random_ships, Tariff};
+use super::tugs::random_tugs;
 use super::typed::{random_tables, Size, Type, Writer};
 use super::{breaks, chains, choices, columns, doublings, extremes, hours, limits, tall};
 
@@ -35,6 +36,7 @@ pub enum Family {
     Tall,
     Hours,
     Ships,
+    Outages,
 }
 
 /// One input of the calls, with the family it belongs to.
@@ -45,11 +47,13 @@ pub struct Input {
     pub calendars: Vec<u8>,
     pub question: Vec<u8>,
     pub tariff: Vec<u8>,
+    /// The number of the table whose rows may be out.
+    pub table: u64,
 }
 
 /// Families with their weights, of 1,000.
-const FAMILIES: [(Family, usize); 23] = [
-    (Family::WellTyped, 165),
+const FAMILIES: [(Family, usize); 24] = [
+    (Family::WellTyped, 145),
     (Family::ForbiddenGenerator, 40),
     (Family::BrokenMeaning, 110),
     (Family::BrokenRecord, 60),
@@ -72,6 +76,7 @@ const FAMILIES: [(Family, usize); 23] = [
     (Family::Tall, 15),
     (Family::Hours, 40),
     (Family::Ships, 40),
+    (Family::Outages, 20),
 ];
 
 /// The input of an index.
@@ -111,6 +116,7 @@ fn of_family(mut random: Random, family: Family) -> Input {
         calendars,
         question,
         tariff,
+        table: made.table(&mut random),
     }
 }
 
@@ -124,6 +130,7 @@ pub fn questions(seed: u64, index: u64, count: usize) -> Vec<Input> {
         calendars: made.calendars.bytes(),
         question: made.broken_or_whole(&mut random, 5),
         tariff: made.tariff.bytes(),
+        table: made.numbers.of(0),
     };
     (0..count).map(|_| question()).collect()
 }
@@ -209,6 +216,8 @@ impl Made {
             Family::Hours => perhaps_changed(random, numbers, |random| {
                 hours::random_hours(random, &self.calendars)
             }),
+            Family::Outages if random.chance(40) => (self.data(), self.truth(random).bytes()),
+            Family::Outages => perhaps_changed(random, numbers, random_tugs),
             Family::Ships if random.chance(40) => (self.data(), self.ships(random).bytes()),
             Family::Ships => {
                 perhaps_changed(random, numbers, |random| random_ships(random, &self.tariff))
@@ -234,6 +243,24 @@ impl Made {
         let mut writer = Writer::new(random, &self.tables, &self.calendars, size, false);
         let question = writer.question_of(BAG, &ship);
         self.numbers.renamed(question)
+    }
+
+    /// A well-typed question that is true or false.
+    fn truth(&self, random: &mut Random) -> Node {
+        let size = Size::random(random);
+        let monoid = random.one_of(&[SOME, ALL], ALL);
+        let mut writer = Writer::new(random, &self.tables, &self.calendars, size, false);
+        let question = writer.question_of(monoid, &Type::Truth);
+        self.numbers.renamed(question)
+    }
+
+    /// The number of a table, most often one of the first, which there are; now and then of none.
+    fn table(&self, random: &mut Random) -> u64 {
+        let place = random.one_of(&[0, 0, 0, 0, 1, 1, 2, 3, 5, 7], 0);
+        match random.below(20) {
+            0 => random.one_of(&[8, 255, 256, 1 << 32, u64::MAX], 8),
+            _ => self.numbers.of(place),
+        }
     }
 
     fn broken_bytes(&self, random: &mut Random) -> Vec<u8> {

@@ -38,10 +38,12 @@ pub mod rota;
 pub mod row_order;
 pub mod scene;
 mod seat;
+pub mod subsets;
 mod tall;
 pub mod tally;
 pub mod tariffs;
 pub mod timing;
+mod tugs;
 mod typed;
 pub mod ways;
 

@@ -28,6 +28,11 @@ impl Numbers {
             .collect()
     }
 
+    /// The number of a place.
+    pub fn of(&self, place: usize) -> u64 {
+        u64::from(self.0[place % NUMBERED])
+    }
+
     pub fn data(&self, tables: &[Stored]) -> Vec<u8> {
         self.records(tables).concat()
     }

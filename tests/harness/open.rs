@@ -182,6 +182,38 @@ pub fn with_tariff(input: &Input, scratch: usize, answer: u64) -> Result<Answer,
     evaluator::with_tariff(data, calendars, question, tariff, scratch, answer)
 }
 
+/// Over the subsets of the rows of the input's table: "55 .. 56".
+pub const OUTAGES: Call<i64> = Call {
+    name: "outages",
+    too_short: Some(32),
+    own: &[55, 56],
+    always: false,
+    made: |Input {
+               data,
+               calendars,
+               question,
+               table,
+               ..
+           },
+           scratch,
+           answer| {
+        calls::count_outages(data, calendars, question, *table, scratch, answer)
+    },
+    expected: |input| reply_of_answer(count_outages(input, SCRATCH, u64::MAX)?),
+};
+
+/// What the evaluator says of the outages in an input's table.
+pub fn count_outages(input: &Input, scratch: usize, answer: u64) -> Result<Answer, Unknown> {
+    let Input {
+        data,
+        calendars,
+        question,
+        table,
+        ..
+    } = input;
+    evaluator::count_outages(data, calendars, question, *table, scratch, answer)
+}
+
 /// By plan in as few portions as there can be.
 pub const PORTIONS: Call<i64> = Call {
     name: "portions",

@@ -11,8 +11,8 @@ use harness::record_order::other_order;
 use harness::tally::exit_code;
 
 /// What a call over data that reads can give.
-const NUMBERS: [u64; 17] = [
-    0, 41, 21, 22, 23, 24, 25, 42, 26, 27, 28, 31, 32, 33, 44, 45, 46,
+const NUMBERS: [u64; 19] = [
+    0, 41, 21, 22, 23, 24, 25, 42, 26, 27, 28, 31, 32, 33, 44, 45, 46, 55, 56,
 ];
 
 fn main() -> ExitCode {

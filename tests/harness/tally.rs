@@ -98,7 +98,7 @@ impl<Outcome: Debug + Default + Ord> Tally<Outcome> {
             &format!("data {}", hex(&input.data)),
             &format!("calendars {}", hex(&input.calendars)),
             &format!("question {}", hex(&input.question)),
-            &format!("tariff {}", hex(&input.tariff)),
+            &format!("tariff {}, table {}", hex(&input.tariff), input.table),
         ]);
     }
 

@@ -15,7 +15,7 @@ fn main() -> ExitCode {
     let [seed, count] = arguments("seed, count of inputs", [1, 100_000]);
     let known = NUMBERS
         .into_iter()
-        .chain([31, 32, 33, 44, 45, 46])
+        .chain([31, 32, 33, 44, 45, 46, 55, 56])
         .collect();
     let mut windows = Alike::new("windows", known);
     for index in 0..count {
