@@ -59,6 +59,12 @@ class Engine {
                                                 scratch(), answer);
         });
     }
+    // Of a table's subsets of rows, how many give true and how many false.
+    Words outages(const Packed &over, const Bytes &question, std::uint64_t table) {
+        return grown([&](dislogha::Answer answer) {
+            return dislogha::count_outages(span_of(over.data), span_of(over.calendars), span_of(question), table, scratch(), answer);
+        });
+    }
     Lines lines(const Packed &over, const Bytes &question) {
         Bytes buffer(lent.lines);
         const auto result = dislogha::plan_lines(span_of(over.data), span_of(over.calendars),

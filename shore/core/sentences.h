@@ -39,6 +39,8 @@ inline const char *sentence(std::uint64_t number) {
     case 52: return "the target is shorter than the records";
     case 53: return "a time column that falls, or a table that is absent or not a list";
     case 54: return "a tolerance outside 0 to 3,600 seconds";
+    case 55: return "a question that is neither a some nor an all";
+    case 56: return "a table that is absent or has more than 12 rows";
     default: return "a number that the desk does not know";
     }
 }

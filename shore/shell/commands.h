@@ -294,6 +294,13 @@ class Commands {
         number = static_cast<std::uint64_t>(table != nullptr ? table->number : given);
         return given >= 0 || table != nullptr;
     }
+    void outages(const Arguments &arguments) {
+        std::uint64_t table = 0;
+        if (numbered(arguments[0], table)) {
+            const std::size_t behind = line_.find(arguments[0], std::string(".outages").size()) + arguments[0].size();
+            desk_.outages(table, line_.substr(line_.find(arguments[1], behind)));
+        }
+    }
     void pair(const Arguments &arguments) {
         const Tables &tables = desk_.stored.tables;
         LogsAsked asked;
@@ -657,6 +664,7 @@ inline const std::vector<Commands::Command> &Commands::all() {
         {".tariff", "[UPPER RATE, .. minimum CENTS|none]", "the tariff, or one of steps up to so many cm at so many cents per metre begun",
          &Commands::tariff, 0, any},
         {".dues", "QUESTION", "what the ships of an answer owe by it: bag{ (s.ship, s.draught) | s <- ships }", &Commands::dues, 1, any},
+        {".outages", "TABLE QUESTION", "how many subsets of a table's rows give true: some{ t.pull >= 40 | t <- tugs }", &Commands::outages, 2, any},
         {".pair", "TABLE TABLE SECONDS [save FILE]", "two logs side by side: which rows pair, no more than so many seconds apart",
          &Commands::pair, 3, 5},
         {".plan", "", "the last question's plan in words", &Commands::plan, 0, 0},

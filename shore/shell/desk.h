@@ -12,6 +12,7 @@
 #include "grid.h"
 #include "interrupt.h"
 #include "job.h"
+#include "outages.h"
 
 namespace shore {
 
@@ -109,6 +110,23 @@ class Desk {
             refused(reply);
         } else {
             refused(dues.number, dues.what);
+        }
+        keep(std::move(reply));
+    }
+    // How many subsets of a table's rows give true.
+    void outages(std::uint64_t table, const std::string &typed) {
+        Reply reply = prepared(engine, stored, typed);
+        if (!reply.understood()) {
+            refused(reply);
+            return;
+        }
+        const Outages outages = outages_of(engine, reply, stored.tables, table);
+        if (outages.number == 0) {
+            shown(outages, *table_numbered(stored.tables, static_cast<std::int64_t>(table)));
+        } else if (outages.number == reply.number) {
+            refused(reply);
+        } else {
+            refused(outages.number, outages.what);
         }
         keep(std::move(reply));
     }
@@ -305,6 +323,32 @@ class Desk {
         say(mode == Mode::csv ? Block{lines} : grid.drawn());
         if (mode == Mode::box) {
             say(counted(dues.cents.size(), "row", "rows") + " charged, together " + grouped(together) + " cents");
+        }
+    }
+    // A line of the counts: the bar's length is the share of all subsets, and never nothing where there is one.
+    static std::string bar(const char *name, std::int64_t count, std::int64_t of) {
+        constexpr std::int64_t cells = 40;
+        const std::int64_t full = count == 0 ? 0 : count * cells / of < 1 ? 1 : count * cells / of;
+        std::string line = name;
+        const std::string number = grouped(static_cast<double>(count));
+        line += std::string(8 - number.size(), ' ') + number + "  ";
+        for (std::int64_t i = 0; i < cells; i++) {
+            line += i < full ? "█" : "░";
+        }
+        char share[32];
+        std::snprintf(share, sizeof share, "  %.1f %%", 100.0 * static_cast<double>(count) / static_cast<double>(of));
+        return line + share;
+    }
+    void shown(const Outages &outages, const Table &table) const {
+        if (mode == Mode::words) {
+            say("answer" + in_words(outages.counts));
+        } else if (mode == Mode::csv) {
+            say("true,false\n" + std::to_string(outages.truths()) + "," + std::to_string(outages.falses()));
+        } else {
+            say(bar("true ", outages.truths(), outages.subsets()));
+            say(bar("false", outages.falses(), outages.subsets()));
+            say(counted(static_cast<std::size_t>(outages.subsets()), "subset", "subsets") + " of the " +
+                counted(table.rows.size(), "row", "rows") + " of " + table.name + ", the others being out");
         }
     }
     static Block as_box(const Reply &reply) {
