@@ -5,10 +5,11 @@ import sys
 from pathlib import Path
 
 HERE = Path(__file__).resolve().parent
-SCRIPTS = ['engine.js', 'values.js', 'tables.js', 'calendars.js', 'plan.js', 'question.js', 'seats.js', 'dues.js', 'logs.js', 'page.js']
+SCRIPTS = ['engine.js', 'values.js', 'tables.js', 'calendars.js', 'plan.js', 'question.js', 'seats.js', 'dues.js', 'outages.js', 'logs.js', 'page.js']
 EXAMPLES = HERE.parent / 'examples'
 HOURS = 'Mon-Fri 06:00-14:00, Sat 08:00-12:00'
 TARIFF = {'steps': [['400', '1000'], ['800', '1500'], ['1200', '2500']], 'minimum': '3000'}
+TUGS = 'all{ sum{ t.pull | t <- tugs } >= 100 and some{ t.pull >= 40 | t <- tugs } }'
 SHIPS = 'bag{ (ship: s.ship, draught: s.draught) | s <- ships }'
 
 
@@ -23,10 +24,11 @@ def table(name, collection):
 
 
 def examples():
-    """The tables, calendars and questions that the page begins with, the ships and the tariff, and the two logs that it has for pairing."""
+    """The tables, calendars and questions that the page begins with, the ships and the tariff, the tugs, and the two logs that it has for pairing."""
     questions = [line.split(': ', 1) for line in (HERE / 'questions').read_text().splitlines() if line]
     return {'tables': [table('berths', 'bag'), table('bollards', 'bag'), table('locks', 'set')], 'calendars': [{'name': 'lock', 'hours': HOURS}],
             'ships': table('ships', 'bag'), 'shipsQuestion': SHIPS, 'tariff': TARIFF,
+            'tugs': table('tugs', 'bag'), 'tugsQuestion': TUGS,
             'logs': [table('ship', 'list'), table('quay', 'list')], 'questions': questions}
 
 

@@ -8,6 +8,7 @@
 #include "between.h"
 #include "dues.h"
 #include "logs.h"
+#include "outages.h"
 #include "portions.h"
 #include "json.h"
 #include "typed.h"
@@ -341,6 +342,28 @@ void tell_dues(Json &json, const Stored &stored, const std::vector<std::string> 
     }
 }
 
+// ----------------------------------------------------------------------------------------- outages
+
+// `typed` has the number of a table and a question.
+void tell_outages(Json &json, const Stored &stored, const std::string &typed) {
+    const std::size_t end = typed.find(cell_end);
+    const auto table = static_cast<std::uint64_t>(unsigned_of(typed.substr(0, end), dislogha::text::most_byte));
+    Reply reply = prepared(engine, stored, typed.substr(end + 1));
+    if (!reply.understood()) {
+        json.key("number").nothing();
+        tell_fault(json, reply);
+        return;
+    }
+    const Outages outages = outages_of(engine, reply, stored.tables, table);
+    tell_number(json, outages.number);
+    if (outages.number != 0) {
+        reply.located.what = outages.number == reply.number ? reply.located.what : outages.what;
+        tell_fault(json, reply);
+    } else {
+        json.key("counts").open('[').number(static_cast<double>(outages.truths())).number(static_cast<double>(outages.falses())).close(']');
+    }
+}
+
 // -------------------------------------------------------------------------------------------- logs
 
 void tell_seconds(Json &json, const Tables &tables, std::uint64_t number) {
@@ -460,6 +483,17 @@ EXPORT(dues) void dues(std::uint32_t bytes) {
     json.open('{');
     if (!stored_wrong(json, typed)) {
         tell_dues(json, typed.stored, split(typed.question, tariff_end));
+    }
+    reply_with(json.close('}'));
+}
+
+// Outages counted. Where a question stands are the number of a table and a question.
+EXPORT(outages) void outages(std::uint32_t bytes) {
+    const TypedPage typed = PageReading(given.substr(0, bytes)).page();
+    Json json;
+    json.open('{');
+    if (!stored_wrong(json, typed)) {
+        tell_outages(json, typed.stored, typed.question);
     }
     reply_with(json.close('}'));
 }

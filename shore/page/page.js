@@ -12,6 +12,7 @@ function startTabs() {
       byId(tab.getAttribute('aria-controls')).hidden = tab !== chosen;
     });
     chargeShips();
+    countOutages();
     pairLogs();
   };
   tabs.forEach((tab, place) => {
@@ -34,12 +35,14 @@ function start() {
   startQuestion();
   startSeats();
   startDues();
+  startOutages();
   startLogs();
   storedChanged = () => {
     byId('shuffled').hidden = true;
     tellHours();
     storedChangedAtSeats();
     chargeShips();
+    countOutages();
     pairLogs();
     ask();
   };

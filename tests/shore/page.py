@@ -476,6 +476,44 @@ def ships_charged(page, seen):
     charged(page, no_tariff + 'it has 0 steps.')
 
 
+def counted(page, said):
+    """The counts as they are shown, once that is said of them."""
+    page.wait("document.getElementById('outages-said').textContent.startsWith(%s)" % json.dumps(said))
+    return page.value('''[...document.querySelectorAll('#outages .count')].map(count => [...count.children].map(part => part.textContent).join(' ')
+      + ' ' + count.querySelector('.bar').style.width)''')
+
+
+def outages_counted(page, seen):
+    """A table whose rows may be out, counts as bars, what is refused."""
+    fresh(page)
+    page.click('#tabs button:nth-child(4)')
+    counted(page, "no name and no table is called 'tugs' here.")
+    page.click('#example-tugs')
+    seen.same('counts', counted(page, '32 subsets of the rows of tugs, the others being out.'), ['true 14  43.8 % 43.75%', 'false 18  56.3 % 56.25%'])
+    page.picture(PICTURES / 'outages.png')
+    page.type('#outages-question', 'some{ t.pull >= 40 | t <- tugs }')
+    page.wait("document.querySelector('#outages .no')?.textContent === '24'")
+    seen.same('another question', counted(page, '32 subsets')[1], 'false 8  25.0 % 25%')
+    page.type('#tables .table:nth-child(4) tr:nth-child(4) td:nth-child(2) input', '10')
+    page.wait("document.querySelector('#outages .no')?.textContent === '16'")
+    page.value("byId('out-table').selectedIndex = 0; byId('out-table').onchange()")
+    seen.same('rows that do not matter', counted(page, '4 subsets of the rows of berths'), ['true 4  100.0 % 100%', 'false 0  0.0 % 0%'])
+    page.type('#outages-question', 'sum{ t.pull | t <- tugs }')
+    counted(page, 'Refused 55 (a question that is neither a some nor an all): its monoid is sum.')
+    seen.same('it is marked', page.text('#outages-under mark'), 'sum{ t.pull | t <- tugs }')
+    page.type('#outages-question', 'some{ t.pul > 0 | t <- tugs }')
+    counted(page, "no column is called 'pul'")
+    page.type('#outages-question', 'some{ x.n = 1 | x <- long }')
+    for rows, said in ((12, '4,096 subsets of the rows of long'), (13, 'Refused 56 (a table that is absent or has more than 12 rows): long has 13 rows.')):
+        page.value("setTables([newTable('long', 'bag', ['n'], [...Array(%d).keys()].map(each => [String(each)]), { number: '0' })])" % rows)
+        shown = counted(page, said)
+        seen.same('%d rows' % rows, shown, ['true 2,048  50.0 % 50%', 'false 2,048  50.0 % 50%'] if rows == 12 else [])
+    page.picture(PICTURES / 'outages-refused.png')
+    page.value('setTables([])')
+    page.type('#outages-question', 'some{ true }')
+    counted(page, 'Refused 56 (a table that is absent or has more than 12 rows): there is no table 0.')
+
+
 # The logs as they are drawn: what stands beside each dot, the rows that are marked, and the rows that each line joins, found by the dots at its ends.
 DRAWN = '''(() => {
   const rows = [...document.querySelectorAll('#logs .row')];
@@ -499,7 +537,7 @@ def paired(page, said):
 def two_logs(page, seen):
     """Two logs side by side: pairs joined, singles marked, what is refused."""
     fresh(page)
-    page.click('#tabs button:nth-child(4)')
+    page.click('#tabs button:nth-child(5)')
     no_log = 'Refused 53 (a time column that falls, or a table that is absent or not a list): '
     paired(page, no_log + 'berths is a bag.')
     page.click('#example-logs')
@@ -542,7 +580,7 @@ def other_panels(page, seen):
     fresh(page)
     page.focus('#question')
     page.value("document.querySelector('#tabs button').focus()")
-    for _ in range(4):
+    for _ in range(5):
         page.press(*RIGHT)
     seen.so('tabs go by keys', page.value("!document.getElementById('proved-panel').hidden && document.getElementById('question-panel').hidden"))
     proved = page.text('#proved-panel')
@@ -575,6 +613,7 @@ def main():
         long_question(page, beside, folder)
         at_seats(page, beside)
         ships_charged(page, beside)
+        outages_counted(page, beside)
         two_logs(page, beside)
         other_panels(page, beside)
         beside.same('no script failed', page.faults, [])
