@@ -268,6 +268,22 @@ Said *charge(const Input &input, Said *out) noexcept {
     return out;
 }
 
+// Outages of one of the data's tables, and of one that no data has.
+Said counted(const Input &input, std::uint64_t table, std::size_t words) noexcept {
+    const auto lent = scratch[0].lend(dislogha::scratch_words);
+    const auto buffer = answer[0].lend(words);
+    return left(dislogha::count_outages(input.data, input.calendars, input.question, table, lent, buffer), answer[0]);
+}
+
+Said *count(const Input &input, Said *out) noexcept {
+    Numbers numbers(input);
+    const std::uint64_t table = numbers.next() % 4;
+    *out++ = counted(input, table, most_words);
+    *out++ = counted(input, table, 1);
+    *out++ = counted(input, 8 + table, 2);
+    return out;
+}
+
 Said written(Result result) noexcept {
     Sum sum;
     lines.add_to(sum);
@@ -345,7 +361,7 @@ void pair(const Input &input, Said *out) noexcept {
     *out++ = logs.paired(enough.length - (enough.length > 0));
 }
 
-constexpr std::uint32_t made = 21;
+constexpr std::uint32_t made = 24;
 
 // The calls with what is enough and what is not.
 void make(const Input &input, Said *out) noexcept {
@@ -364,6 +380,7 @@ void make(const Input &input, Said *out) noexcept {
     *out++ = first_open(input);
     *out++ = dates(input);
     out = charge(input, out);
+    out = count(input, out);
     pair(input, out);
 }
 

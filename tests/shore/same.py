@@ -19,10 +19,11 @@ PAGE = ROOT / 'target' / 'shore' / 'page'
 # The calls that same.cpp makes of each input, in their order, three words each.
 CALLS = ['check', 'check, little scratch', 'loops', 'plan', 'loops, just enough', 'plan, just enough', 'loops, too little', 'plan, too little',
          'lines', 'lines, too little', 'portions', 'rounds', 'first open', 'dates',
-         'tariff', 'tariff, just enough', 'tariff, too little', 'logs of the data', 'logs', 'logs, just enough', 'logs, too little']
+         'tariff', 'tariff, just enough', 'tariff, too little', 'outages', 'outages, too little', 'outages of no table',
+         'logs of the data', 'logs', 'logs, just enough', 'logs, too little']
 
 # A run that never came to one of these has shown little.
-NUMBERS = {0, 11, 12, 13, 21, 22, 23, 24, 25, 26, 27, 28, 31, 32, 33, 41, 42, 43, 44, 45, 46, 50, 51, 52, 53, 54}
+NUMBERS = {0, 11, 12, 13, 21, 22, 23, 24, 25, 26, 27, 28, 31, 32, 33, 41, 42, 43, 44, 45, 46, 50, 51, 52, 53, 54, 55, 56}
 
 # The module over the inputs, and what the archive gave; `next` goes through some inputs and tells how many words were compared, and which differ.
 LOAD = '''
