@@ -1,5 +1,5 @@
 #!/usr/bin/env python3
-"""Writes tests/examples/cases, tests/tariffs/worked.jsonl and docs/EXAMPLES.md from the cases under tests/examples.
+"""Writes tests/examples/cases, worked.jsonl in tests/tariffs and tests/outages, and docs/EXAMPLES.md from the cases under tests/examples.
 
 With --check nothing is written; the exit code says whether the files are what would be written.
 """
@@ -18,6 +18,7 @@ import request_e5  # noqa: E402
 import request_e6  # noqa: E402
 import request_e9  # noqa: E402
 import request_e10  # noqa: E402
+import request_e12  # noqa: E402
 import request_e13  # noqa: E402
 import source_000  # noqa: E402
 import source_001  # noqa: E402
@@ -32,7 +33,8 @@ SOURCES = [source_000, source_001, source_002, source_003, source_004, edges, re
 
 OPENING = '''# Example queries
 
-Made by `tests/examples.py`; do not edit. `tests/harness/examples.rs` runs every case, `tests/harness/dues.rs` those with a tariff.
+Made by `tests/examples.py`; do not edit. `tests/harness/examples.rs` runs every case, `tests/harness/dues.rs` those with a tariff,
+`tests/harness/outages.rs` those in which outages are counted.
 
 The example queries of the source documents, recast over tables, the cases of document 01's "At the
 edges", and cases of document 02's requests. The words were worked out by hand from the papers and
@@ -60,7 +62,7 @@ Each case's plan is in `tests/examples/cases`, written by hand too.
 A line of `tests/examples/cases` is one case, its fields separated by a tab: name, scratch words,
 data, calendars and question in hexadecimal, the checker's number, G, the answer's words, the
 plan's lines with `\\n` for byte 10; `-` where there is nothing. Cases with a tariff are lines of
-`tests/tariffs/worked.jsonl`, as the recorded calls there are.
+`tests/tariffs/worked.jsonl`, those of outages of `tests/outages/worked.jsonl`, as the recorded calls there are.
 '''
 
 
@@ -184,6 +186,17 @@ def dues_text():
     return text
 
 
+def outages_text():
+    """The cases of E12: the table whose rows may be out, and how many subsets give true and false."""
+    source = request_e12
+    text = '\n## %s\n\n%s\n' % (source.TITLE, tables_text(source))
+    text += heading(['Case', 'In the paper', 'Tables', 'Rows of', 'Question', 'Gives'])
+    for case in source.CASES:
+        out = code(case.tables[case.of].name) if case.of < len(case.tables) else 'table %d' % case.of
+        text += row([case.name, code(case.paper), names(case.tables), out, asked(case.ask), gives(case)])
+    return text
+
+
 def document():
     text = OPENING
     for source in SOURCES:
@@ -201,7 +214,7 @@ def document():
             text += '\nNot recast:\n\n' + heading(['Where', 'Query', 'Why'])
             for where, query, why in source.LEFT_OUT:
                 text += row([where, query.replace('|', '\\|'), why])
-    return text + dues_text()
+    return text + dues_text() + outages_text()
 
 
 def lines_of(sources):
@@ -215,6 +228,7 @@ def lines_of(sources):
 
 def main():
     wanted = {ROOT / 'tests' / 'examples' / 'cases': lines_of(SOURCES), ROOT / 'tests' / 'tariffs' / 'worked.jsonl': lines_of([request_e6]),
+              ROOT / 'tests' / 'outages' / 'worked.jsonl': lines_of([request_e12]),
               ROOT / 'docs' / 'EXAMPLES.md': document()}
     for path, text in wanted.items():
         if '--check' not in sys.argv:
