@@ -271,9 +271,9 @@ enum class Refusal : std::uint64_t {
     // Of `answer_with_tariff` a question that does not give a bag of records of two numbers; after 28.
     not_ships_and_draughts = 45,
     // Of `count_outages` a question whose monoid is neither some nor all; after 28.
-    not_some_or_all = 55,
+    neither_some_nor_all = 55,
     // Of `count_outages` a table that is absent (a number above 7, too) or has more than 12 rows; after 55.
-    no_table_of_outages = 56,
+    outage_table_out_of_range = 56,
     // Of `answer_with_tariff` a draught of the answer below 0 or above the last step; after 32.
     draught_out_of_range = 46,
 

@@ -56,9 +56,9 @@ const char *words_of(dislogha::Refusal refusal) noexcept {
         return "no bag of ships";
     case Refusal::draught_out_of_range:
         return "draught beyond steps";
-    case Refusal::not_some_or_all:
+    case Refusal::neither_some_nor_all:
         return "no some, no all";
-    case Refusal::no_table_of_outages:
+    case Refusal::outage_table_out_of_range:
         return "no table / over 12";
     case Refusal::scratch_too_short:
         return "scratch too short";

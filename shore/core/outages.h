@@ -31,9 +31,9 @@ inline Outages outages_of(Engine &engine, const Reply &reply, const Tables &tabl
     told.counts = engine.outages(reply.over, reply.question->bytes, table);
     told.number = told.counts.number;
     const auto refusal = static_cast<dislogha::Refusal>(told.number);
-    if (refusal == dislogha::Refusal::not_some_or_all) {
+    if (refusal == dislogha::Refusal::neither_some_nor_all) {
         told.what = "its monoid is " + string_of(dislogha::text::monoid_name(reply.question->tree.nodes[reply.question->tree.root].value));
-    } else if (refusal == dislogha::Refusal::no_table_of_outages) {
+    } else if (refusal == dislogha::Refusal::outage_table_out_of_range) {
         told.what = no_outages_of(tables, table);
     }
     return told;

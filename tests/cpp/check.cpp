@@ -309,10 +309,10 @@ struct Outages {
 void count_bollards() {
     expect(Outages(1, 3).counts(3, 1), "one subset of two bollards is empty");
     expect(Outages(0, 3).counts(4, 0), "berths that are out do not matter");
-    expect(Outages(0, 0, question).refused(Refusal::not_some_or_all), "a bag is not counted; 55 before 32");
-    expect(Outages(9, 0, question).refused(Refusal::not_some_or_all), "and before 56");
-    expect(Outages(2, 0).refused(Refusal::no_table_of_outages), "an absent table; 56 before 32");
-    expect(Outages(256, 3).refused(Refusal::no_table_of_outages), "a number is not cut to a byte");
+    expect(Outages(0, 0, question).refused(Refusal::neither_some_nor_all), "a bag is not counted; 55 before 32");
+    expect(Outages(9, 0, question).refused(Refusal::neither_some_nor_all), "and before 56");
+    expect(Outages(2, 0).refused(Refusal::outage_table_out_of_range), "an absent table; 56 before 32");
+    expect(Outages(256, 3).refused(Refusal::outage_table_out_of_range), "a number is not cut to a byte");
     expect(Outages(1, 1).refused(Refusal::answer_too_short), "one word is too few");
     auto twelve = tables, thirteen = tables;
     for (const std::uint8_t byte : list_of(12)) {
@@ -322,7 +322,7 @@ void count_bollards() {
         thirteen.push_back(byte);
     }
     expect(Outages(5, 3, any_bollard, twelve).counts(4096, 0), "twelve rows");
-    expect(Outages(5, 3, any_bollard, thirteen).refused(Refusal::no_table_of_outages), "thirteen are too many");
+    expect(Outages(5, 3, any_bollard, thirteen).refused(Refusal::outage_table_out_of_range), "thirteen are too many");
     expect(Outages(1, 3, any_bollard, thirteen).counts(3, 1), "in the table that is asked for");
 }
 
