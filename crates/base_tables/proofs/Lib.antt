@@ -3,6 +3,7 @@ pub mod DataRecords
 pub mod ByteReaders
 mod ColumnBounds
 pub mod TableCells
+mod Stretches
 mod NumberedTables
 mod ReadLoop
 pub mod ReadData

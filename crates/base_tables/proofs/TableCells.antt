@@ -94,7 +94,7 @@ content-at d p x q =
     getD-take (lengthOf (drop p d)) (drop 4 (drop p d)) x 0 q ∙ getD-drop 4 (drop p d) x 0 ∙ getD-drop p d (4 + x) 0 ∙ simp add-assoc
 
 -- the cell's number, by rows and by columns
-word-by-rows : (d : Bytes) (w r c : ℕ) {m p : ℕ} → subsetIn w ≡ 0 → kindIn w ≡ 0 → columnsIn w ≡ m → positionIn w ≡ p → wordIn d w r c ≡ four d (p + 4 * (m * r + c))
+pub word-by-rows : (d : Bytes) (w r c : ℕ) {m p : ℕ} → subsetIn w ≡ 0 → kindIn w ≡ 0 → columnsIn w ≡ m → positionIn w ≡ p → wordIn d w r c ≡ four d (p + 4 * (m * r + c))
 unfolding wordIn storedWordIn pick
 word-by-rows d w r c z k em ep = rw (eq-eqb (subsetIn w) 0 z, ne-eqb (kindIn w) 1 (λ e. omega (arith, k, e))) (rw (em, ep))
 
@@ -102,7 +102,7 @@ word-by-columns : (d : Bytes) (w r c : ℕ) {n p : ℕ} → subsetIn w ≡ 0 →
 unfolding wordIn storedWordIn pick
 word-by-columns d w r c z k en ep = rw (eq-eqb (subsetIn w) 0 z, eq-eqb (kindIn w) 1 k) (rw (en, ep))
 
-cell-found : (d : Bytes) (w r c : ℕ) {n m : ℕ} → rowsIn w ≡ n → columnsIn w ≡ m → r < n → c < m → cellIn d w r c ≡ signed (wordIn d w r c)
+pub cell-found : (d : Bytes) (w r c : ℕ) {n m : ℕ} → rowsIn w ≡ n → columnsIn w ≡ m → r < n → c < m → cellIn d w r c ≡ signed (wordIn d w r c)
 unfolding cellIn pick
 cell-found d w r c en em q t = rw (lt-ltb r (rowsIn w) (rw (← en) at q), lt-ltb c (columnsIn w) (rw (← em) at t))
 
@@ -110,7 +110,7 @@ cell-below : (d : Bytes) (w r c : ℕ) {n : ℕ} → rowsIn w ≡ n → n ≤ r 
 unfolding cellIn pick
 cell-below d w r c e p = rw (le-ltb r (rowsIn w) (rw (← e) at p))
 
-cell-beside : (d : Bytes) (w r c : ℕ) {m : ℕ} → columnsIn w ≡ m → m ≤ c → cellIn d w r c ≡ pos 0
+pub cell-beside : (d : Bytes) (w r c : ℕ) {m : ℕ} → columnsIn w ≡ m → m ≤ c → cellIn d w r c ≡ pos 0
 unfolding cellIn pick
 cell-beside d w r c e p = by-test (ltb r (rowsIn w)) (λ h. rw (h, le-ltb c (columnsIn w) (rw (← e) at p))) (λ h. rw h)
 

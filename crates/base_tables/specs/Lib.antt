@@ -2,3 +2,4 @@
 pub mod Description
 pub mod ColumnBounds
 pub mod DataReader
+pub mod Stretches

@@ -11,6 +11,7 @@ ghost use Rattle.spec_encoding.specs.Data.{fits, isKind, contentByRows, content
 ghost use Rattle.base_tables.specs.Description.{kindBit, descriptionOf, collectionIn, columnsIn, rowsIn, kindIn, presentIn, tableIn, descriptionIn, subsetIn, fullIn, subsetRows, onesIn, keptRow, wholeIn, withoutIn, placeIn, columnPlaceIn, storedWordIn, wordIn, PlacedPost, CellPost, BoundPost};
 ghost use Rattle.base_tables.specs.ColumnBounds.{ColumnPre, ColumnWithinPost, ColumnBoundedPost};
 ghost use Rattle.base_tables.specs.DataReader.{headerGives, headerAt, numberedTable, tableAt, ReadDataPost};
+ghost use Rattle.base_tables.specs.Stretches.{Stretchable, StretchPre, StretchPost};
 use base_scratch::DESCRIPTIONS;
 use base_scratch::load;
 use base_scratch::store;
@@ -62,6 +63,9 @@ const SUBSETS: u64 = 4096;
 
 // A subset is of a table of so many rows at most: it has a bit for each, set where the row is left out.
 pub const SUBSET_ROWS: usize = 12;
+
+// 2^33, half of the positions that such a word has: from below it a position can be moved by a table's bytes.
+const LOW_POSITIONS: u64 = 8589934592;
 
 // A whole record of kind 20 or 23 with the length of its content, or none.
 pub enum TableHeader {
@@ -426,6 +430,28 @@ pub fn stride(w: u64) -> usize
     ensures { λ n. ⌜ n ≡ 4 * columnsIn w ⌝ }
 {
     4 * columns(w)
+}
+
+// Whether rows of the table that w describes, one behind another, have a description of their own: it has all its rows, these stand one
+// behind another, and its position can be moved.
+pub fn has_stretches(w: u64) -> bool
+    ensures { λ r. ⌜ (r ≡ true → Stretchable w) ⌝ }
+{
+    if by_columns(w) {
+        return false;
+    }
+    if w / ONE_SUBSET % SUBSETS == 0 {
+        return w / ONE_POSITION < LOW_POSITIONS;
+    }
+    false
+}
+
+// That of m rows of it from row f on.
+pub fn stretch(w: u64, f: usize, m: usize) -> u64
+    requires { ⌜ StretchPre w f m ⌝ }
+    ensures { λ v. ⌜ StretchPost w f m v ⌝ }
+{
+    w - ONE_ROW * (rows(w) - m) as u64 + ONE_POSITION * (4 * cells(columns(w), f)) as u64
 }
 
 // Whether the table that w describes has all its rows, and every cell of it stands in the data. What a loop over cells asks once, so that a
