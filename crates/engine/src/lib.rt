@@ -12,6 +12,7 @@ ghost use Rattle.spec_outcome.specs.Outcome.{byLoops, byPlan, checked, planLine
 ghost use Rattle.spec_outcome.specs.Gives.{Gives};
 ghost use Rattle.spec_outcome.specs.Directions.{tableToColumns, tableToRows, Fills};
 ghost use Rattle.spec_logs.specs.PairLogs.{pairLogs};
+ghost use Rattle.spec_tariff.specs.WithTariff.{withTariff};
 ghost use Rattle.spec_outages.specs.Outages.{countOutages};
 ghost use Rattle.engine.specs.Replies.{AdmitPost, Replies};
 ghost use Rattle.engine.specs.Portions.{BeginPost, PortionPost, Says, EndedPost};
@@ -21,9 +22,11 @@ use base_dates::DayTold;
 use base_hours::OpenTold;
 use base_rota::rota_fits;
 use base_scratch::WORDS;
+use base_tariff::tariff_fits;
 use exec_portions::Progress;
 use form_prepared::Answer;
 use front_end::Checked;
+use loop_dues::Dues;
 use loop_outages::Counted;
 use plan_lines::Printed;
 
@@ -436,6 +439,44 @@ pub extern "C" fn dislogha_pair_logs(
     Reply {
         number: p.number,
         length: p.length as u64,
+    }
+}
+
+// "Answering with a tariff": the value of the question as typed, a bag of ships with their draughts, as the bag of their dues. "44 .., after 31", before the
+// data.
+#[no_mangle]
+pub extern "C" fn dislogha_answer_with_tariff(
+    tables: &[u8],
+    calendars: &[u8],
+    question: &[u8],
+    tariff: &[u8],
+    scratch: &mut [u64],
+    answer: &mut [i64],
+) -> Reply
+    ensures { λ r. ⌜ Gives (withTariff (now (tariff .entry)) (now (tables .entry)) (lentAs (now (calendars .entry)) (now (question .entry))) (now (scratch .entry)) (now (answer .entry))) (r .number) (r .length) (now (answer .exit)) (now (scratch .exit)) ⌝ }
+{
+    if scratch.len() < WORDS {
+        return Reply {
+            number: base_refusals::SCRATCH_TOO_SHORT,
+            length: 0,
+        };
+    }
+    let fits = tariff_fits(tariff);
+    if !fits {
+        return finish(scratch, base_refusals::TARIFF_OUT_OF_RANGE, 0);
+    }
+    match admit(tables, calendars, question, scratch) {
+        Admitted::Scant => Reply {
+            number: base_refusals::SCRATCH_TOO_SHORT,
+            length: 0,
+        },
+        Admitted::Refused(k) => finish(scratch, k, 0),
+        Admitted::Accepted => match loop_dues::answer(scratch, tables, tariff, answer) {
+            Dues::Unfit => finish(scratch, base_refusals::NOT_SHIPS_AND_DRAUGHTS, 0),
+            Dues::Short => finish(scratch, base_refusals::ANSWER_TOO_SHORT, 0),
+            Dues::Beyond => finish(scratch, base_refusals::DRAUGHT_OUT_OF_RANGE, 0),
+            Dues::Length(n) => finish(scratch, 0, n as u64),
+        },
     }
 }
 
