@@ -61,6 +61,9 @@ const ROWS: u64 = 2048;
 
 const SUBSETS: u64 = 4096;
 
+// Kind and subset together: 0 is a table by rows that has all of them, so that one test tells it.
+const PLAINS: u64 = 2 * SUBSETS;
+
 // A subset is of a table of so many rows at most: it has a bit for each, set where the row is left out.
 pub const SUBSET_ROWS: usize = 12;
 
@@ -557,6 +560,9 @@ pub fn cell(data: &[u8], w: u64, r: usize, c: usize) -> i64
     let width = columns(w);
     if width <= c {
         return 0;
+    }
+    if w / ONE_KIND % PLAINS == 0 {
+        return signed_of(four_at(data, place(w, r, c)));
     }
     signed_of(cell_word(data, w, r, c))
 }
