@@ -1,4 +1,6 @@
 // A value, raw in the answer buffer, is brought to its written form in place.
+#![tactic(auto)]
+
 ghost use Rattle.std.specs.Prelude.{◌≤◌};
 ghost use Rattle.base_scratch.specs.Map.{form_words};
 ghost use Rattle.answer_types.specs.Shape.{Shaped};
@@ -11,7 +13,7 @@ use base_buffer::{ahead, clear, mark, shift, step, tally};
 use form_words::next;
 
 // Where the next raw word is read, where the next written word goes, and the comparisons of the ordering steps so far.
-#[derive(Drop)]
+#[derive(Clone, Copy)]
 struct Ends {
     src: usize,
     dst: usize,
@@ -19,7 +21,7 @@ struct Ends {
 }
 
 // How many words a value has when it is written, and the comparisons of all its ordering steps.
-#[derive(Drop)]
+#[derive(Clone, Copy)]
 pub struct Finished {
     pub length: usize,
     pub comparisons: u64,

@@ -1,5 +1,7 @@
 // The raw words of a bag of ships stand at the buffer's front: each draught gives way to its cents, and then the words are brought to their written form, so
 // that the bag is ordered by what is charged.
+#![tactic(auto)]
+
 ghost use Rattle.std.specs.Prelude.{◌≡◌};
 ghost use Rattle.base_tariff.specs.Contract.{tariff_in, IsTariff};
 ghost use Rattle.answer_dues.specs.Contract.{charged_at, ChargePre, charged_from, SettleDuesPost};

@@ -1,5 +1,7 @@
 // The raw words of an accepted question's value stand at the buffer's front, whichever way they came there: they are brought to
 // their written form, and that settles the question.
+#![tactic(auto)]
+
 ghost use Rattle.answer_settle.specs.SettleContract.{SettlePost};
 
 use answer_canonical::finish;

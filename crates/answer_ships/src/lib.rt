@@ -1,4 +1,6 @@
 // Whether the normal form in scratch stands for "a bag of records (ship, draught), all numbers". i, c, e and h are places in the form.
+#![tactic(auto)]
+
 ghost use Rattle.std.specs.Prelude.{◌≤◌};
 ghost use Rattle.base_scratch.specs.Map.{form_words};
 ghost use Rattle.answer_ships.specs.Contract.{BranchPost, TruthPost, NumberPost, FieldsPost, ShipPost, ShipsPost};

@@ -1,4 +1,6 @@
 // The words of the answer, laid into its buffer below a limit; how a value is written, and the words of a row.
+#![tactic(auto)]
+
 ghost use Rattle.std.specs.Prelude.{◌≡◌};
 ghost use Rattle.answer_writer.specs.LaidWords.{bump, laid, PutPost};
 ghost use Rattle.answer_writer.specs.Shapes.{comprehension_shape, ShapeAtPost};
@@ -13,7 +15,7 @@ use form_env::{slot, slot_row, slot_table};
 use form_words::{arg, kind, low, next, word};
 
 // How a form's value is written: one word, a row's columns, a record's fields up to a place, a collection.
-#[derive(Drop)]
+#[derive(Clone, Copy)]
 pub enum WriteForm {
     Word(Sort),
     Row(usize),

@@ -1,4 +1,6 @@
 // Bytes and little-endian numbers of what is lent; outside they are 0.
+#![tactic(auto)]
+
 ghost use Rattle.std.specs.Prelude.{◌≡◌, ◌<◌, ◌^◌};
 ghost use Rattle.spec_encoding.specs.Record.{byte, two};
 

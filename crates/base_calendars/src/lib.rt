@@ -1,4 +1,6 @@
 // The one reader of the lent calendars: whether they keep their layout (41), where each stands (42), and their windows.
+#![tactic(auto)]
+
 ghost use Rattle.std.specs.Prelude.{◌≡◌, ◌&&◌, ◌+◌, ◌-◌, ◌*◌, ◌<◌, ltb, length};
 ghost use Rattle.spec_encoding.specs.Record.{byte, content_of};
 ghost use Rattle.spec_hours.specs.CalendarBytes.{window_at, windows_from, window_fits, windows_fit, content_fits, is_calendar, calendars_fit, most_calendars, calendars_of};
@@ -27,7 +29,7 @@ pub const DAY_MINUTES: u64 = 1440;
 // Two bytes of length and two of kind stand before a record's content.
 const HEADER: usize = 4;
 
-#[derive(Drop)]
+#[derive(Clone, Copy)]
 pub struct Window {
     pub weekday: u64,
     pub first: u64,
@@ -35,7 +37,7 @@ pub struct Window {
 }
 
 // Where the content of a calendar begins and ends.
-#[derive(Drop)]
+#[derive(Clone, Copy)]
 pub enum LentCalendar {
     Content(usize, usize),
     Missing,

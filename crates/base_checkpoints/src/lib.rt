@@ -1,5 +1,7 @@
 // Checkpoints: of each column of a table by columns the cells above two of its rows, in scratch, so that a cell that is read at random needs a
 // third of its column's numbers at most. Without them it would need all that stand above it.
+#![tactic(auto)]
+
 ghost use Rattle.std.specs.Prelude.{◌≡◌, ◌^◌, ◌<◌, ◌≤◌, true};
 ghost use Rattle.base_checkpoints.specs.Checkpoints.{tall_in, uses_checkpoint, checkpoint_of, checkpoint_in, checkpointed_word, CheckpointTablePost, CheckpointTablesPost, CheckpointedCellPost};
 

@@ -1,4 +1,6 @@
 // A table's record turned into the other kind in a lent buffer: from rows to columns, and back.
+#![tactic(auto)]
+
 ghost use Rattle.std.specs.Prelude.{◌≡◌, ◌+◌, ◌%◌, ◌≤◌, true, ◌++◌, length, drop};
 ghost use Rattle.std.proofs.lemmas.List.Edits.{sets};
 ghost use Rattle.spec_encoding.specs.Record.{signed};
@@ -23,7 +25,7 @@ const FIRST_BELOW_0: u32 = 2147483648;
 const LAST: u32 = 4294967295;
 
 // A refusal's number and length 0, or 0 and the record's length.
-#[derive(Drop)]
+#[derive(Clone, Copy)]
 pub struct Turned {
     pub number: u64,
     pub length: usize,

@@ -1,4 +1,6 @@
 // Days of the years 2000 to 2399: weekdays; from year, month, day to day number and back.
+#![tactic(auto)]
+
 ghost use Rattle.std.specs.Prelude.{◌≡◌, ◌<◌, ◌≤◌};
 ghost use Rattle.spec_calendar.specs.Dates.{is_leap, first_day, month_start, on, date_exists, day_number, weekday_of};
 ghost use Rattle.spec_calendar.proofs.Dates.{Exists};
@@ -28,7 +30,7 @@ const YEAR_DAYS: u64 = 366;
 
 // A day number, or the refusal's number and 0.
 #[repr(C)]
-#[derive(Drop)]
+#[derive(Clone, Copy)]
 pub struct DayTold {
     pub number: u64,
     pub day: u64,
@@ -36,7 +38,7 @@ pub struct DayTold {
 
 // A date, or the refusal's number and zeros.
 #[repr(C)]
-#[derive(Drop)]
+#[derive(Clone, Copy)]
 pub struct DateTold {
     pub number: u64,
     pub year: u64,

@@ -1,4 +1,6 @@
 // The first open minute of a lent calendar; what a window holds.
+#![tactic(auto)]
+
 ghost use Rattle.std.specs.Prelude.{◌≡◌, ◌<◌};
 ghost use Rattle.spec_calendar.specs.Hours.{holds, not_before, first_open};
 ghost use Rattle.spec_hours.specs.CalendarBytes.{windows_of};
@@ -22,7 +24,7 @@ const WEEK_MINUTES: u64 = 10080;
 
 // Whether there is an open minute, and which; or the refusal's number and zeros.
 #[repr(C)]
-#[derive(Drop)]
+#[derive(Clone, Copy)]
 pub struct OpenTold {
     pub number: u64,
     pub found: u64,

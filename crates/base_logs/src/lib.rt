@@ -1,4 +1,6 @@
 // Two logs paired into a lent buffer: pairs and singles as three records of kind 20.
+#![tactic(auto)]
+
 ghost use Rattle.std.specs.Prelude.{◌≡◌, ◌+◌, ◌*◌, ◌≤◌, ◌<◌, ◌^◌, length};
 ghost use Rattle.std.proofs.lemmas.List.Edits.{sets};
 ghost use Rattle.spec_encoding.specs.Record.{signed};
@@ -46,14 +48,14 @@ const PAIRS_HEAD: usize = 17;
 const SINGLES_HEAD: usize = 13;
 
 // A refusal's number and length 0, or 0 and the length of the three records.
-#[derive(Drop)]
+#[derive(Clone, Copy)]
 pub struct LogsPaired {
     pub number: u64,
     pub length: usize,
 }
 
 // What becomes of the earliest rows left: they pair, or that of the first or the second log is single.
-#[derive(Drop)]
+#[derive(Clone, Copy)]
 pub enum Move {
     Pair,
     First,
@@ -61,7 +63,7 @@ pub enum Move {
 }
 
 // The first row left of each log, and the numbers of their times' four bytes.
-#[derive(Drop)]
+#[derive(Clone, Copy)]
 pub struct Rows {
     pub i: usize,
     pub x: u32,
@@ -70,7 +72,7 @@ pub struct Rows {
 }
 
 // Where the next pair and the next single of each log are written.
-#[derive(Drop)]
+#[derive(Clone, Copy)]
 pub struct Places {
     pub pairs: usize,
     pub firsts: usize,

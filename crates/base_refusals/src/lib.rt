@@ -1,5 +1,7 @@
 // The numbers of the refusals, of documents 01 and 02, under the names of include/dislogha.h.
 // A record of the data is cut short or of neither kind 20 nor 23.
+#![tactic(auto)]
+
 pub const NOT_A_TABLE: u64 = 11;
 
 pub const TABLE_OUT_OF_RANGE: u64 = 12;

@@ -1,4 +1,6 @@
 // Which rotas there are.
+#![tactic(auto)]
+
 ghost use Rattle.std.specs.Prelude.{◌≡◌};
 ghost use Rattle.spec_outcome.specs.Rota.{quota_fits, rota_fits};
 

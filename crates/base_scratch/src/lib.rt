@@ -1,4 +1,6 @@
 // The scratch: the one map of its words, their only reader and writer, and how they are left empty.
+#![tactic(auto)]
+
 ghost use Rattle.std.specs.Prelude.{◌≡◌, ◌++◌, ◌+◌, ◌≤◌, length, get_or, drop, set, replicate};
 ghost use Rattle.base_scratch.specs.Map.{scratch_size};
 ghost use Rattle.base_scratch.specs.ZeroedWords.{WipePost};

@@ -1,4 +1,6 @@
 // 64-bit signed arithmetic: the bound of numbers, magnitudes, and laws. See proofs/.
+#![tactic(auto)]
+
 ghost use Rattle.std.specs.Prelude.{◌≡◌, ◌<◌, pos, nat_abs, ◌<ℤ◌, ◌≤ℤ◌};
 ghost use Rattle.std.specs.Int.Signed.{mag};
 

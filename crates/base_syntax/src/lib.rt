@@ -1,5 +1,7 @@
 // What a question is made of: the kinds of records, the operators and the monoids, each with its numbers. The monoid's own type
 // has its start, its combining step and its last step on words; loops, nest and reduce use these.
+#![tactic(auto)]
+
 ghost use Rattle.std.specs.Prelude.{◌≡◌, ◌<◌, ◌%◌, ◌^◌};
 ghost use Rattle.std.specs.Int.Signed.{mag};
 ghost use Rattle.base_syntax.specs.MonoidWord.{monoid_of, zero_word, chosen, merge_word, finish_word, one_more};
@@ -69,7 +71,7 @@ const NUMBERS: usize = 256;
 // Monoids have the numbers 1 to 8.
 pub const MONOIDS: u64 = 8;
 
-#[derive(Drop)]
+#[derive(Clone, Copy)]
 pub enum BinOp {
     Plus,
     Minus,
@@ -81,13 +83,13 @@ pub enum BinOp {
 }
 
 // Document 02's operators, each over a list of terms; whether a minute is open goes by the calendar of a number.
-#[derive(Drop)]
+#[derive(Clone, Copy)]
 pub enum Fun {
     Choice,
     Open(usize),
 }
 
-#[derive(Drop)]
+#[derive(Clone, Copy)]
 pub enum Monoid {
     List,
     Bag,

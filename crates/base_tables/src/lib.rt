@@ -1,4 +1,6 @@
 // The one place that reads the lent data: its records, the descriptions of its tables, and their cells.
+#![tactic(auto)]
+
 ghost use Rattle.std.specs.Prelude.{◌≡◌, ◌+◌, ◌*◌, ◌^◌, ◌<◌, ◌≤◌, true, length, ◌==◌, nat_le, slice_index, unsigned_abs};
 ghost use Rattle.spec_encoding.specs.Record.{four, signed};
 ghost use Rattle.spec_encoding.specs.Columns.{plus, unfolded, summed};
@@ -64,14 +66,14 @@ pub const SUBSET_ROWS: usize = 12;
 const LOW_POSITIONS: u64 = 8589934592;
 
 // A whole record of kind 20 or 23 with the length of its content, or none.
-#[derive(Drop)]
+#[derive(Clone, Copy)]
 pub enum TableHeader {
     Record(usize),
     Bad,
 }
 
 // A table's number, its description and the position behind its record, or the refusal's number.
-#[derive(Drop)]
+#[derive(Clone, Copy)]
 pub enum TableRead {
     Is(usize, u64, usize),
     Refused(u64),

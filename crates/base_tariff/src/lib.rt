@@ -1,5 +1,7 @@
 // The one reader of a lent tariff: whether it keeps its layout (44), how deep it reaches, and the charge for a draught. The steps are read off its bytes each
 // time. c is a record's content.
+#![tactic(auto)]
+
 ghost use Rattle.std.specs.Prelude.{◌≡◌, ◌+◌, ◌*◌, ◌≤◌, ◌<◌, ◌^◌, max, pos, nat_abs};
 ghost use Rattle.spec_encoding.specs.Record.{byte, four};
 ghost use Rattle.spec_outcome.specs.Directions.{is_alone};

@@ -1,5 +1,7 @@
 // Text laid into a byte buffer below a limit: bytes, and numbers in decimal. With limit 0 nothing is written, and the place
 // behind it is its length.
+#![tactic(auto)]
+
 ghost use Rattle.std.specs.Prelude.{◌≡◌, ◌∷◌, []};
 ghost use Rattle.spec_plan.specs.Lines.{digits, signed_decimal};
 ghost use Rattle.base_text.specs.LaidText.{bump, laid, Lays, Text};

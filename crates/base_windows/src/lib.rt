@@ -1,4 +1,6 @@
 // The lent calendars' windows in scratch: laid there once a call, and whether a minute is open by them.
+#![tactic(auto)]
+
 ghost use Rattle.std.specs.Prelude.{◌≡◌, ◌+◌, ◌≤◌, ◌<◌, length, set};
 ghost use Rattle.spec_calendar.specs.Hours.{calendar_of, in_window, open_at};
 ghost use Rattle.spec_hours.specs.CalendarBytes.{windows_of, calendars_of};

@@ -1,4 +1,6 @@
 // The desk program: reads standard input, and prints what `printout` says of it.
+#![tactic(auto)]
+
 fn main() {
     let mut input = [0u8; 65537];
     let n = io::read_full(0, &mut input);

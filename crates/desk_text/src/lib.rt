@@ -1,4 +1,6 @@
 // What the desk program prints, laid into a lent buffer. Reading and printing are the desk's.
+#![tactic(auto)]
+
 ghost use Rattle.std.specs.Prelude.{◌≡◌, ◌+◌, ◌*◌, ◌≤◌, length};
 ghost use Rattle.spec_outcome.specs.Outcome.{scratch_words, cleared, by_loops};
 ghost use Rattle.spec_outcome.specs.Gives.{Gives};

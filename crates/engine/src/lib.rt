@@ -1,4 +1,6 @@
 // The open calls.
+#![tactic(auto)]
+
 ghost use Rattle.std.specs.Prelude.{◌≡◌, [], ◌≤◌, ◌<◌, length};
 ghost use Rattle.spec_calendar.specs.Dates.{on};
 ghost use Rattle.spec_hours.specs.Calls.{first_opened, day_numbered, dated};
@@ -32,14 +34,14 @@ const MOST_ROWS: u64 = 65535;
 
 // "An answer is 0 and its length ..; a refusal its number and length 0."
 #[repr(C)]
-#[derive(Drop)]
+#[derive(Clone, Copy)]
 pub struct Reply {
     pub number: u64,
     pub length: u64,
 }
 
 // How every call begins: too little scratch, a refusal of the checks, or an accepted question.
-#[derive(Drop)]
+#[derive(Clone, Copy)]
 pub enum Admitted {
     Scant,
     Refused(u64),
@@ -192,7 +194,7 @@ pub extern "C" fn dislogha_plan_lines(
 // What a portion says: whether its question is finished, how many rows it offered, and number and length as in a reply. Not finished
 // and number 0: unfinished; not finished and another number: refused.
 #[repr(C)]
-#[derive(Drop)]
+#[derive(Clone, Copy)]
 pub struct Portioned {
     pub finished: u64,
     pub offered: u64,
@@ -305,7 +307,7 @@ fn seat(
 }
 
 // What is told of two seats.
-#[derive(Drop)]
+#[derive(Clone, Copy)]
 pub struct TwoSeats {
     pub first: Portioned,
     pub second: Portioned,
@@ -332,7 +334,7 @@ fn two_seats(
 
 // What a round tells: 0 or 49, and what each seat's portion said.
 #[repr(C)]
-#[derive(Drop)]
+#[derive(Clone, Copy)]
 pub struct Round {
     pub number: u64,
     pub first: Portioned,

@@ -1,1 +1,2 @@
 // Linked and marked words are wired: laws only.
+#![tactic(auto)]

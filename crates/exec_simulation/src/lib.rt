@@ -1,1 +1,2 @@
 // What the words of a running plan stand for: definitions and laws only.
+#![tactic(auto)]

@@ -1,4 +1,6 @@
 // What operators and monoids do to values that are kept as one word.
+#![tactic(auto)]
+
 ghost use Rattle.std.specs.Prelude.{◌≡◌, ◌≤◌, ◌^◌, nat_abs};
 ghost use Rattle.base_syntax.specs.MonoidWord.{monoid_of};
 ghost use Rattle.base_syntax.specs.Numbers.{bin_of};
@@ -7,7 +9,7 @@ ghost use Rattle.form_arith.specs.WordSorts.{code_of, is_same, read_word, sort_o
 use base_syntax::{BinOp, Monoid};
 
 // How a value is read as a word: as a number, as a truth, as what it is of the two, or not at all.
-#[derive(Drop)]
+#[derive(Clone, Copy)]
 pub enum Sort {
     Number,
     Truth,

@@ -1,5 +1,7 @@
 // Operators and monoids on any words. Where the operands' magnitudes allow a result beyond 2^62, the result is 0. Refusal 28 keeps
 // accepted questions from this, but scratch may hold anything.
+#![tactic(auto)]
+
 ghost use Rattle.std.specs.Prelude.{◌≡◌, ◌+◌, ◌*◌, ◌<◌, ◌^◌, leb};
 ghost use Rattle.base_syntax.specs.MonoidWord.{monoid_of};
 ghost use Rattle.base_syntax.specs.Numbers.{bin_of};

@@ -1,5 +1,7 @@
 // The words of a normal form in scratch: `word` is their only reader, `put_word` their only writer. `look` says which node a
 // word is.
+#![tactic(auto)]
+
 ghost use Rattle.std.specs.Prelude.{◌≡◌, ◌+◌, ◌%◌, ◌<◌, ◌^◌, set};
 ghost use Rattle.form_words.specs.NodeWord.{word_at, form_kind_of, below_of, arg_of, pack, next, upto_place, branch_place};
 ghost use Rattle.base_syntax.specs.Numbers.{constant_of};
@@ -42,7 +44,7 @@ pub const PAIR: u64 = 1024;
 
 // A node, with the places that are not the one behind it: the end of a record or an operator, the second operand, the end of a condition.
 // A cell is column and generator, a generator its number and its table.
-#[derive(Drop)]
+#[derive(Clone, Copy)]
 pub enum FormNode {
     Number(i64),
     Truth(bool),
@@ -59,7 +61,7 @@ pub enum FormNode {
 }
 
 // A number, a cell, or some other node.
-#[derive(Drop)]
+#[derive(Clone, Copy)]
 pub enum Leaf {
     Number(i64),
     Cell(usize, usize),
@@ -67,14 +69,14 @@ pub enum Leaf {
 }
 
 // The monoid of a comprehension, or some other node.
-#[derive(Drop)]
+#[derive(Clone, Copy)]
 pub enum MonoidRead {
     Is(Monoid),
     Other,
 }
 
 // A node that stands among the clauses of a comprehension: all but generators and conditions are its head.
-#[derive(Drop)]
+#[derive(Clone, Copy)]
 pub enum Clause {
     Generator(usize, usize),
     Condition(usize),

@@ -1,4 +1,6 @@
 // Refusal 28: whether every number of the normal form has a bound of at most 2^62.
+#![tactic(auto)]
+
 ghost use Rattle.std.specs.Prelude.{◌≡◌, ◌&&◌, [], ◌∷◌, ◌+◌, ◌*◌, ◌≤◌};
 ghost use Rattle.spec_normal_form.specs.Bound.{bin_bound, app_bound};
 ghost use Rattle.base_syntax.specs.MonoidWord.{monoid_of};
@@ -16,7 +18,7 @@ use form_words::{Clause, FormNode, look, look_clause, next};
 const OVER: u64 = NUMBER_LIMIT + 1;
 
 // A form's bound, cut at 2^62 + 1, and whether every number in the form is within 2^62.
-#[derive(Drop)]
+#[derive(Clone, Copy)]
 pub struct Size {
     pub bound: u64,
     pub fits: bool,

@@ -1,4 +1,6 @@
 // Whether every calendar that a question names is lent: 42.
+#![tactic(auto)]
+
 ghost use Rattle.std.specs.Prelude.{◌≡◌, length};
 ghost use Rattle.spec_hours.specs.CalendarBytes.{calendars_of};
 ghost use Rattle.front_calendars.specs.LentNodes.{lent_at, lent_from};

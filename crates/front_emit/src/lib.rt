@@ -1,4 +1,6 @@
 // The normal form of a question, written into scratch from its nodes. A node's word is written when the words below it are.
+#![tactic(auto)]
+
 ghost use Rattle.std.specs.Prelude.{◌≡◌, true, suc, ◌^◌, ◌<◌, ◌≤◌, length};
 ghost use Rattle.spec_calculus.specs.Lists.{pick};
 ghost use Rattle.spec_calculus.specs.Syntax.{of};
@@ -22,14 +24,14 @@ use front_nodes::{Found, QueryNode};
 use front_resolve::{Form, Head, LEVELS};
 
 // The next place among the words of the normal form, and the next generator number.
-#[derive(Drop)]
+#[derive(Clone, Copy)]
 pub struct WriterState {
     pub place: usize,
     pub next: u64,
 }
 
 // How a condition is written: as two, as the qualifiers of a "some" and its head, or as one.
-#[derive(Drop)]
+#[derive(Clone, Copy)]
 pub enum Split {
     And(usize, usize),
     Some(usize),
@@ -188,7 +190,7 @@ fn emit(s: &mut [u64], i: usize, depth: usize, env: &[u16; LEVELS], st: WriterSt
 }
 
 // Kind and argument of the word over the terms of a record or an operator.
-#[derive(Drop)]
+#[derive(Clone, Copy)]
 enum Heading {
     Terms(u64, u64),
     Other,

@@ -1,4 +1,6 @@
 // From bytes to an accepted question in scratch: the passes in document 01's order of refusals.
+#![tactic(auto)]
+
 ghost use Rattle.std.specs.Prelude.{◌-◌, ◌≤◌, length};
 ghost use Rattle.base_scratch.specs.Map.{scratch_size};
 ghost use Rattle.front_emit.specs.WholeForm.{Writable};
@@ -10,14 +12,14 @@ use base_scratch::{FORM, FORM_WORDS, NODES};
 use front_parser::Read;
 
 // The number of the question's nodes, or the refusal.
-#[derive(Drop)]
+#[derive(Clone, Copy)]
 pub enum FrontResult {
     Refused(u64),
     Nodes(usize),
 }
 
 // A refusal, or a question that answering and planning may begin with.
-#[derive(Drop)]
+#[derive(Clone, Copy)]
 pub enum Checked {
     Refused(u64),
     Accepted,

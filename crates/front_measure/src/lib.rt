@@ -1,4 +1,6 @@
 // How much of the normal form each node writes: one loop over the nodes, each weighed by those before it.
+#![tactic(auto)]
+
 ghost use Rattle.std.specs.Prelude.{◌≡◌, true, ◌+◌, ◌-◌, min};
 ghost use Rattle.spec_calculus.specs.Lists.{pick};
 ghost use Rattle.base_syntax.specs.MonoidWord.{monoid_of};
@@ -19,7 +21,7 @@ use front_resolve::{Form, LEVELS};
 use front_sizes::{FormSize, TOO_MANY};
 
 // What is written where "some" stays, and where it gives way.
-#[derive(Drop)]
+#[derive(Clone, Copy)]
 pub struct Ways {
     pub stays: FormSize,
     pub yields: FormSize,
@@ -27,7 +29,7 @@ pub struct Ways {
 
 // Of a term: as a term, as a condition, as a generator's term. Of a qualifier: what it writes, as a condition; what the
 // qualifiers of its comprehension write up to it; and those before it.
-#[derive(Drop)]
+#[derive(Clone, Copy)]
 pub struct Weight {
     pub term: FormSize,
     pub condition: Ways,

@@ -1,4 +1,6 @@
 // A node of the question from its words in scratch.
+#![tactic(auto)]
+
 ghost use Rattle.std.specs.Prelude.{◌≡◌, ◌-◌, ◌<◌, get_or};
 ghost use Rattle.spec_encoding.specs.Reader.{kinds, unknown};
 ghost use Rattle.base_syntax.specs.Numbers.{constant_of};
@@ -10,7 +12,7 @@ use base_scratch::MOST_NODES;
 use base_syntax::{BinOp, Fun, KIND_OPEN, Monoid, OFFSET};
 use front_words::start_at;
 
-#[derive(Drop)]
+#[derive(Clone, Copy)]
 pub enum Kind {
     Number,
     Truth,
@@ -31,7 +33,7 @@ pub enum Kind {
 
 // A name is its binder and the depth of the comprehension that the binder stands in. The terms of a record and of an operator
 // are had by `child`, the qualifiers of a comprehension by walking back from its head: each ends where the next one begins (`start_at`).
-#[derive(Drop)]
+#[derive(Clone, Copy)]
 pub enum QueryNode {
     Number(i64),
     Truth(bool),
@@ -49,13 +51,13 @@ pub enum QueryNode {
     Bad,
 }
 
-#[derive(Drop)]
+#[derive(Clone, Copy)]
 pub enum Found {
     At(usize),
     Nothing,
 }
 
-#[derive(Drop)]
+#[derive(Clone, Copy)]
 pub enum Binder {
     Gen(usize),
     Bind(usize),

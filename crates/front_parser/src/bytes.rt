@@ -6,14 +6,14 @@ use crate::ParseState;
 use base_refusals::{BROKEN_RECORD, TOO_DEEP_OR_TOO_MANY_RECORDS};
 
 // A whole record: its kind and where it ends.
-#[derive(Drop)]
+#[derive(Clone, Copy)]
 pub enum RecordHeader {
     Record(u64, usize),
     Short,
 }
 
 // A record that may begin: its kind, where it ends, and where the reader of its content stands.
-#[derive(Drop)]
+#[derive(Clone, Copy)]
 pub enum RecordStart {
     Record(u64, usize, ParseState),
     Refused(u64),

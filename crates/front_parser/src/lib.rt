@@ -1,5 +1,7 @@
 // A question's bytes become node words: "a comprehension reads qualifiers, a qualifier reads terms, and a term may be a
 // comprehension again". Each reader passes on the part of the bytes that starts behind a record's header.
+#![tactic(auto)]
+
 mod bytes;
 mod value;
 
@@ -23,7 +25,7 @@ const RECORDS: usize = 255;
 
 // Where a reader stands: how many levels may still be opened and how many records begun, the next node, and how many
 // comprehensions are around it.
-#[derive(Drop)]
+#[derive(Clone, Copy)]
 pub struct ParseState {
     pub levels: usize,
     pub left: usize,
@@ -32,7 +34,7 @@ pub struct ParseState {
 }
 
 // How many terms a record's content may have, and how many bytes stand before them.
-#[derive(Drop)]
+#[derive(Clone, Copy)]
 pub struct Arity {
     pub least: usize,
     pub most: usize,
@@ -40,28 +42,28 @@ pub struct Arity {
 }
 
 // A record's content was read whole: how many records may still be begun, and the next node.
-#[derive(Drop)]
+#[derive(Clone, Copy)]
 pub enum Filled {
     Read(usize, usize),
     Refused(u64),
 }
 
 // The term at the front of some bytes: how many bytes it takes, and as above.
-#[derive(Drop)]
+#[derive(Clone, Copy)]
 pub enum TermFront {
     Read(usize, usize, usize),
     Refused(u64),
 }
 
 // Terms up to the end of the bytes: how many, and as above.
-#[derive(Drop)]
+#[derive(Clone, Copy)]
 pub enum Several {
     Read(usize, usize, usize),
     Refused(u64),
 }
 
 // A qualifier or the head at the front of some bytes, as a term.
-#[derive(Drop)]
+#[derive(Clone, Copy)]
 pub enum Item {
     Qualifier(usize, usize, usize),
     Head(usize, usize, usize),
@@ -69,7 +71,7 @@ pub enum Item {
 }
 
 // The number of nodes, or the refusal.
-#[derive(Drop)]
+#[derive(Clone, Copy)]
 pub enum Read {
     Question(usize),
     Refused(u64),

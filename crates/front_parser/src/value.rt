@@ -18,7 +18,7 @@ use front_words::put_node;
 const LAST_NAME: u64 = 255;
 
 // What a term's content is.
-#[derive(Drop)]
+#[derive(Clone, Copy)]
 pub enum ContentKind {
     Value,
     Terms(Arity),
@@ -27,14 +27,14 @@ pub enum ContentKind {
 }
 
 // Whether a qualifier stands ahead, and what its content is.
-#[derive(Drop)]
+#[derive(Clone, Copy)]
 pub enum Ahead {
     Qualifier(Arity),
     Term,
 }
 
 // The argument that some bytes hold.
-#[derive(Drop)]
+#[derive(Clone, Copy)]
 pub enum ArgumentRead {
     Is(u64),
     Broken,

@@ -1,4 +1,6 @@
 // The head of a node: names and fields are followed, in an environment that is lent.
+#![tactic(auto)]
+
 ghost use Rattle.std.specs.Prelude.{◌≡◌, ◌||◌, ◌+◌, ◌*◌, ◌/◌, ◌^◌, ◌≤◌, ◌<◌, length, get_or, set};
 ghost use Rattle.spec_normal_form.specs.Normal.{idempotent};
 ghost use Rattle.front_theory.specs.NodeForms.{levels};
@@ -14,7 +16,7 @@ use front_sizes::TOO_MANY;
 pub const LEVELS: usize = 32;
 
 // What is left of a node: no name, no field. A row is its generator's number, a cell a field of a row.
-#[derive(Drop)]
+#[derive(Clone, Copy)]
 pub enum Form {
     Number(i64),
     Truth(bool),
@@ -32,7 +34,7 @@ pub enum Form {
 // A form at a node, with so many comprehensions around it. The environment that goes with it has for each of these twice
 // the first number of the copy in which we stand, plus 1 where "some" gives way in it. It is lent, and of 16 bits an entry,
 // so that a level of a walk takes little stack.
-#[derive(Drop)]
+#[derive(Clone, Copy)]
 pub struct Head {
     pub form: Form,
     pub node: usize,
@@ -40,7 +42,7 @@ pub struct Head {
 }
 
 // A step of the walk: on to a node at a depth, or the head.
-#[derive(Drop)]
+#[derive(Clone, Copy)]
 pub enum Next {
     On(usize, usize),
     At(Head),

@@ -1,4 +1,6 @@
 // "24: a name out of scope or bound twice."
+#![tactic(auto)]
+
 ghost use Rattle.std.specs.Prelude.{◌≡◌, false, ◌&&◌, ◌+◌, ◌≤◌, ◌<◌, ◌^◌, length, get_or};
 ghost use Rattle.base_scratch.specs.Map.{names as mostNames};
 ghost use Rattle.front_words.specs.NodeWord.{node_kind_of, node_word};

@@ -1,4 +1,6 @@
 // How much each node writes, in scratch: the only readers and writers of these words.
+#![tactic(auto)]
+
 ghost use Rattle.std.specs.Prelude.{◌≡◌, ◌+◌, ◌<◌, set};
 ghost use Rattle.front_sizes.specs.SizeWords.{place, word_at, pair_of, pack, SmallSize, term_count, condition_count, spliced_count, stored};
 
@@ -15,7 +17,7 @@ const SECOND: u64 = 1048576;
 const THIRD: u64 = 1099511627776;
 
 // What something writes: its size and its generators. Of a qualifier's offsets: where "some" does not give way, where it does.
-#[derive(Drop)]
+#[derive(Clone, Copy)]
 pub struct FormSize {
     pub size: u64,
     pub gens: u64,

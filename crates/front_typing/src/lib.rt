@@ -1,4 +1,6 @@
 // "25: a type, field or table that does not fit. 26: a generator its monoid may not have."
+#![tactic(auto)]
+
 ghost use Rattle.std.specs.Prelude.{◌≡◌, true, false, ◌≤◌, ◌<◌};
 ghost use Rattle.spec_checks.specs.Types.{may_stand};
 ghost use Rattle.front_nodes.specs.NodeTable.{children_of, nodes_of};
@@ -14,7 +16,7 @@ use front_nodes::{Found, QueryNode};
 
 // What a node's type is at its head. A type can be exponentially large, so none is ever built: a record and a collection
 // are told by the node that makes them, a row and a table by the table's number.
-#[derive(Drop)]
+#[derive(Clone, Copy)]
 pub enum TypeHead {
     Wrong,
     Number,
@@ -26,7 +28,7 @@ pub enum TypeHead {
 }
 
 // What a node makes that a shape can refer to.
-#[derive(Drop)]
+#[derive(Clone, Copy)]
 pub enum NodeMakes {
     Record,
     Comp(Monoid, usize),

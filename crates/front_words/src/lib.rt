@@ -1,4 +1,6 @@
 // The nodes of a question in scratch, and the binders of its names: the only readers and writers of these words.
+#![tactic(auto)]
+
 ghost use Rattle.std.specs.Prelude.{◌≡◌, ◌+◌, ◌≤◌, ◌<◌, set};
 ghost use Rattle.base_scratch.specs.Map.{nodes_at, names};
 ghost use Rattle.front_words.specs.Binders.{binder_word, put_binder};

@@ -1,5 +1,7 @@
 // Answering with a tariff, by loops: an accepted question stands in scratch, the dues on its answer go to the buffer. Its type is asked first (45), then
 // whether the words have room (32), then each draught (46), and only then is a word written.
+#![tactic(auto)]
+
 ghost use Rattle.base_tariff.specs.Contract.{tariff_in, IsTariff};
 ghost use Rattle.form_prepared.specs.AnswerContract.{Asked};
 ghost use Rattle.loop_dues.specs.Contract.{DuesPost};
@@ -13,7 +15,7 @@ use loop_draughts::{Judged, judge};
 
 // "45, a question of another type"; "32: the answer buffer has fewer than G words"; "46, a draught below 0 or above the last step"; or how many words the
 // dues have.
-#[derive(Drop)]
+#[derive(Clone, Copy)]
 pub enum Dues {
     Unfit,
     Short,

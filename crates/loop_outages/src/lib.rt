@@ -1,4 +1,6 @@
 // Outages counted: an accepted question stands in scratch and is answered by loops over each subset of one table's rows.
+#![tactic(auto)]
+
 ghost use Rattle.std.specs.Prelude.{◌≡◌, ◌≤◌, ◌<◌, ◌^◌};
 ghost use Rattle.form_prepared.specs.AnswerContract.{Asked};
 ghost use Rattle.loop_outages.specs.Contract.{truth_asked, countable_in, HoldsPre, HoldsPost, TruthsPre, TruthsPost, CountPost};
@@ -13,7 +15,7 @@ use loop_scalar::scalar;
 pub const ANSWER_WORDS: usize = 2;
 
 // The counts are in the answer buffer, or a refusal's number.
-#[derive(Drop)]
+#[derive(Clone, Copy)]
 pub enum Counted {
     Written,
     Refused(u64),

@@ -1,1 +1,2 @@
 // Definitions only: refusals 24, 25 and 26. See specs/.
+#![tactic(auto)]

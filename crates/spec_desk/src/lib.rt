@@ -1,1 +1,2 @@
 // Definitions only: what the desk program prints. See specs/.
+#![tactic(auto)]

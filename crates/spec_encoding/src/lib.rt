@@ -1,1 +1,2 @@
 // Definitions only: tables and questions as bytes. See specs/.
+#![tactic(auto)]

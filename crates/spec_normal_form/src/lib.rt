@@ -1,1 +1,2 @@
 // Definitions only: the normal form, its size and its bounds. See specs/.
+#![tactic(auto)]

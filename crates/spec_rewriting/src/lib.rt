@@ -1,1 +1,2 @@
 // Definitions only: the rules of the normal form, one step after another. See specs/.
+#![tactic(auto)]

@@ -1,1 +1,2 @@
 // Definitions only: tariffs, their bytes, the dues on an answer, and the outcome of the call. See specs/.
+#![tactic(auto)]

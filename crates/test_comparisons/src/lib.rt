@@ -1,4 +1,6 @@
 // A call for the tests, beside the open ones and in an archive of its own: how many comparisons of two elements an answer takes.
+#![tactic(auto)]
+
 ghost use Rattle.form_prepared.specs.AnswerContract.{Asked};
 ghost use Rattle.spec_outcome.specs.Acceptance.{lent_as};
 ghost use Rattle.spec_outcome.specs.Gives.{Gives};
@@ -9,7 +11,7 @@ use engine::{Admitted, Reply, admit, finish};
 use loop_collect::raw_answer;
 
 // The number of an answer, and the comparisons of its ordering steps.
-#[derive(Drop)]
+#[derive(Clone, Copy)]
 struct Tally {
     number: u64,
     comparisons: u64,

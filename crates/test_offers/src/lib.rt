@@ -1,4 +1,6 @@
 // A call for the tests, beside the open ones and in an archive of its own: how many rows a pass offers.
+#![tactic(auto)]
+
 ghost use Rattle.std.specs.Prelude.{[]};
 ghost use Rattle.exec_batch.specs.Contract.{Waiting};
 ghost use Rattle.form_prepared.specs.AnswerContract.{Asked};

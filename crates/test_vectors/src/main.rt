@@ -3,6 +3,8 @@
 // plan; then the lines of its plan.
 // A case is one byte that says whether its answer is known (1) or too long for any engine (0), two
 // bytes of data's length, two of the calendars', two of the question's, little-endian, then all three.
+#![tactic(auto)]
+
 ghost use Rattle.std.specs.Prelude.{◌+◌, ◌*◌, ◌<◌, ◌≤◌, ◌≡◌, length, get_or, replicate};
 
 fn wide(byte: u8) -> usize

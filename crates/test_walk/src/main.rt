@@ -1,5 +1,7 @@
 // Takes a question through the passes and prints what each leaves in scratch, word by word with its fields: docs/WALK.md quotes it.
 // The input is the listing: the data, then the question.
+#![tactic(auto)]
+
 ghost use Rattle.std.specs.Prelude.{◌<◌, ◌≤◌, length};
 ghost use Rattle.base_scratch.specs.Map.{scratch_size};
 
@@ -12,7 +14,7 @@ use front_end::FrontResult;
 const DATA: usize = 66;
 
 // How a word is taken apart.
-#[derive(Drop)]
+#[derive(Clone, Copy)]
 enum Format {
     Whole,
     Description,

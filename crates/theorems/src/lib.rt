@@ -1,1 +1,2 @@
 // Theorems only: what holds over the contracts of the open calls. See proofs/.
+#![tactic(auto)]
