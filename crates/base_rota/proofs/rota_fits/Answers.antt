@@ -9,6 +9,8 @@ use borrow.Author.Rules.{rules}
 use Rattle.base_rota.proofs.rota_fits.Reads as reads
 use Rattle.base_rota.proofs.rota_fits.Lts as lts
 use Rattle.base_rota.proofs.quota_fits.Reads as quota-fits-reads
+use mathlib.Core.Path.{ap}
+use mathlib.Core.Bool.{not}
 use Rattle.base_rota.proofs.rota_fits.Goals as goal
 
 pub returns-then-n-eq0 : goal.returns-then-n-eq0
@@ -24,13 +26,13 @@ pub bounds-quotas-i : goal.bounds-quotas-i
 bounds-quotas-i c = c.loop-i-test.true
 
 pub returns-then-not-fits : goal.returns-then-not-fits
-returns-then-not-fits c = rota-stops c.args.quotas.now c.loop-i.i c.loop-i.invariant.1 c.loop-i-test.true c.quota_fits-fits.ensures c.if-not-fits.true
+returns-then-not-fits c = rota-stops c.args.quotas.now c.loop-i.i c.loop-i.invariant.1 c.loop-i-test.true c.quota_fits-fits.ensures (ap not c.if-not-fits.true)
 
 pub loop-i-smaller : goal.loop-i-smaller
 loop-i-smaller c = omega (arith, c.loop-i-test.true)
 
 pub loop-i-preserved : goal.loop-i-preserved
-loop-i-preserved c = (omega (arith, c.loop-i-test.true), rota-goes c.args.quotas.now c.loop-i.i c.loop-i.invariant.1 c.loop-i-test.true c.quota_fits-fits.ensures c.if-not-fits.false)
+loop-i-preserved c = (omega (arith, c.loop-i-test.true), rota-goes c.args.quotas.now c.loop-i.i c.loop-i.invariant.1 c.loop-i-test.true c.quota_fits-fits.ensures (ap not c.if-not-fits.false))
 
 pub returns : goal.returns
 returns c = rota-ends c.args.quotas.now c.loop-i.i c.loop-i.invariant.1 c.loop-i-test.false

@@ -11,7 +11,7 @@ pub loop-i-init : goal.loop-i-init
 loop-i-init c = (refl, lays-nil c.args.limit c.args.p c.args.text.now)
 
 pub loop-i-preserved : goal.loop-i-preserved
-loop-i-preserved c = (c.put-q.auto.0 ∙ c.loop-i.invariant.0, said_more c.args.b.now c.loop-i.i c.loop-i-test.true c.loop-i.invariant.1 c.put-q.ensures)
+loop-i-preserved c = (c.put-q.auto.text ∙ c.loop-i.invariant.0, said_more c.args.b.now c.loop-i.i c.loop-i-test.true c.loop-i.invariant.1 c.put-q.ensures)
 
 pub shape_of-text : goal.shape_of-text
 shape_of-text c = c.loop-i.invariant.0

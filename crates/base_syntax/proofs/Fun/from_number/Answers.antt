@@ -4,4 +4,4 @@ use borrow.Author.Rules.{rules}
 use Rattle.base_syntax.proofs.Fun.from_number.Goals as goal
 
 pub returns-in_default : goal.returns-in_default
-returns-in_default c = fun-rest c.args.n c.in_default.rest.1
+returns-in_default c = fun-rest c.args.n c.in_default.in_default-own.rest.1
