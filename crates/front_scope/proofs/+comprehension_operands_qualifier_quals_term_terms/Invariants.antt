@@ -1,0 +1,30 @@
+use native.Mathlib.Omega.{arith}
+use Prim.Native.Nat.{◌+◌, ◌-◌, ◌*◌, ℕ, ◌<◌}
+use mathlib.Core.Path.{refl}
+use Rattle.front_scope.proofs.KindNumbers.{kind-is, kind-not, kind-outside, two-kind-at, kind-above}
+use Rattle.front_scope.proofs.Exits.{term-leaf, term-name, term-field, term-not, term-record, term-choice, term-open, term-two, term-comp, term-bare, operands-both, comp-both, terms-none, terms-more, quals-none, quals-more, qual-gen, qual-bind, qual-cond, qual-none, behind-term, behind-terms, behind-quals}
+use borrow.Author.Rules.{rules}
+use Prim.Native.Nat.{ℕ, ◌<◌}
+use Rattle.front_scope.proofs.+comprehension_operands_qualifier_quals_term_terms.{
+  statement,
+use Rattle.front_scope.proofs.+comprehension_operands_qualifier_quals_term_terms.Tie.{
+  close,
+use Rattle.front_scope.proofs.+comprehension_operands_qualifier_quals_term_terms.Given as goal
+
+abbrev pub decreases-comprehension : goal.decreases-comprehension
+decreases-comprehension l = 2 * l.i + 1
+
+abbrev pub decreases-operands : goal.decreases-operands
+decreases-operands l = 2 * l.i + 1
+
+abbrev pub decreases-qualifier : goal.decreases-qualifier
+decreases-qualifier l = 2 * l.i + 1
+
+abbrev pub decreases-quals : goal.decreases-quals
+decreases-quals l = 2 * l.e + 1
+
+abbrev pub decreases-term : goal.decreases-term
+decreases-term l = 2 * l.e
+
+abbrev pub decreases-terms : goal.decreases-terms
+decreases-terms l = 2 * l.e + 1

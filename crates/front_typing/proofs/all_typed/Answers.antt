@@ -1,0 +1,22 @@
+-- `front_typing::all_typed_lem` meets its contract, by Exits.
+use Rattle.front_typing.proofs.Exits.{no-parts, Parts, parts-begin, parts-on, parts-off, parts-end}
+use borrow.Author.Tests.{not-true, not-false}
+use borrow.Author.Rules.{rules}
+use mathlib.Core.Path.{ap}
+use mathlib.Core.Bool.{not}
+use Rattle.front_typing.proofs.all_typed.Goals as goal
+
+pub returns-then-i-eq0 : goal.returns-then-i-eq0
+returns-then-i-eq0 c = no-parts c.args.s.now c.args.i c.if-i-eq0.true
+
+pub loop-left-init : goal.loop-left-init
+loop-left-init c = parts-begin c.if-i-eq0.false c.node_word.ensures c.term_count-left.ensures
+
+pub returns-then-not-is_typed : goal.returns-then-not-is_typed
+returns-then-not-is_typed c = parts-off c.loop-left.invariant c.loop-left-test.true c.prior-c.ensures c.shape_at.ensures c.is_typed.ensures (not-true c.is_typed.result (ap not c.if-not-is_typed.true))
+
+pub loop-left-preserved : goal.loop-left-preserved
+loop-left-preserved c = parts-on c.loop-left.invariant c.loop-left-test.true c.prior-c.ensures c.shape_at.ensures c.is_typed.ensures (not-false c.is_typed.result (ap not c.if-not-is_typed.false)) c.start_at-e.ensures.0
+
+pub returns : goal.returns
+returns c = parts-end c.loop-left.invariant c.loop-left-test.false
