@@ -8,14 +8,8 @@ use Rattle.front_parser.proofs.TermSequences.{TermsUpto, upto-first, upto-last, 
 use Rattle.front_parser.proofs.Questions.{PartsUpto, parts_first, parts-last-refused, front-qualifier, parts_within, parts_again, parts-last-over, parts_last, comprehension-none, comprehension-zero, comprehension-over, comprehension-refused, comprehension-read, room-inside, room-terms, room-parts, finishing-terms, few-terms, finishing-parts}
 use borrow.Author.Rules.{rules}
 use Prim.Native.Nat.{ℕ, ◌<◌}
-use Rattle.front_parser.proofs.+compound_comprehension_content_parts_qualifier_term_terms.{
-  statement,
-use Rattle.front_parser.proofs.+compound_comprehension_content_parts_qualifier_term_terms.Tie.{
-  close,
 use Rattle.front_parser.proofs.+compound_comprehension_content_parts_qualifier_term_terms.Goals as goal
 
-}
-}
 
 pub compound-returns-in_default : goal.compound-returns-in_default
 compound-returns-in_default t c = compound-broken c.fixed.ensures c.in_default.is
@@ -33,7 +27,7 @@ pub compound-terms-requires : goal.compound-terms-requires
 compound-terms-requires t c = (omega (arith, length-after c.args.c.now c.args.h.skip, c.decreases), room-terms c.requires.1)
 
 pub compound-shape_of-s-then-count-h : goal.compound-shape_of-s-then-count-h
-compound-shape_of-s-then-count-h t c = c.terms.auto.1.0
+compound-shape_of-s-then-count-h t c = c.terms.auto.p.0
 
 pub compound-returns-then-count-h : goal.compound-returns-then-count-h
 compound-returns-then-count-h t c = compound-few c.fixed.ensures c.in-Is.is c.terms.ensures c.in-Read.is c.if-count-h.true
@@ -42,7 +36,7 @@ pub compound-finish-requires : goal.compound-finish-requires
 compound-finish-requires t c = finishing-terms c.requires.1 c.terms.ensures c.in-Read.is c.requires.0 (few-terms c.requires.1 c.terms.ensures c.in-Read.is)
 
 pub compound-shape_of-s-then-skip-eq0 : goal.compound-shape_of-s-then-skip-eq0
-compound-shape_of-s-then-skip-eq0 t c = c.finish.auto.0 ∙ c.terms.auto.1.0
+compound-shape_of-s-then-skip-eq0 t c = c.finish.auto.s ∙ c.terms.auto.p.0
 
 pub compound-returns-then-skip-eq0 : goal.compound-returns-then-skip-eq0
 compound-returns-then-skip-eq0 t c = compound-done c.fixed.ensures c.in-Is.is c.terms.ensures c.in-Read.is c.if-count-h.false c.finish.ensures (λ e. refl) (λ n. absurd (n c.if-skip-eq0.true))
@@ -51,13 +45,13 @@ pub compound-finish-requires-in-Read : goal.compound-finish-requires-in-Read
 compound-finish-requires-in-Read t c = let X = fixed-is c.fixed.ensures c.in-Is.is in finishing-terms c.requires.1 c.terms.ensures c.in-Read.is c.requires.0 (omega (arith, X.small))
 
 pub compound-shape_of-s-in-Refused : goal.compound-shape_of-s-in-Refused
-compound-shape_of-s-in-Refused t c = c.terms.auto.1.0
+compound-shape_of-s-in-Refused t c = c.terms.auto.p.0
 
 pub compound-returns-in-Refused : goal.compound-returns-in-Refused
 compound-returns-in-Refused t c = compound-refused c.fixed.ensures c.in-Is.is c.terms.ensures c.in-Refused.is
 
 pub compound-shape_of-s-else-skip-eq0 : goal.compound-shape_of-s-else-skip-eq0
-compound-shape_of-s-else-skip-eq0 t c = c.finish-in-Read.auto.0 ∙ c.terms.auto.1.0
+compound-shape_of-s-else-skip-eq0 t c = c.finish-in-Read.auto.s ∙ c.terms.auto.p.0
 
 pub compound-returns-else-skip-eq0 : goal.compound-returns-else-skip-eq0
 compound-returns-else-skip-eq0 t c = compound-done c.fixed.ensures c.in-Is.is c.terms.ensures c.in-Read.is c.if-count-h.false c.finish-in-Read.ensures (λ e. absurd (c.if-skip-eq0.false e)) (λ n. refl)
@@ -90,13 +84,13 @@ pub comprehension-finish-requires : goal.comprehension-finish-requires
 comprehension-finish-requires t c = finishing-parts c.args.p c.requires c.parts.ensures c.in-Read.is c.if-m-gt-MONOIDS.false
 
 pub comprehension-shape_of-s-in-Refused : goal.comprehension-shape_of-s-in-Refused
-comprehension-shape_of-s-in-Refused t c = c.parts.auto.1.0
+comprehension-shape_of-s-in-Refused t c = c.parts.auto.p.0
 
 pub comprehension-returns-in-Refused : goal.comprehension-returns-in-Refused
 comprehension-returns-in-Refused t c = comprehension-refused c.args.p c.if-c-eq0.false c.byte-m.ensures c.if-m-eq0.false c.if-m-gt-MONOIDS.false c.parts.ensures c.in-Refused.is
 
 pub comprehension-shape_of-s-in-Read : goal.comprehension-shape_of-s-in-Read
-comprehension-shape_of-s-in-Read t c = c.finish.auto.0 ∙ c.parts.auto.1.0
+comprehension-shape_of-s-in-Read t c = c.finish.auto.s ∙ c.parts.auto.p.0
 
 pub comprehension-returns-in-Read : goal.comprehension-returns-in-Read
 comprehension-returns-in-Read t c = comprehension-read c.args.p c.if-c-eq0.false c.byte-m.ensures c.if-m-eq0.false c.if-m-gt-MONOIDS.false c.parts.ensures c.in-Read.is c.finish.ensures
@@ -111,19 +105,19 @@ pub content-comprehension-requires : goal.content-comprehension-requires
 content-comprehension-requires t c = (omega (arith, c.decreases), c.requires)
 
 pub content-shape_of-s-in-Value : goal.content-shape_of-s-in-Value
-content-shape_of-s-in-Value t c = c.leaf.auto.1.1.0
+content-shape_of-s-in-Value t c = c.leaf.auto.p.1.0
 
 pub content-returns-in-Value : goal.content-returns-in-Value
 content-returns-in-Value t c = c.leaf.ensures
 
 pub content-shape_of-s-in-Terms : goal.content-shape_of-s-in-Terms
-content-shape_of-s-in-Terms t c = c.compound.auto.1.1.1.0
+content-shape_of-s-in-Terms t c = c.compound.auto.s.1.1.0
 
 pub content-returns-in-Terms : goal.content-returns-in-Terms
 content-returns-in-Terms t c = content-terms c.shape_of.ensures c.in-Terms.is c.compound.ensures
 
 pub content-shape_of-s-in-Comprehension : goal.content-shape_of-s-in-Comprehension
-content-shape_of-s-in-Comprehension t c = c.comprehension.auto.1.0
+content-shape_of-s-in-Comprehension t c = c.comprehension.auto.p.0
 
 pub content-returns-in-Comprehension : goal.content-returns-in-Comprehension
 content-returns-in-Comprehension t c = content-comprehension c.shape_of.ensures c.in-Comprehension.is c.comprehension.ensures
@@ -150,19 +144,19 @@ pub qualifier-returns-in-Refused : goal.qualifier-returns-in-Refused
 qualifier-returns-in-Refused t c = item-none c.begin.ensures c.in-Refused.is
 
 pub qualifier-shape_of-s-in-Term : goal.qualifier-shape_of-s-in-Term
-qualifier-shape_of-s-in-Term t c = c.term.auto.1.0
+qualifier-shape_of-s-in-Term t c = c.term.auto.p.0
 
 pub qualifier-returns-in-Term : goal.qualifier-returns-in-Term
 qualifier-returns-in-Term t c = item-head c.begin.ensures c.in-Record.is c.look_ahead.ensures c.in-Term.is c.term.ensures c.as_head.ensures
 
 pub qualifier-shape_of-s-in-Refused-compound : goal.qualifier-shape_of-s-in-Refused-compound
-qualifier-shape_of-s-in-Refused-compound t c = c.compound.auto.1.1.1.0
+qualifier-shape_of-s-in-Refused-compound t c = c.compound.auto.s.1.1.0
 
 pub qualifier-returns-in-Refused-compound : goal.qualifier-returns-in-Refused-compound
 qualifier-returns-in-Refused-compound t c = item_refused c.begin.ensures c.in-Record.is c.look_ahead.ensures c.in-Qualifier.is c.compound.ensures c.in-Refused-compound.is
 
 pub qualifier-shape_of-s-in-Read : goal.qualifier-shape_of-s-in-Read
-qualifier-shape_of-s-in-Read t c = c.compound.auto.1.1.1.0
+qualifier-shape_of-s-in-Read t c = c.compound.auto.s.1.1.0
 
 pub qualifier-returns-in-Read : goal.qualifier-returns-in-Read
 qualifier-returns-in-Read t c = item-read c.begin.ensures c.in-Record.is c.look_ahead.ensures c.in-Qualifier.is c.compound.ensures c.in-Read.is
@@ -183,13 +177,13 @@ pub term-returns-in-Refused : goal.term-returns-in-Refused
 term-returns-in-Refused t c = term-none c.begin.ensures c.in-Refused.is
 
 pub term-shape_of-s-in-Refused-content : goal.term-shape_of-s-in-Refused-content
-term-shape_of-s-in-Refused-content t c = c.content.auto.1.1.0
+term-shape_of-s-in-Refused-content t c = c.content.auto.p.1.0
 
 pub term-returns-in-Refused-content : goal.term-returns-in-Refused-content
 term-returns-in-Refused-content t c = term-refused c.begin.ensures c.in-Record.is c.content.ensures c.in-Refused-content.is
 
 pub term-shape_of-s-in-Read : goal.term-shape_of-s-in-Read
-term-shape_of-s-in-Read t c = c.content.auto.1.1.0
+term-shape_of-s-in-Read t c = c.content.auto.p.1.0
 
 pub term-returns-in-Read : goal.term-returns-in-Read
 term-returns-in-Read t c = term-read c.begin.ensures c.in-Record.is c.content.ensures c.in-Read.is
@@ -210,7 +204,7 @@ pub parts-qualifier-requires : goal.parts-qualifier-requires
 parts-qualifier-requires t c = (omega (arith, length-after c.args.l.now c.loop-x.at, c.decreases), c.loop-x.invariant.room)
 
 pub parts-shape_of-s-in-Refused : goal.parts-shape_of-s-in-Refused
-parts-shape_of-s-in-Refused t c = c.qualifier.auto.1.0 ∙ c.loop-x.invariant.long
+parts-shape_of-s-in-Refused t c = c.qualifier.auto.p.0 ∙ c.loop-x.invariant.long
 
 pub parts-returns-in-Refused : goal.parts-returns-in-Refused
 parts-returns-in-Refused t c = parts-last-refused c.loop-x.invariant c.qualifier.ensures c.in-Refused.is
@@ -228,13 +222,13 @@ pub parts-overflow_sub-l : goal.parts-overflow_sub-l
 parts-overflow_sub-l t c = omega (arith, c.loop-x.invariant.within)
 
 pub parts-shape_of-s-then-used-l : goal.parts-shape_of-s-then-used-l
-parts-shape_of-s-then-used-l t c = c.qualifier.auto.1.0 ∙ c.loop-x.invariant.long
+parts-shape_of-s-then-used-l t c = c.qualifier.auto.p.0 ∙ c.loop-x.invariant.long
 
 pub parts-returns-then-used-l : goal.parts-returns-then-used-l
 parts-returns-then-used-l t c = parts-last-over c.loop-x.invariant c.qualifier.ensures c.in-Head.is c.if-used-l.true
 
 pub parts-shape_of-s-in-Head : goal.parts-shape_of-s-in-Head
-parts-shape_of-s-in-Head t c = c.qualifier.auto.1.0 ∙ c.loop-x.invariant.long
+parts-shape_of-s-in-Head t c = c.qualifier.auto.p.0 ∙ c.loop-x.invariant.long
 
 pub parts-returns-in-Head : goal.parts-returns-in-Head
 parts-returns-in-Head t c = parts_last c.loop-x.invariant c.qualifier.ensures c.in-Head.is c.if-used-l.false
@@ -261,7 +255,7 @@ pub terms-term-requires : goal.terms-term-requires
 terms-term-requires t c = (omega (arith, length-after c.args.l.now c.loop-at.at, c.decreases), c.loop-at.invariant.room)
 
 pub terms-shape_of-s-in-Refused : goal.terms-shape_of-s-in-Refused
-terms-shape_of-s-in-Refused t c = c.term.auto.1.0 ∙ c.loop-at.invariant.long
+terms-shape_of-s-in-Refused t c = c.term.auto.p.0 ∙ c.loop-at.invariant.long
 
 pub terms-returns-in-Refused : goal.terms-returns-in-Refused
 terms-returns-in-Refused t c = upto-refused c.loop-at.invariant c.loop-at-test.true c.if-most-count.false c.term.ensures c.in-Refused.is

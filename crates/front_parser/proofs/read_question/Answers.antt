@@ -27,19 +27,19 @@ pub comprehension-requires : goal.comprehension-requires
 comprehension-requires c = omega (arith, c.requires)
 
 pub shape_of-s-in-Refused : goal.shape_of-s-in-Refused
-shape_of-s-in-Refused c = c.comprehension.auto.1.0
+shape_of-s-in-Refused c = c.comprehension.auto.p.0
 
 pub returns-in-Refused : goal.returns-in-Refused
 returns-in-Refused c = question-refused c.if-l-gt-QUESTION_BYTES.false (headed c.read_header.ensures c.in-Record.is) c.if-k-ne-KIND_COMPREHENSION.false c.comprehension.ensures c.in-Refused.is
 
 pub shape_of-s-then-e-l : goal.shape_of-s-then-e-l
-shape_of-s-then-e-l c = c.comprehension.auto.1.0
+shape_of-s-then-e-l c = c.comprehension.auto.p.0
 
 pub returns-then-e-l : goal.returns-then-e-l
 returns-then-e-l c = question-over c.if-l-gt-QUESTION_BYTES.false (headed c.read_header.ensures c.in-Record.is) c.if-k-ne-KIND_COMPREHENSION.false c.comprehension.ensures c.in-Read.is c.if-e-l.true
 
 pub shape_of-s-else-e-l : goal.shape_of-s-else-e-l
-shape_of-s-else-e-l c = c.comprehension.auto.1.0
+shape_of-s-else-e-l c = c.comprehension.auto.p.0
 
 pub returns-else-e-l : goal.returns-else-e-l
 returns-else-e-l c = question-read c.if-l-gt-QUESTION_BYTES.false (headed c.read_header.ensures c.in-Record.is) c.if-k-ne-KIND_COMPREHENSION.false c.comprehension.ensures c.in-Read.is c.if-e-l.false

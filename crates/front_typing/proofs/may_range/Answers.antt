@@ -8,7 +8,6 @@ use Rattle.base_syntax.specs.MonoidWord.{monoid_of}
 use Rattle.base_tables.specs.Description.{collection_in}
 use Rattle.front_typing.proofs.Exits.{no-range}
 use Rattle.base_tables.proofs.TableWords.{by_number}
-use borrow.Author.Rules.{rules}
 use borrow.Enum.Refused.{opened}
 use Rattle.front_typing.proofs.may_range.Goals as goal
 

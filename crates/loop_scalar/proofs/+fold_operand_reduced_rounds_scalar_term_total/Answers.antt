@@ -84,7 +84,7 @@ pub rounds-turn-r-requires : goal.rounds-turn-r-requires
 rounds-turn-r-requires t c = c.requires.table
 
 pub rounds-shape_of-s-then-r-ge-NO_MORE : goal.rounds-shape_of-s-then-r-ge-NO_MORE
-rounds-shape_of-s-then-r-ge-NO_MORE t c = c.bind.auto.0 ∙ turn-length c.loop-r.invariant (to_z-of_z c.ranges.acc) c.requires c.turn-r.ensures c.if-r-ge-NO_MORE.true
+rounds-shape_of-s-then-r-ge-NO_MORE t c = c.bind.auto.s ∙ turn-length c.loop-r.invariant (to_z-of_z c.ranges.acc) c.requires c.turn-r.ensures c.if-r-ge-NO_MORE.true
 
 pub rounds-returns-then-r-ge-NO_MORE : goal.rounds-returns-then-r-ge-NO_MORE
 rounds-returns-then-r-ge-NO_MORE t c = turn_last c.loop-r.invariant (to_z-of_z c.ranges.acc) c.requires c.turn-r.ensures c.if-r-ge-NO_MORE.true c.slot-old.ensures c.bind.ensures

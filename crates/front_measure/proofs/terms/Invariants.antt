@@ -1,0 +1,14 @@
+use Prim.Native.Nat.{◌-◌}
+use lib.ListN.{length}
+use native.Mathlib.Omega.{arith}
+use Rattle.front_nodes.specs.NodeTable.{children_of}
+use Rattle.front_measure.proofs.PartExits.{Summed, few-terms, terms-none, terms-next, terms-within, terms-end}
+use Rattle.front_resolve.proofs.Exits.{picks-cast}
+use borrow.Author.Rules.{rules}
+use Rattle.front_measure.proofs.terms.Given as goal
+
+abbrev pub invariant-loop-c : goal.invariant-loop-c
+invariant-loop-c l = Summed l.s l.i l.t l.k
+
+abbrev pub decreases-loop-c : goal.decreases-loop-c
+decreases-loop-c l = length (children_of l.s l.i) - l.k
