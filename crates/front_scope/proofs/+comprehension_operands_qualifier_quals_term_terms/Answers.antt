@@ -8,7 +8,6 @@ use borrow.Author.Rules.{rules}
 use Prim.Native.Nat.{ℕ, ◌<◌}
 use Rattle.front_scope.proofs.+comprehension_operands_qualifier_quals_term_terms.Goals as goal
 
-
 pub comprehension-quals-q-requires : goal.comprehension-quals-q-requires
 comprehension-quals-q-requires t c = (search rules, c.requires.1)
 
@@ -119,15 +118,15 @@ pub term-returns-in-21 : goal.term-returns-in-21
 term-returns-in-21 t c = term-open c.if-e-le1.false (kind-is c.args.s.now (c.args.e - 1) 21 c.kind_at.ensures c.in-21.is) c.start_at-in-21.ensures.0 c.terms-in-21.ensures
 
 pub term-returns-in-6-to-12 : goal.term-returns-in-6-to-12
-term-returns-in-6-to-12 t c = let r = c.in_default-1.rest in
-    let o = two-kind-at c.args.s.now (c.args.e - 1) c.kind_at.ensures r.0.0.0.0.0.0.1 r.0.0.0.0.0.1 r.0.0.0.0.1 c.if-this-lt3.false c.in-6-to-12.if-this-lt13-own.true in
+term-returns-in-6-to-12 t c = let r = c.in-6-to-12.in_default-own.rest in
+    let o = two-kind-at c.args.s.now (c.args.e - 1) c.kind_at.ensures r.0.0.0.0.0.0.1 r.0.0.0.0.0.1 r.0.0.0.0.1 c.in-6-to-12.if-this-lt3-own.false c.in-6-to-12.if-this-lt13-own.true in
     term-two c.if-e-le1.false o.1 c.operands.ensures
 
 pub term-returns-in_default : goal.term-returns-in_default
-term-returns-in_default t c = term-bare (kind-outside c.args.s.now (c.args.e - 1) c.kind_at.ensures 3 14 (omega arith) (omega arith), kind-not c.args.s.now (c.args.e - 1) c.kind_at.ensures 19 (omega arith) c.in_default-1.rest.0.1, kind-not c.args.s.now (c.args.e - 1) c.kind_at.ensures 21 (omega arith) c.in_default-1.rest.1) refl
+term-returns-in_default t c = term-bare (kind-outside c.args.s.now (c.args.e - 1) c.kind_at.ensures 3 14 (omega arith) (omega arith), kind-not c.args.s.now (c.args.e - 1) c.kind_at.ensures 19 (omega arith) c.in_default.in_default-own.rest.0.1, kind-not c.args.s.now (c.args.e - 1) c.kind_at.ensures 21 (omega arith) c.in_default.in_default-own.rest.1) refl
 
 pub term-returns-in_default-2 : goal.term-returns-in_default-2
-term-returns-in_default-2 t c = term-bare (kind-above c.args.s.now (c.args.e - 1) c.kind_at.ensures c.in_default-1.rest.0.0.0.1 c.in_default-1.rest.0.0.1 c.in_default.if-this-lt13-own.false, kind-not c.args.s.now (c.args.e - 1) c.kind_at.ensures 19 (omega arith) c.in_default-1.rest.0.1, kind-not c.args.s.now (c.args.e - 1) c.kind_at.ensures 21 (omega arith) c.in_default-1.rest.1) refl
+term-returns-in_default-2 t c = term-bare (kind-above c.args.s.now (c.args.e - 1) c.kind_at.ensures c.in_default.in_default-own.rest.0.0.0.1 c.in_default.in_default-own.rest.0.0.1 c.in_default.if-this-lt13-own.false, kind-not c.args.s.now (c.args.e - 1) c.kind_at.ensures 19 (omega arith) c.in_default.in_default-own.rest.0.1, kind-not c.args.s.now (c.args.e - 1) c.kind_at.ensures 21 (omega arith) c.in_default.in_default-own.rest.1) refl
 
 pub terms-returns-then-e-lo : goal.terms-returns-then-e-lo
 terms-returns-then-e-lo t c = terms-none c.if-e-lo.true
