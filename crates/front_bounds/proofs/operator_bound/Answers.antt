@@ -8,8 +8,7 @@ use Rattle.base_syntax.specs.declared.Fun.TheVariants.{Choice, Open}
 use Rattle.base_syntax.specs.Numbers.{fun_of}
 use Rattle.front_bounds.proofs.CutBounds.{larger-second, larger-first}
 use borrow.Author.Rules.{rules}
-use Rattle.front_bounds.proofs.operator_bound.Statement.{statement}
-use Rattle.front_bounds.proofs.operator_bound.Tie as tie
+use Rattle.front_bounds.proofs.operator_bound.Goals as goal
 
 found : {f : Fun} (a b c : ℕ) {r : ℕ} → f ≡ Choice → r ≡ larger b c → r ≡ app_bound (fun_of f) (a ∷ b ∷ c ∷ [])
 unfolding app_bound
@@ -19,12 +18,11 @@ none : {f : Fun} {n : ℕ} (a b c : ℕ) → f ≡ Open n → 0 ≡ app_bound (f
 unfolding app_bound
 none a b c e = sym (ap (λ g. app_bound (fun_of g) (a ∷ b ∷ c ∷ [])) e)
 
-pub operator-bound-spec : {M : Type 1} → statement M
-operator-bound-spec =
-    tie.close
-    (tie.spec
-    (λ c. search rules)
-    (λ c. search rules)
-    (λ c. found _ _ _ c.before.enum_told.given.1 (larger-second c.before.before.before.args.b c.before.before.before.args.c c.if1.true))
-    (λ c. found _ _ _ c.before.enum_told.given.1 (larger-first c.before.before.before.args.b c.before.before.before.args.c c.if1.false))
-    (λ c. none _ _ _ c.before.f.given.1))
+pub returns-then-b-c : goal.returns-then-b-c
+returns-then-b-c c = found _ _ _ c.in-Choice.is (larger-second c.args.b c.args.c c.if-b-c.true)
+
+pub returns-else-b-c : goal.returns-else-b-c
+returns-else-b-c c = found _ _ _ c.in-Choice.is (larger-first c.args.b c.args.c c.if-b-c.false)
+
+pub returns-in-Open : goal.returns-in-Open
+returns-in-Open c = none _ _ _ c.in-Open.is
