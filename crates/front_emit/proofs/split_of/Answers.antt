@@ -21,4 +21,4 @@ pub returns-in_default-m : goal.returns-in_default-m
 returns-in_default-m c = split-comp c.in-Comp.is (opened c.in_default-m.in_default-m-own.keys2)
 
 pub returns-in_default : goal.returns-in_default
-returns-in_default c = split_rest (opened (opened c.in_default.in_default-own.keys3))
+returns-in_default c = split_rest (opened c.in_default.in_default-own.keys3)

@@ -1,0 +1,33 @@
+use native.Mathlib.Omega.{arith}
+use mathlib.Core.Path.{ap, ◌∙◌}
+use Prim.Native.Nat.{◌+◌, ◌-◌, ◌*◌}
+use lib.IntN.{pos}
+use mir.Syntax.{w64}
+use mir.Val.{of_z}
+use mir.Facts.{to_z-of_z, sfits_lit}
+use Rattle.base_signed.proofs.SignedWords.{fits, eq_is}
+use Rattle.form_words.specs.FormTree.{left}
+use Rattle.form_words.proofs.NodeWords.{recast_c}
+use Rattle.loop_collect.proofs.HeadLoops.{ready-each, ready-test, ready-head}
+use Rattle.loop_draughts.proofs.Exits.{j-generator, j-no, j-head, Judging, judge-first, judge-again, JudgedRows, each_first, each-length, each-past, each-ready, each_again, each_last}
+use borrow.Author.Rules.{rules}
+use Prim.Native.Nat.{ℕ, ◌<◌}
+use Rattle.loop_draughts.proofs.+judge_judge_each.Given as goal
+
+abbrev pub decreases-judge : goal.decreases-judge
+decreases-judge l = 2 * left l.at
+
+abbrev pub invariant-judge-loop-g : goal.invariant-judge-loop-g
+invariant-judge-loop-g l = Judging l.«data» l.deepest l.initial.s l.at l.e l.s l.j
+
+abbrev pub decreases-judge-loop-g : goal.decreases-judge-loop-g
+decreases-judge-loop-g l = left l.j
+
+abbrev pub decreases-judge_each : goal.decreases-judge_each
+decreases-judge_each l = 2 * left l.at + 1
+
+abbrev pub invariant-judge_each-loop-r : goal.invariant-judge_each-loop-r
+invariant-judge_each-loop-r l = JudgedRows l.«data» l.deepest l.initial.s l.at l.g l.k l.initial.a l.s l.a l.r
+
+abbrev pub decreases-judge_each-loop-r : goal.decreases-judge_each-loop-r
+decreases-judge_each-loop-r l = 2048 - l.r
