@@ -10,4 +10,4 @@ pub returns-then-not-a : goal.returns-then-not-a
 returns-then-not-a c = names-wrong c.names_hold-a.ensures (not-true c.names_hold-a.result (ap not c.if-not-a.true))
 
 pub returns : goal.returns
-returns c = names-right c.names_hold-a.ensures (not-false c.names_hold-a.result (ap not c.if-not-a.false)) c.binders.ensures c.types_fit.ensures
+returns c = names-right c.names_hold-a.ensures (not-false c.names_hold-a.result (ap not c.if-not-a.false)) c.binders.ensures c.typed.ensures
