@@ -14,7 +14,7 @@ pub returns-in_default : goal.returns-in_default
 returns-in_default c = branch-other c.loop-f.invariant c.look.ensures (opened c.in_default.in_default-own.keys2)
 
 pub returns-in_default-f : goal.returns-in_default-f
-returns-in_default-f c = branch-open c.loop-f.invariant (recast c.look.ensures c.in-Operator.is) (opened c.in_default-f.in_default-f-own.keys2)
+returns-in_default-f c = branch-open c.loop-f.invariant (recast c.look.ensures c.in-Operator.is) c.in_default-f.in_default-f-own.keys2
 
 pub overflow_add-j : goal.overflow_add-j
 overflow_add-j c = let p = (recast c.look.ensures c.in-Operator.is).inside in omega arith
