@@ -22,7 +22,7 @@ slice_bounds-answer_line-end c = let A = answers c.args.tables.now c.args.questi
 
 pub returns : goal.returns
 returns c = let A = answers c.args.tables.now c.args.question.now c.args.scratch.now c.args.words.now c.requires.0 c.requires.1 c.answer-given.ensures c.if-given-ne0.false in
-    let after = c.answer-given.new.1.1.0 in
+    let after = c.answer-given.new.words.1.0 in
     let kept = c.answer-given.auto.scratch in
     let room : scratch_size ≤ length after = omega (arith, c.requires.0, kept.0) in
     let C = answer-clears c.args.tables.now (alone c.args.question.now) c.args.scratch.now c.args.words.now c.requires.0 c.answer-given.ensures in
@@ -30,4 +30,4 @@ returns c = let A = answers c.args.tables.now c.args.question.now c.args.scratch
     (P, (c.answer-given.ensures.buffer, plan-clears c.args.tables.now (alone c.args.question.now) c.args.scratch.now after c.args.text.now room C c.dislogha_plan_lines-plan.ensures))
 
 pub slice_bounds-answer_line-end-2 : goal.slice_bounds-answer_line-end-2
-slice_bounds-answer_line-end-2 c = sym (length-take-le c.answer-given.result.length c.answer-given.new.1.1.1.0 (slice_bounds-answer_line-end c))
+slice_bounds-answer_line-end-2 c = sym (length-take-le c.answer-given.result.length c.answer-given.new.words.1.1.0 (slice_bounds-answer_line-end c))
