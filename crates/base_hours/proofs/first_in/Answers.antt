@@ -22,8 +22,8 @@ loop-k-preserved c = let a = c.args in
     let l = c.loop-k in (
       omega (arith, c.loop-k-test.true),
       elim c.if-t-r.branch [
-        then-t-r w ↦ rw w.r-is (least-sooner a.c.now c.window_count-n.result l.k a.f l.r l.invariant.1 c.loop-k-test.true c.read_window.ensures c.next_in-t.ensures w.if-t-r.true)
-      | else-t-r w ↦ rw w.r-is (least-later a.c.now c.window_count-n.result l.k a.f l.r l.invariant.1 c.loop-k-test.true c.read_window.ensures c.next_in-t.ensures w.if-t-r.false)
+        | then-t-r w ↦ rw w.r-is (least-sooner a.c.now c.window_count-n.result l.k a.f l.r l.invariant.1 c.loop-k-test.true c.read_window.ensures c.next_in-t.ensures w.if-t-r.true)
+        | else-t-r w ↦ rw w.r-is (least-later a.c.now c.window_count-n.result l.k a.f l.r l.invariant.1 c.loop-k-test.true c.read_window.ensures c.next_in-t.ensures w.if-t-r.false)
       ],
     )
 

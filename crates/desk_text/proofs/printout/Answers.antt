@@ -12,12 +12,12 @@ pub returns-then-input-gt65536 : goal.returns-then-input-gt65536
 unfolding ascii
 returns-then-input-gt65536 c = let P = desk-long c.args.input.now c.args.text.now c.if-input-gt65536.true c.say.ensures refl c.requires.2 (omega arith) in
     let L = left-long c.args.input.now c.args.scratch.now c.args.words.now c.if-input-gt65536.true in
-    (L.0, (L.1, (P, prints-counts P)))
+    record { words_after = L.0; scratch_after = L.1; prints = P; front_length = prints-counts P }
 
 pub returns : goal.returns
 returns c = let P = desk-asks c.args.input.now c.args.text.now c.if-input-gt65536.false c.tables_end-at.ensures.0 c.reply.ensures.prints in
-    let L = left-asks c.args.input.now c.args.scratch.now c.args.words.now c.if-input-gt65536.false c.tables_end-at.ensures.0 c.reply.ensures.words_after.0 c.reply.ensures.words_after.1 in
-    (L.0, (L.1, (P, prints-counts P)))
+    let L = left-asks c.args.input.now c.args.scratch.now c.args.words.now c.if-input-gt65536.false c.tables_end-at.ensures.0 c.reply.ensures.words_after c.reply.ensures.scratch_after in
+    record { words_after = L.0; scratch_after = L.1; prints = P; front_length = prints-counts P }
 
 pub say-requires : goal.say-requires
 unfolding ascii

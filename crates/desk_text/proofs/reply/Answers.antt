@@ -14,7 +14,11 @@ use Rattle.desk_text.proofs.reply.Goals as goal
 pub returns-then-given-ne0 : goal.returns-then-given-ne0
 returns-then-given-ne0 c = let R = refuses c.args.tables.now c.args.question.now c.args.scratch.now c.args.words.now c.requires.0 c.requires.1 c.answer-given.ensures c.if-given-ne0.true in
     let C = answer-clears c.args.tables.now (alone c.args.question.now) c.args.scratch.now c.args.words.now c.requires.0 c.answer-given.ensures in
-    (prints-refusal R c.refusal_line.ensures refl c.requires.2 (omega (arith, c.well_formed.1.1.1.1.0)), (c.answer-given.ensures.buffer, C))
+    record {
+      prints = prints-refusal R c.refusal_line.ensures refl c.requires.2 (omega (arith, c.well_formed.1.1.1.1.0));
+      words_after = c.answer-given.ensures.buffer;
+      scratch_after = C;
+    }
 
 pub slice_bounds-answer_line-end : goal.slice_bounds-answer_line-end
 slice_bounds-answer_line-end c = let A = answers c.args.tables.now c.args.question.now c.args.scratch.now c.args.words.now c.requires.0 c.requires.1 c.answer-given.ensures c.if-given-ne0.false in
@@ -22,12 +26,16 @@ slice_bounds-answer_line-end c = let A = answers c.args.tables.now c.args.questi
 
 pub returns : goal.returns
 returns c = let A = answers c.args.tables.now c.args.question.now c.args.scratch.now c.args.words.now c.requires.0 c.requires.1 c.answer-given.ensures c.if-given-ne0.false in
-    let after = c.answer-given.new.words.1.0 in
-    let kept = c.answer-given.auto.scratch in
-    let room : scratch_size ≤ length after = omega (arith, c.requires.0, kept.0) in
+    let after = c.answer-given.new.scratch in
+    let kept = c.answer-given.auto in
+    let room : scratch_size ≤ length after = omega (arith, c.requires.0, kept.scratch) in
     let C = answer-clears c.args.tables.now (alone c.args.question.now) c.args.scratch.now c.args.words.now c.requires.0 c.answer-given.ensures in
-    let P = prints-answer A after c.args.text.now room c.requires.2 c.dislogha_plan_lines-plan.ensures c.answer_line.ensures.lays c.answer_line.ensures.words_len_bound (kept.1.0 ∙ c.requires.1) refl (omega (arith, c.well_formed.1.1.1.1.0)) in
-    (P, (c.answer-given.ensures.buffer, plan-clears c.args.tables.now (alone c.args.question.now) c.args.scratch.now after c.args.text.now room C c.dislogha_plan_lines-plan.ensures))
+    let P = prints-answer A after c.args.text.now room c.requires.2 c.dislogha_plan_lines-plan.ensures c.answer_line.ensures.lays c.answer_line.ensures.words_len_bound (kept.words ∙ c.requires.1) refl (omega (arith, c.well_formed.1.1.1.1.0)) in
+    record {
+      prints = P;
+      words_after = c.answer-given.ensures.buffer;
+      scratch_after = plan-clears c.args.tables.now (alone c.args.question.now) c.args.scratch.now after c.args.text.now room C c.dislogha_plan_lines-plan.ensures;
+    }
 
 pub slice_bounds-answer_line-end-2 : goal.slice_bounds-answer_line-end-2
-slice_bounds-answer_line-end-2 c = sym (length-take-le c.answer-given.result.length c.answer-given.new.words.1.1.0 (slice_bounds-answer_line-end c))
+slice_bounds-answer_line-end-2 c = sym (length-take-le c.answer-given.result.length c.answer-given.new.words (slice_bounds-answer_line-end c))
