@@ -11,6 +11,7 @@
 namespace shore {
 
 constexpr std::size_t weekdays = 7;
+// The most that a window's two bytes hold.
 constexpr std::int64_t most_minute = 65535;
 
 struct Window {

@@ -67,7 +67,7 @@ class Rota {
         }
     }
     Seat &seat(std::size_t at) { return seats_[at]; }
-    // One round with a quota for each seat of the rota; gives 0 or 49. Seats that were visited have heard what their portion said.
+    // One round with a quota for each seat of the rota; gives what the engine said. Seats that were visited have heard what their portion said.
     dislogha::Round round(const Packed &over, const std::vector<std::uint64_t> &quotas) {
         const dislogha::Seat lent[] = {seats_[0].lent(), seats_[1].lent(), seats_[2].lent(), seats_[3].lent()};
         const auto round = dislogha::round(span_of(over.data), span_of(over.calendars), {quotas.data(), quotas.size()}, lent);

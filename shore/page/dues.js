@@ -56,6 +56,7 @@ async function chargeShips() {
   const question = byId('dues-question'), said = byId('dues-said');
   fitHeight(question);
   underline(byId('dues-under'), question.value, null);
+  if (charging.busy) charging.end();
   const reply = await charging.ask('dues', storedText() + tariffText() + question.value);
   if (mine !== chargedOf) return;
   byId('dues').replaceChildren();

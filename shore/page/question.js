@@ -177,7 +177,7 @@ function outcome() {
 
 function shuffleRows() {
   const before = document.body.dataset.state === 'shown' ? outcome() : null;
-  const names = shuffleTables();
+  const names = before === null ? [] : shuffleTables();
   const said = byId('shuffled');
   said.hidden = false;
   if (names.length === 0 || before === null) {
@@ -186,6 +186,7 @@ function shuffleRows() {
     return;
   }
   unshuffled = { before, names };
+  storedChangedAtSeats();
   ask();
 }
 

@@ -259,7 +259,7 @@ class Desk {
     static int pause(const Job &job) { return job.seconds() < 0.1 ? 1 : 50; }
     static void progress(const Job &job) {
         constexpr std::size_t cells = 20;
-        const double share = static_cast<double>(job.offered()) / job.most();
+        const double share = job.most() == 0 ? 1 : static_cast<double>(job.offered()) / job.most();
         const auto full = static_cast<std::size_t>(share * cells);
         std::string bar;
         for (std::size_t i = 0; i < cells; i++) {

@@ -15,6 +15,12 @@ namespace shore {
 
 inline bool read_file(const std::string &path, std::string &content) {
     std::ifstream file(path, std::ios::binary);
+    // A folder opens, and is not read.
+    file.peek();
+    if (!file.is_open() || file.bad()) {
+        return false;
+    }
+    file.clear();
     content.assign(std::istreambuf_iterator<char>(file), std::istreambuf_iterator<char>());
     return static_cast<bool>(file);
 }

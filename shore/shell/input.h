@@ -104,7 +104,7 @@ inline char **complete(const char *begun, int, int) {
 
 class Input {
   public:
-    // Reads from a file, or from people where there is none and standard input is a terminal.
+    // Reads from a file; from people where that is standard input and a terminal.
     Input(Desk &desk, std::FILE *file) : file_(file), people_(file == stdin && isatty(STDIN_FILENO) != 0) {
         desk.attended = desk.attended || people_;
 #ifdef SHORE_LIBEDIT

@@ -242,6 +242,11 @@ def editing(page, seen):
     seen.same('and all is well again', page.value(READ)['loops'], '3 7 1 8 1 8 2')
 
 
+def replied(page, engine, place, text):
+    """Until an engine has replied to all it was asked, and what is said of the reply begins so: what was said before may begin alike."""
+    page.wait("!%s.busy && document.getElementById('%s').textContent.startsWith(%s)" % (engine, place, json.dumps(text)))
+
+
 def calendars(page, seen):
     """Calendars typed, asked in a question, and what they are at a minute."""
     fresh(page)
@@ -267,7 +272,7 @@ def calendars(page, seen):
     seen.so('meant calendar', "is 'quay' meant" in ask(page, 'some{ open(kuay, 0) }')['said'], page.text('#said'))
     for moment, shown in (('2026-02-29', 'Refused 41 ('), ('soon', 'A minute is written'), ('-5', 'minute -5'), ('2399-12-31 23:59', 'Fri 2399-12-31 23:59 (')):
         page.type('#moment', moment)
-        page.wait("document.getElementById('moment-said').textContent.startsWith(%s)" % json.dumps(shown))
+        replied(page, 'clock', 'moment-said', shown)
     seen.same('no more', page.text(said % 2), 'closed; it opens no more')
     page.type(second + 'textarea', 'Tue 07:00-07:01 Thu 18:00-06:00')
     page.wait(SHOWN)
@@ -382,11 +387,11 @@ def at_seats(page, seen):
     page.picture(PICTURES / 'rounds.png')
     page.type('.seat:nth-child(2) input', '0')
     page.click('#round')
-    page.wait("document.getElementById('rota-said').textContent.startsWith('Refused 49 (')")
+    replied(page, 'rota', 'rota-said', 'Refused 49 (')
     page.type('.seat:nth-child(2) input', '3')
     page.type('#rota', '5')
     page.click('#round')
-    page.wait("document.getElementById('rota-said').textContent.startsWith('Refused 49 (')")
+    replied(page, 'rota', 'rota-said', 'Refused 49 (')
     seen.so('49 is said', True)
     page.type('#rota', '2')
     page.click('.seat:nth-child(1) button')
@@ -420,9 +425,9 @@ CHARGED = '''(() => ({
 }))()'''
 
 
-def charged(page, said):
+def charged(page, text):
     """The dues as they are shown, once that is said of them."""
-    page.wait("document.getElementById('dues-said').textContent.startsWith(%s)" % json.dumps(said))
+    replied(page, 'charging', 'dues-said', text)
     return page.value(CHARGED)
 
 
@@ -476,9 +481,9 @@ def ships_charged(page, seen):
     charged(page, no_tariff + 'it has 0 steps.')
 
 
-def counted(page, said):
+def counted(page, text):
     """The counts as they are shown, once that is said of them."""
-    page.wait("document.getElementById('outages-said').textContent.startsWith(%s)" % json.dumps(said))
+    replied(page, 'counting', 'outages-said', text)
     return page.value('''[...document.querySelectorAll('#outages .count')].map(count => [...count.children].map(part => part.textContent).join(' ')
       + ' ' + count.querySelector('.bar').style.width)''')
 
@@ -528,9 +533,9 @@ DRAWN = '''(() => {
 })()'''
 
 
-def paired(page, said):
+def paired(page, text):
     """The logs as they are drawn, once that is said of them."""
-    page.wait("document.getElementById('logs-said').textContent.startsWith(%s)" % json.dumps(said))
+    replied(page, 'pairing', 'logs-said', text)
     return page.value(DRAWN)
 
 
