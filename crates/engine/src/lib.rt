@@ -75,8 +75,7 @@ pub fn finish(s: &mut [u64], k: u64, n: u64) -> Reply
 }
 
 // "The checker takes no answer buffer and ends after 28."
-#[unsafe(no_mangle)]
-pub extern "C" fn dislogha_check(
+pub fn dislogha_check(
     tables: &[u8],
     calendars: &[u8],
     question: &[u8],
@@ -95,8 +94,7 @@ pub extern "C" fn dislogha_check(
 }
 
 // By loops: the value of the question as typed.
-#[unsafe(no_mangle)]
-pub extern "C" fn dislogha_answer_by_loops(
+pub fn dislogha_answer_by_loops(
     tables: &[u8],
     calendars: &[u8],
     question: &[u8],
@@ -119,8 +117,7 @@ pub extern "C" fn dislogha_answer_by_loops(
 }
 
 // Over every subset of a table's rows: how many give true and how many false.
-#[unsafe(no_mangle)]
-pub extern "C" fn dislogha_count_outages(
+pub fn dislogha_count_outages(
     tables: &[u8],
     calendars: &[u8],
     question: &[u8],
@@ -144,8 +141,7 @@ pub extern "C" fn dislogha_count_outages(
 }
 
 // By plan: the value of the plan under the operators' definitions.
-#[unsafe(no_mangle)]
-pub extern "C" fn dislogha_answer_by_plan(
+pub fn dislogha_answer_by_plan(
     tables: &[u8],
     calendars: &[u8],
     question: &[u8],
@@ -168,8 +164,7 @@ pub extern "C" fn dislogha_answer_by_plan(
 }
 
 // "One more call writes the plan's lines .. into a lent byte buffer; its length is in bytes."
-#[unsafe(no_mangle)]
-pub extern "C" fn dislogha_plan_lines(
+pub fn dislogha_plan_lines(
     tables: &[u8],
     calendars: &[u8],
     question: &[u8],
@@ -203,8 +198,7 @@ pub struct Portioned {
 }
 
 // "One call begins, with all refusals to 28." Then scratch holds the unfinished question.
-#[unsafe(no_mangle)]
-pub extern "C" fn dislogha_begin(
+pub fn dislogha_begin(
     tables: &[u8],
     calendars: &[u8],
     question: &[u8],
@@ -256,8 +250,7 @@ fn ended(s: &mut [u64], rows: u64, k: u64, n: u64) -> Portioned
 
 // "Each later one offers exactly a given number of rows .. and says unfinished, or all that remain, if no more, and says finished
 // and how many." Scratch has the calendars since the question was begun; they are lent to every call that runs one.
-#[unsafe(no_mangle)]
-pub extern "C" fn dislogha_portion(
+pub fn dislogha_portion(
     tables: &[u8],
     calendars: &[u8],
     scratch: &mut [u64],
@@ -344,8 +337,7 @@ pub struct Round {
 }
 
 // "A round visits the seats in order." Of a refused rota nothing is told but 49.
-#[unsafe(no_mangle)]
-pub extern "C" fn dislogha_round(
+pub fn dislogha_round(
     tables: &[u8],
     calendars: &[u8],
     quotas: &[u64],
@@ -391,8 +383,7 @@ pub extern "C" fn dislogha_round(
 }
 
 // "Give both directions into a lent buffer": a table's record of kind 20 as kind 23.
-#[unsafe(no_mangle)]
-pub extern "C" fn dislogha_table_to_columns(source: &[u8], target: &mut [u8]) -> Reply
+pub fn dislogha_table_to_columns(source: &[u8], target: &mut [u8]) -> Reply
     ensures { Fills (table_to_columns source.now target.old) result.number result.length target.new }
 {
     let t = base_columns::to_columns(source, target);
@@ -403,8 +394,7 @@ pub extern "C" fn dislogha_table_to_columns(source: &[u8], target: &mut [u8]) ->
 }
 
 // And of kind 23 as kind 20: "each undoes the other".
-#[unsafe(no_mangle)]
-pub extern "C" fn dislogha_table_to_rows(source: &[u8], target: &mut [u8]) -> Reply
+pub fn dislogha_table_to_rows(source: &[u8], target: &mut [u8]) -> Reply
     ensures { Fills (table_to_rows source.now target.old) result.number result.length target.new }
 {
     let t = base_columns::to_rows(source, target);
@@ -415,8 +405,7 @@ pub extern "C" fn dislogha_table_to_rows(source: &[u8], target: &mut [u8]) -> Re
 }
 
 // "Ship's log against quay log": the pairs and singles of two tables as three records, one behind the other.
-#[unsafe(no_mangle)]
-pub extern "C" fn dislogha_pair_logs(
+pub fn dislogha_pair_logs(
     tables: &[u8],
     first: u64,
     second: u64,
@@ -434,8 +423,7 @@ pub extern "C" fn dislogha_pair_logs(
 
 // "Answering with a tariff": the value of the question as typed, a bag of ships with their draughts, as the bag of their dues. "44 .., after 31", before the
 // data.
-#[unsafe(no_mangle)]
-pub extern "C" fn dislogha_answer_with_tariff(
+pub fn dislogha_answer_with_tariff(
     tables: &[u8],
     calendars: &[u8],
     question: &[u8],
@@ -471,24 +459,21 @@ pub extern "C" fn dislogha_answer_with_tariff(
 }
 
 // "a call giving the first open minute at or after a given signed one, or none exactly if no such minute exists"
-#[unsafe(no_mangle)]
-pub extern "C" fn dislogha_first_open(calendars: &[u8], calendar: u64, minute: i64) -> OpenTold
+pub fn dislogha_first_open(calendars: &[u8], calendar: u64, minute: i64) -> OpenTold
     ensures { open_in result ≡ first_opened calendars.now calendar minute }
 {
     base_hours::first_open(calendars, calendar, minute)
 }
 
 // "from year, month, day to day number"
-#[unsafe(no_mangle)]
-pub extern "C" fn dislogha_day_number(year: u64, month: u64, day: u64) -> DayTold
+pub fn dislogha_day_number(year: u64, month: u64, day: u64) -> DayTold
     ensures { day_in result ≡ day_numbered (on year month day) }
 {
     base_dates::day_number(year, month, day)
 }
 
 // "and back"
-#[unsafe(no_mangle)]
-pub extern "C" fn dislogha_date(day: u64) -> DateTold
+pub fn dislogha_date(day: u64) -> DateTold
     ensures { date_in result ≡ dated day }
 {
     base_dates::date_of(day)

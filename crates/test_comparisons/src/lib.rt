@@ -37,8 +37,7 @@ fn count(s: &mut [u64], data: &[u8], out: &mut [i64]) -> Tally
 }
 
 // The number and the buffer of answering by loops; with 0 the length is the number of comparisons, 2^64 - 1 at most.
-#[unsafe(no_mangle)]
-pub extern "C" fn dislogha_comparisons(
+pub fn dislogha_comparisons(
     tables: &[u8],
     calendars: &[u8],
     question: &[u8],

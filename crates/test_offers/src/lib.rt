@@ -47,8 +47,7 @@ fn rows_of(s: &mut [u64], data: &[u8]) -> u64
 }
 
 // The checker's number; with 0 the length is the number of rows that a pass offers, 2^64 - 1 at most.
-#[unsafe(no_mangle)]
-pub extern "C" fn dislogha_offered_rows(
+pub fn dislogha_offered_rows(
     tables: &[u8],
     calendars: &[u8],
     question: &[u8],
