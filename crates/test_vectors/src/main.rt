@@ -5,7 +5,11 @@
 // bytes of data's length, two of the calendars', two of the question's, little-endian, then all three.
 #![tactic(auto)]
 
-ghost use Rattle.std.specs.Prelude.{◌+◌, ◌*◌, ◌<◌, ◌≤◌, ◌≡◌, length, get_or, replicate};
+ghost use Rattle.std.specs.Prelude.{◌+◌, ◌*◌, ◌<◌, ◌≤◌, ◌≡◌, length, get_or, replicate, IfOk};
+
+use std::fs::File;
+use std::io;
+use std::io::{BufWriter, Read, Write};
 
 fn wide(byte: u8) -> usize
     ensures { (result ≡ byte) × (result < 256) }
@@ -21,93 +25,110 @@ fn length_at(s: &[u8], at: usize) -> usize
     wide(s[at]) + 256 * wide(s[at + 1])
 }
 
-fn print_next(number: u64) {
-    io::write_all(1, b" ");
-    io::print_decimal(1, number);
+fn print_next<W: Write>(out: &mut W, number: u64) -> io::Result<()> {
+    write!(out, " {number}")
 }
 
-fn print_signed(x: i64) {
+fn print_signed<W: Write>(out: &mut W, x: i64) -> io::Result<()> {
     let mut digits = [0u8; 20];
     let n = base_text::signed(&mut digits, 20, 0, x);
-    io::write_all(1, &digits[..n]);
+    out.write_all(&digits[..n])
 }
 
 // The first words, as many as the count says.
-fn print_words(words: &[i64], count: u64) {
-    let mut i = 0;
-    while i < words.len() {
+fn print_words<W: Write>(out: &mut W, words: &[i64], count: u64) -> io::Result<()> {
+    for i in 0..words.len() {
         if count <= (i as u64) {
-            return;
+            return Ok(());
         }
-        io::write_all(1, b" ");
-        print_signed(words[i]);
-        i += 1;
+        out.write_all(b" ")?;
+        print_signed(out, words[i])?;
     }
+    Ok(())
 }
 
-fn print_reply(number: u64, length: u64, words: &[i64]) {
-    print_next(number);
-    print_next(length);
-    print_words(words, length);
+fn print_reply<W: Write>(out: &mut W, number: u64, length: u64, words: &[i64]) -> io::Result<()> {
+    print_next(out, number)?;
+    print_next(out, length)?;
+    print_words(out, words, length)
 }
 
 // In a buffer of its own, in which nothing of the loops' answer stands.
-fn answer_by_plan(tables: &[u8], calendars: &[u8], question: &[u8], scratch: &mut [u64]) {
+fn answer_by_plan<W: Write>(
+    out: &mut W,
+    tables: &[u8],
+    calendars: &[u8],
+    question: &[u8],
+    scratch: &mut [u64],
+) -> io::Result<()> {
     let mut words = [0i64; 4096];
     let reply = engine::dislogha_answer_by_plan(tables, calendars, question, scratch, &mut words);
-    print_reply(reply.number, reply.length, &words);
+    print_reply(out, reply.number, reply.length, &words)
 }
 
-fn answer(
+fn answer<W: Write>(
+    out: &mut W,
     known: bool,
     tables: &[u8],
     calendars: &[u8],
     question: &[u8],
     scratch: &mut [u64],
     words: &mut [i64],
-) {
+) -> io::Result<()> {
     if !known {
-        return;
+        return Ok(());
     }
     let reply = engine::dislogha_answer_by_loops(tables, calendars, question, scratch, words);
-    print_reply(reply.number, reply.length, words);
-    answer_by_plan(tables, calendars, question, scratch);
+    print_reply(out, reply.number, reply.length, words)?;
+    answer_by_plan(out, tables, calendars, question, scratch)
 }
 
 // The first bytes.
-fn print_front(text: &[u8], count: usize)
+fn print_front<W: Write>(out: &mut W, text: &[u8], count: usize) -> io::Result<()>
     requires { count ≤ length text.now }
 {
-    io::write_all(1, &text[0..count]);
+    out.write_all(&text[0..count])
 }
 
 // The plan's lines, which 32,768 bytes hold whatever the question; none where it is refused.
-fn plan(tables: &[u8], calendars: &[u8], question: &[u8], scratch: &mut [u64]) {
+fn plan<W: Write>(
+    out: &mut W,
+    tables: &[u8],
+    calendars: &[u8],
+    question: &[u8],
+    scratch: &mut [u64],
+) -> io::Result<()> {
     let mut text = [0u8; 32768];
     let reply = engine::dislogha_plan_lines(tables, calendars, question, scratch, &mut text);
     let count = reply.length as usize;
     if 32768 < count {
-        return;
+        return Ok(());
     }
-    print_front(&text, count);
+    print_front(out, &text, count)
 }
 
-fn ask(
+fn ask<W: Write>(
+    out: &mut W,
     known: bool,
     tables: &[u8],
     calendars: &[u8],
     question: &[u8],
     scratch: &mut [u64],
     words: &mut [i64],
-) {
+) -> io::Result<()> {
     let reply = engine::dislogha_check(tables, calendars, question, scratch);
-    print_next(reply.number);
-    answer(known, tables, calendars, question, scratch, words);
-    io::write_all(1, b"\n");
-    plan(tables, calendars, question, scratch);
+    print_next(out, reply.number)?;
+    answer(out, known, tables, calendars, question, scratch, words)?;
+    out.write_all(b"\n")?;
+    plan(out, tables, calendars, question, scratch)
 }
 
-fn ask_all(s: &[u8], scratch: &mut [u64], words: &mut [i64]) {
+fn ask_all<W: Write>(
+    out: &mut W,
+    s: &[u8],
+    scratch: &mut [u64],
+    words: &mut [i64],
+) -> io::Result<()> {
     let mut place: usize = 0;
     let mut at = 0;
     while s.len() - at >= 7 {
@@ -116,20 +137,22 @@ fn ask_all(s: &[u8], scratch: &mut [u64], words: &mut [i64]) {
         let second = split + length_at(s, at + 3);
         let end = second + length_at(s, at + 5);
         if s.len() < end {
-            return;
+            return Ok(());
         }
-        io::print_decimal(1, place as u64);
+        write!(out, "{place}")?;
         ask(
+            out,
             s[at] == 1,
             &s[start..split],
             &s[split..second],
             &s[second..end],
             scratch,
             words,
-        );
+        )?;
         place += 1;
         at = end;
     }
+    Ok(())
 }
 
 fn space() -> [u8; 524288]
@@ -138,17 +161,28 @@ fn space() -> [u8; 524288]
     [0; 524288]
 }
 
-fn main() {
-    let path = b"cases";
-    let fd = os::open_read(path);
-    if fd < 0 {
-        os::fail(path);
-        return;
+// Reads until the buffer is full or the input ends. Answers how many bytes stand at the buffer's front.
+fn read_full<R: Read>(reader: &mut R, buffer: &mut [u8]) -> io::Result<usize>
+    ensures { IfOk result (λ n. n ≤ length buffer.new) }
+{
+    let mut done = 0;
+    while done < buffer.len() {
+        let n = reader.read(&mut buffer[done..])?;
+        if n == 0 {
+            return Ok(done);
+        }
+        done += n;
     }
+    Ok(done)
+}
+
+fn main(rt: HostRuntime) -> io::Result<()> {
+    let mut file = File::open(&rt, "cases")?;
     let mut cases = space();
-    let n = io::read_full(fd, &mut cases);
-    libc::close(fd);
+    let n = read_full(&mut file, &mut cases)?;
     let mut scratch = [0u64; base_scratch::WORDS];
     let mut words = [0i64; 4096];
-    ask_all(&cases[..n], &mut scratch, &mut words);
+    let mut out = BufWriter::new(rt.alloc(), io::writer(&rt))?;
+    ask_all(&mut out, &cases[..n], &mut scratch, &mut words)?;
+    out.flush()
 }

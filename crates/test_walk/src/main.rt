@@ -9,6 +9,8 @@ use base_scratch::{
     BINDERS, DESCRIPTIONS, ENVIRONMENT, FORM, FORM_WORDS, NODES, SHAPES, SIZES, STARTS, TOTALS,
 };
 use front_end::FrontResult;
+use std::io;
+use std::io::{BufWriter, Read, Write};
 
 // The bytes of the listing's data.
 const DATA: usize = 66;
@@ -27,300 +29,327 @@ enum Format {
     Start,
 }
 
-fn say(text: &[u8]) {
-    io::write_all(1, text);
+fn say<W: Write>(to: &mut W, text: &[u8]) -> io::Result<()> {
+    to.write_all(text)
+}
+
+fn decimal<W: Write>(to: &mut W, number: u64) -> io::Result<()> {
+    write!(to, "{number}")
 }
 
 // Prints the lowest field of a word, a number below b, behind its name. Answers what is above it.
-fn field(name: &[u8], w: u64, b: u64) -> u64
+fn field<W: Write>(to: &mut W, name: &[u8], w: u64, b: u64) -> io::Result<u64>
     requires { 0 < b }
 {
-    say(b", ");
-    say(name);
-    say(b" ");
-    io::print_decimal(1, w % b);
-    w / b
+    say(to, b", ")?;
+    say(to, name)?;
+    say(to, b" ")?;
+    decimal(to, w % b)?;
+    Ok(w / b)
 }
 
-fn last(name: &[u8], w: u64) {
-    say(b", ");
-    say(name);
-    say(b" ");
-    io::print_decimal(1, w);
+fn last<W: Write>(to: &mut W, name: &[u8], w: u64) -> io::Result<()> {
+    say(to, b", ")?;
+    say(to, name)?;
+    say(to, b" ")?;
+    decimal(to, w)
 }
 
-fn description(w: u64) {
-    let a = field(b"collection", w, 4);
-    let b = field(b"columns", a, 16);
-    let c = field(b"rows", b, 2048);
-    let d = field(b"kind", c, 2);
-    let e = field(b"subset", d, 4096);
-    last(b"cells at byte", e);
+fn description<W: Write>(to: &mut W, w: u64) -> io::Result<()> {
+    let a = field(to, b"collection", w, 4)?;
+    let b = field(to, b"columns", a, 16)?;
+    let c = field(to, b"rows", b, 2048)?;
+    let d = field(to, b"kind", c, 2)?;
+    let e = field(to, b"subset", d, 4096)?;
+    last(to, b"cells at byte", e)
 }
 
-fn node(w: u64) {
-    let a = field(b"kind", w, 32);
-    let b = field(b"argument", a, 8589934592);
-    let c = field(b"first", b, 512);
-    last(b"depth", c);
+fn node<W: Write>(to: &mut W, w: u64) -> io::Result<()> {
+    let a = field(to, b"kind", w, 32)?;
+    let b = field(to, b"argument", a, 8589934592)?;
+    let c = field(to, b"first", b, 512)?;
+    last(to, b"depth", c)
 }
 
-fn shape(w: u64) {
-    let a = field(b"class", w, 8);
-    last(b"of", a);
+fn shape<W: Write>(to: &mut W, w: u64) -> io::Result<()> {
+    let a = field(to, b"class", w, 8)?;
+    last(to, b"of", a)
 }
 
-fn pair(name: &[u8], w: u64) -> u64 {
-    let a = field(name, w, 1024);
-    field(b"generators", a, 1024)
+fn pair<W: Write>(to: &mut W, name: &[u8], w: u64) -> io::Result<u64> {
+    let a = field(to, name, w, 1024)?;
+    field(to, b"generators", a, 1024)
 }
 
-fn sizes(w: u64) {
-    let a = pair(b"nodes", w);
-    let b = pair(b"nodes", a);
-    pair(b"nodes", b);
+fn sizes<W: Write>(to: &mut W, w: u64) -> io::Result<()> {
+    let a = pair(to, b"nodes", w)?;
+    let b = pair(to, b"nodes", a)?;
+    pair(to, b"nodes", b)?;
+    Ok(())
 }
 
-fn form(w: u64) {
-    let a = field(b"kind", w, 16);
-    let b = field(b"below", a, 1024);
-    let c = field(b"low", b, 1024);
-    let d = field(b"high", c, 1024);
-    let e = field(b"mark", d, 1024);
-    let f = field(b"next", e, 1024);
-    last(b"far", f);
+fn form<W: Write>(to: &mut W, w: u64) -> io::Result<()> {
+    let a = field(to, b"kind", w, 16)?;
+    let b = field(to, b"below", a, 1024)?;
+    let c = field(to, b"low", b, 1024)?;
+    let d = field(to, b"high", c, 1024)?;
+    let e = field(to, b"mark", d, 1024)?;
+    let f = field(to, b"next", e, 1024)?;
+    last(to, b"far", f)
 }
 
 // A total is 2^62 more than its number; what is less is where a collection ends.
-fn total(w: u64) {
+fn total<W: Write>(to: &mut W, w: u64) -> io::Result<()> {
     if w < 4611686018427387904 {
-        last(b"end", w);
-        return;
+        return last(to, b"end", w);
     }
-    last(b"total", w - 4611686018427387904);
+    last(to, b"total", w - 4611686018427387904)
 }
 
-fn row(w: u64) {
-    let a = field(b"row", w, 2048);
-    last(b"table + 1 =", a);
+fn row<W: Write>(to: &mut W, w: u64) -> io::Result<()> {
+    let a = field(to, b"row", w, 2048)?;
+    last(to, b"table + 1 =", a)
 }
 
-fn start(w: u64) {
-    let a = field(b"unit", w, 2);
-    last(b"begins", a);
+fn start<W: Write>(to: &mut W, w: u64) -> io::Result<()> {
+    let a = field(to, b"unit", w, 2)?;
+    last(to, b"begins", a)
 }
 
-fn fields(f: Format, w: u64) {
+fn fields<W: Write>(to: &mut W, f: Format, w: u64) -> io::Result<()> {
     match f {
-        Format::Whole => {}
-        Format::Description => description(w),
-        Format::Node => node(w),
-        Format::Shape => shape(w),
-        Format::Sizes => sizes(w),
-        Format::Form => form(w),
-        Format::Row => row(w),
-        Format::Total => total(w),
-        Format::Start => start(w),
+        Format::Whole => Ok(()),
+        Format::Description => description(to, w),
+        Format::Node => node(to, w),
+        Format::Shape => shape(to, w),
+        Format::Sizes => sizes(to, w),
+        Format::Form => form(to, w),
+        Format::Row => row(to, w),
+        Format::Total => total(to, w),
+        Format::Start => start(to, w),
     }
 }
 
-fn line(i: usize, w: u64, f: Format) {
-    say(b"  word ");
-    io::print_decimal(1, i as u64);
-    say(b": ");
-    io::print_decimal(1, w);
-    fields(f, w);
-    say(b"\n");
+fn line<W: Write>(to: &mut W, i: usize, w: u64, f: Format) -> io::Result<()> {
+    say(to, b"  word ")?;
+    decimal(to, i as u64)?;
+    say(to, b": ")?;
+    decimal(to, w)?;
+    fields(to, f, w)?;
+    say(to, b"\n")
 }
 
 // The words from a to b that are not 0.
-fn show(s: &[u64], a: usize, b: usize, f: Format) {
-    let mut i = a;
-    while i < b {
+fn show<W: Write>(to: &mut W, s: &[u64], a: usize, b: usize, f: Format) -> io::Result<()> {
+    for i in a..b {
         if s.len() <= i {
-            return;
+            return Ok(());
         }
         if s[i] != 0 {
-            line(i, s[i], f);
+            line(to, i, s[i], f)?;
         }
-        i += 1;
     }
+    Ok(())
 }
 
 // The front end: what stands in scratch when 27 has passed.
-fn show_question(s: &[u64], n: usize) {
-    say(b"tables (base_tables::read_data)\n");
-    show(s, DESCRIPTIONS, NODES, Format::Description);
-    say(b"nodes (front_parser::read_question)\n");
-    show(s, NODES, BINDERS, Format::Node);
-    say(b"binders (front_scope::binders)\n");
-    show(s, BINDERS, SHAPES, Format::Whole);
-    say(b"shapes (front_typing::types_fit, generators_fit)\n");
-    show(s, SHAPES, SIZES, Format::Shape);
-    say(b"sizes (front_measure::measure)\n");
-    show(s, SIZES, FORM, Format::Sizes);
-    say(b"nodes of the question: ");
-    io::print_decimal(1, n as u64);
-    say(b"\n");
+fn show_question<W: Write>(to: &mut W, s: &[u64], n: usize) -> io::Result<()> {
+    say(to, b"tables (base_tables::read_data)\n")?;
+    show(to, s, DESCRIPTIONS, NODES, Format::Description)?;
+    say(to, b"nodes (front_parser::read_question)\n")?;
+    show(to, s, NODES, BINDERS, Format::Node)?;
+    say(to, b"binders (front_scope::binders)\n")?;
+    show(to, s, BINDERS, SHAPES, Format::Whole)?;
+    say(to, b"shapes (front_typing::types_fit, generators_fit)\n")?;
+    show(to, s, SHAPES, SIZES, Format::Shape)?;
+    say(to, b"sizes (front_measure::measure)\n")?;
+    show(to, s, SIZES, FORM, Format::Sizes)?;
+    say(to, b"nodes of the question: ")?;
+    decimal(to, n as u64)?;
+    say(to, b"\n")
 }
 
 // The first n bytes.
-fn front(text: &[u8], n: usize) {
+fn front<W: Write>(to: &mut W, text: &[u8], n: usize) -> io::Result<()> {
     if text.len() < n {
-        return;
+        return Ok(());
     }
-    say(&text[0..n]);
+    say(to, &text[0..n])
 }
 
-fn signed(x: i64) {
+fn signed<W: Write>(to: &mut W, x: i64) -> io::Result<()> {
     let mut digits = [0u8; 20];
     let n = base_text::signed(&mut digits, 20, 0, x);
-    front(&digits, n);
+    front(to, &digits, n)
 }
 
 // The words of the answer's first places.
-fn show_answer(out: &[i64], n: usize) {
-    say(b"  answer");
-    let mut i: usize = 0;
-    while i < n {
+fn show_answer<W: Write>(to: &mut W, out: &[i64], n: usize) -> io::Result<()> {
+    say(to, b"  answer")?;
+    for i in 0..n {
         if out.len() <= i {
-            return;
+            return Ok(());
         }
-        say(b" ");
-        signed(out[i]);
-        i += 1;
+        say(to, b" ")?;
+        signed(to, out[i])?;
     }
-    say(b"\n");
+    say(to, b"\n")
 }
 
 // The words that change while a plan runs, of the node at place i: of a comprehension (kind 8) its total or end and where it
 // begins, of a generator (kind 9) its row.
-fn show_node(s: &[u64], i: usize)
+fn show_node<W: Write>(to: &mut W, s: &[u64], i: usize) -> io::Result<()>
     requires { i < 512 }
 {
     let w = form_words::word(s, i);
     match w % 16 {
         8 => {
-            show(s, TOTALS + i, TOTALS + i + 1, Format::Total);
-            show(s, STARTS + i, STARTS + i + 1, Format::Start);
+            show(to, s, TOTALS + i, TOTALS + i + 1, Format::Total)?;
+            show(to, s, STARTS + i, STARTS + i + 1, Format::Start)
         }
         9 => {
             let g = (w / 16777216 % 256) as usize;
-            show(s, ENVIRONMENT + g, ENVIRONMENT + g + 1, Format::Row);
+            show(to, s, ENVIRONMENT + g, ENVIRONMENT + g + 1, Format::Row)
         }
-        _ => {}
+        _ => Ok(()),
     }
 }
 
 // The same of all nodes, and the answer up to the limit.
-fn show_state(s: &[u64], out: &[i64], limit: usize) {
-    let mut i: usize = 0;
-    while i < FORM_WORDS {
-        show_node(s, i);
-        i += 1;
+fn show_state<W: Write>(to: &mut W, s: &[u64], out: &[i64], limit: usize) -> io::Result<()> {
+    for i in 0..FORM_WORDS {
+        show_node(to, s, i)?;
     }
-    show_answer(out, limit);
+    show_answer(to, out, limit)
 }
 
 // All rows of a pass, one offer after another; at most n of them.
-fn offers(s: &mut [u64], data: &[u8], out: &mut [i64], limit: usize, code: usize, n: usize) {
+fn offers<W: Write>(
+    to: &mut W,
+    s: &mut [u64],
+    data: &[u8],
+    out: &mut [i64],
+    limit: usize,
+    code: usize,
+    n: usize,
+) -> io::Result<()> {
     let mut at = code;
-    let mut left = n;
-    while left > 0 {
+    for _ in 0..n {
         if at == 1 {
-            return;
+            return Ok(());
         }
-        say(b"offer by the loop at ");
-        io::print_decimal(1, (at / 2) as u64);
-        say(b" (exec_step::offer)\n");
+        say(to, b"offer by the loop at ")?;
+        decimal(to, (at / 2) as u64)?;
+        say(to, b" (exec_step::offer)\n")?;
         let x = exec_step::offer(s, data, out, limit, at / 2, 0);
         at = x.at;
-        show_state(s, out, limit);
-        left -= 1;
+        show_state(to, s, out, limit)?;
     }
+    Ok(())
 }
 
 // The pass that counts: G.
-fn counted(s: &mut [u64], data: &[u8], out: &mut [i64], first: usize) -> usize {
+fn counted<W: Write>(
+    to: &mut W,
+    s: &mut [u64],
+    data: &[u8],
+    out: &mut [i64],
+    first: usize,
+) -> io::Result<usize> {
     let g = exec_pass::pass(s, data, out, 0, first);
-    say(b"G (exec_pass::pass, limit 0): ");
-    io::print_decimal(1, g as u64);
-    say(b"\n");
-    g
+    say(to, b"G (exec_pass::pass, limit 0): ")?;
+    decimal(to, g as u64)?;
+    say(to, b"\n")?;
+    Ok(g)
 }
 
 // The pass that writes begins: the code of the loop that offers the first row.
-fn begun(s: &mut [u64], data: &[u8], out: &mut [i64], limit: usize, first: usize) -> usize {
+fn begun<W: Write>(
+    to: &mut W,
+    s: &mut [u64],
+    data: &[u8],
+    out: &mut [i64],
+    limit: usize,
+    first: usize,
+) -> io::Result<usize> {
     let code = exec_pass::start(s, data, out, limit, first);
-    say(b"second pass begins (exec_pass::start)\n");
-    show_state(s, out, limit);
-    code
+    say(to, b"second pass begins (exec_pass::start)\n")?;
+    show_state(to, s, out, limit)?;
+    Ok(code)
 }
 
-fn closed(s: &[u64], out: &mut [i64], limit: usize) {
+fn closed<W: Write>(to: &mut W, s: &[u64], out: &mut [i64], limit: usize) -> io::Result<()> {
     exec_pass::close(s, out, limit);
-    say(b"raw words (exec_pass::close)\n");
-    show_answer(out, limit);
+    say(to, b"raw words (exec_pass::close)\n")?;
+    show_answer(to, out, limit)
 }
 
 // Both passes.
-fn run(s: &mut [u64], data: &[u8], out: &mut [i64], first: usize) {
-    let g = counted(s, data, out, first);
-    let code = begun(s, data, out, g, first);
-    offers(s, data, out, g, code, 16);
-    closed(s, out, g);
+fn run<W: Write>(
+    to: &mut W,
+    s: &mut [u64],
+    data: &[u8],
+    out: &mut [i64],
+    first: usize,
+) -> io::Result<()> {
+    let g = counted(to, s, data, out, first)?;
+    let code = begun(to, s, data, out, g, first)?;
+    offers(to, s, data, out, g, code, 16)?;
+    closed(to, s, out, g)
 }
 
-fn by_plan(data: &[u8], s: &mut [u64]) {
+fn by_plan<W: Write>(to: &mut W, data: &[u8], s: &mut [u64]) -> io::Result<()> {
     let mut out = [0i64; 16];
     plan_marks::make_plan(s);
-    say(b"marks (plan_marks::make_plan)\n");
-    show(s, FORM, FORM + FORM_WORDS, Format::Form);
+    say(to, b"marks (plan_marks::make_plan)\n")?;
+    show(to, s, FORM, FORM + FORM_WORDS, Format::Form)?;
     let first = plan_links::link(s);
-    say(b"links (plan_links::link), first ");
-    io::print_decimal(1, first as u64);
-    say(b"\n");
-    show(s, FORM, FORM + FORM_WORDS, Format::Form);
-    run(s, data, &mut out, first);
+    say(to, b"links (plan_links::link), first ")?;
+    decimal(to, first as u64)?;
+    say(to, b"\n")?;
+    show(to, s, FORM, FORM + FORM_WORDS, Format::Form)?;
+    run(to, s, data, &mut out, first)
 }
 
-fn written(data: &[u8], question: &[u8], s: &mut [u64]) {
+fn written<W: Write>(to: &mut W, data: &[u8], question: &[u8], s: &mut [u64]) -> io::Result<()> {
     let mut out = [0i64; 16];
     let a = engine::dislogha_answer_by_loops(data, b"", question, s, &mut out);
-    say(b"by loops (engine::dislogha_answer_by_loops)\n");
-    show_answer(&out, a.length as usize);
+    say(to, b"by loops (engine::dislogha_answer_by_loops)\n")?;
+    show_answer(to, &out, a.length as usize)?;
     let b = engine::dislogha_answer_by_plan(data, b"", question, s, &mut out);
-    say(b"by plan (engine::dislogha_answer_by_plan)\n");
-    show_answer(&out, b.length as usize);
+    say(to, b"by plan (engine::dislogha_answer_by_plan)\n")?;
+    show_answer(to, &out, b.length as usize)
 }
 
-fn walk(data: &[u8], question: &[u8], s: &mut [u64])
+fn walk<W: Write>(to: &mut W, data: &[u8], question: &[u8], s: &mut [u64]) -> io::Result<()>
     requires { scratch_size ≤ length s.old }
 {
     match front_end::front_end(data, b"", question, s) {
         FrontResult::Refused(_) => {}
-        FrontResult::Nodes(n) => show_question(s, n),
+        FrontResult::Nodes(n) => show_question(to, s, n)?,
     }
     front_end::prepare(data, b"", question, s);
-    say(b"normal form (front_emit::write_form)\n");
-    show(s, ENVIRONMENT, FORM, Format::Row);
-    show(s, FORM, FORM + FORM_WORDS, Format::Form);
-    by_plan(data, s);
-    written(data, question, s);
+    say(to, b"normal form (front_emit::write_form)\n")?;
+    show(to, s, ENVIRONMENT, FORM, Format::Row)?;
+    show(to, s, FORM, FORM + FORM_WORDS, Format::Form)?;
+    by_plan(to, data, s)?;
+    written(to, data, question, s)
 }
 
-fn listing(input: &[u8], s: &mut [u64])
+fn listing<W: Write>(to: &mut W, input: &[u8], s: &mut [u64]) -> io::Result<()>
     requires { scratch_size ≤ length s.old }
 {
     if input.len() < DATA {
-        return;
+        return Ok(());
     }
-    walk(&input[0..DATA], &input[DATA..input.len()], s);
+    walk(to, &input[0..DATA], &input[DATA..input.len()], s)
 }
 
-fn main() {
-    let mut input = [0u8; 4096];
-    let n = io::read_full(0, &mut input);
+fn main(rt: HostRuntime) -> io::Result<()> {
+    let mut input = Vec::new(rt.alloc());
+    rt.reader().take(4096).read_to_end(&mut input)?;
     let mut scratch = [0u64; base_scratch::WORDS];
-    listing(&input[..n], &mut scratch);
+    let mut to = BufWriter::new(rt.alloc(), io::writer(&rt))?;
+    listing(&mut to, &input, &mut scratch)?;
+    to.flush()
 }
