@@ -5,11 +5,11 @@
 // bytes of data's length, two of the calendars', two of the question's, little-endian, then all three.
 #![tactic(auto)]
 
-ghost use Rattle.std.specs.Prelude.{◌+◌, ◌*◌, ◌<◌, ◌≤◌, ◌≡◌, length, get_or, replicate, IfOk};
+ghost use Rattle.std.specs.Prelude.{◌+◌, ◌*◌, ◌<◌, ◌≤◌, ◌≡◌, length, get_or, replicate};
 
 use std::fs::File;
 use std::io;
-use std::io::{BufWriter, Read, Write};
+use std::io::Write;
 
 fn wide(byte: u8) -> usize
     ensures { (result ≡ byte) × (result < 256) }
@@ -161,28 +161,11 @@ fn space() -> [u8; 524288]
     [0; 524288]
 }
 
-// Reads until the buffer is full or the input ends. Answers how many bytes stand at the buffer's front.
-fn read_full<R: Read>(reader: &mut R, buffer: &mut [u8]) -> io::Result<usize>
-    ensures { IfOk result (λ n. n ≤ length buffer.new) }
-{
-    let mut done = 0;
-    while done < buffer.len() {
-        let n = reader.read(&mut buffer[done..])?;
-        if n == 0 {
-            return Ok(done);
-        }
-        done += n;
-    }
-    Ok(done)
-}
-
 fn main(rt: HostRuntime) -> io::Result<()> {
     let mut file = File::open(&rt, "cases")?;
     let mut cases = space();
-    let n = read_full(&mut file, &mut cases)?;
+    let n = base_input::read_full(&mut file, &mut cases)?;
     let mut scratch = [0u64; base_scratch::WORDS];
     let mut words = [0i64; 4096];
-    let mut out = BufWriter::new(rt.alloc(), io::writer(&rt))?;
-    ask_all(&mut out, &cases[..n], &mut scratch, &mut words)?;
-    out.flush()
+    ask_all(&mut io::writer(&rt), &cases[..n], &mut scratch, &mut words)
 }

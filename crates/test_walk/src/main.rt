@@ -10,7 +10,7 @@ use base_scratch::{
 };
 use front_end::FrontResult;
 use std::io;
-use std::io::{BufWriter, Read, Write};
+use std::io::Write;
 
 // The bytes of the listing's data.
 const DATA: usize = 66;
@@ -346,10 +346,8 @@ fn listing<W: Write>(to: &mut W, input: &[u8], s: &mut [u64]) -> io::Result<()>
 }
 
 fn main(rt: HostRuntime) -> io::Result<()> {
-    let mut input = Vec::new(rt.alloc());
-    rt.reader().take(4096).read_to_end(&mut input)?;
+    let mut input = [0u8; 4096];
+    let n = base_input::read_full(&mut rt.reader(), &mut input)?;
     let mut scratch = [0u64; base_scratch::WORDS];
-    let mut to = BufWriter::new(rt.alloc(), io::writer(&rt))?;
-    listing(&mut to, &input, &mut scratch)?;
-    to.flush()
+    listing(&mut io::writer(&rt), &input[..n], &mut scratch)
 }

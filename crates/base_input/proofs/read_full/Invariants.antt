@@ -1,6 +1,6 @@
 -- `read_full` ends: each read that goes on fills some of the buffer. Assumes nothing.
 use Rattle.std.proofs.Common.{◌-◌, ◌≤◌, length}
-use Rattle.test_vectors.proofs.read_full.Given as goal
+use Rattle.base_input.proofs.read_full.Given as goal
 
 abbrev pub invariant-loop-done : goal.invariant-loop-done
 invariant-loop-done g l = l.done ≤ length l.buffer
