@@ -188,8 +188,8 @@ namespace dislogha {
 constexpr std::size_t scratch_words = 2048;
 
 // Bytes of stack that a call needs at most, 128 KiB, whatever it is asked and whatever it is lent, on
-// x86-64 as the kit compiles it: worked out from the compiled frames, 129,928, and seen in the deepest
-// questions that were made, 117,760 (`tests/stack/run`; docs/FIGURES.md). Another processor needs
+// x86-64 as the kit compiles it: worked out from the compiled frames, 116,296, and seen in the deepest
+// questions that were made, 67,560 (`tests/stack/run`; docs/FIGURES.md). Another processor needs
 // another figure.
 constexpr std::size_t stack_bytes = 131072;
 

@@ -42,7 +42,7 @@ def loops(f, above=()):
 # For each group the most that it takes, from its frames. A group of a crate that has several is named by one of its functions.
 GROUPS = {
     # a level is a term's record or a qualifier's
-    'front_parser': times(LEVELS, ['content', 'compound'], ['content', 'comprehension']),
+    'front_parser': times(LEVELS, ['term', 'content', 'compound'], ['term', 'content', 'comprehension']),
     # levels of terms, and a qualifier or field before the deep one for each record
     'front_scope': lambda f: LEVELS * f('term') + RECORDS * max(f('terms'), f('quals')),
     # a record of the question is a term, a qualifier before the deep one, or a condition that is gone through

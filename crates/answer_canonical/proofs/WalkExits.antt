@@ -200,9 +200,9 @@ pub record Walking (s : List ℕ) (i count : ℕ) (e₀ : Ends) (o₀ o : List �
       (f : ℕ) → left i < f → (D G R : List ℤ) (l : List Value) → All (Of (type_at f s i)) l → length l ≡ count →
       o₀ ≡ D ++ (G ++ (words_of l ++ R)) → length D ≡ e₀.dst → length D + length G ≡ e₀.src → (k : ℕ) → e₀.comparisons ≡ capped k → Underway (type_at f s i) D R l o n e k
 
-pub walk_first : {s : List ℕ} {i n : ℕ} {e : Ends} {o : List ℤ} → Walking s i n e o o n e
+walk-begins : {s : List ℕ} {i n : ℕ} {e : Ends} {o : List ℤ} → Walking s i n e o o n e
 unfolding words
-walk_first = record {
+walk-begins = record {
   long = refl;
   by = λ f k D G R l h c q ld ls m tm. record {
     done = [];
@@ -219,6 +219,9 @@ walk_first = record {
     sum = refl;
   };
 }
+
+pub walk_first : {s : List ℕ} {i n m : ℕ} {e : Ends} {o : List ℤ} → n ≡ m → Walking s i n e o o m e
+walk_first {s} {i} {n} {e = e} {o = o} q = subst (λ (k : ℕ). Walking s i n e o o k e) q walk-begins
 
 module _ {t : Ty} {e g : Ends} {o o' : List ℤ} (W : WalksAs t t (steps t) e o o' g) (D R : List ℤ) (l : List Value) (n : ℕ) (p : 0 < n) (k₀ : ℕ) where
   one-walked : (done todo : List Value) (gap : List ℤ) → o ≡ (D ++ words_of done) ++ (gap ++ (words_of todo ++ R)) → All (Of t) todo → length todo ≡ n → done ++ map (arrange_as t) todo ≡ map (arrange_as t) l → length (D ++ words_of done) ≡ e.dst → e.dst + length gap ≡ e.src
@@ -244,8 +247,8 @@ module _ {t : Ty} {e g : Ends} {o o' : List ℤ} (W : WalksAs t t (steps t) e o 
         sum = add_assoc made (steps t v) (total (map (steps t) todo)) ∙ sm;
       }
 
-pub walk-again : {s : List ℕ} {i count n : ℕ} {e₀ e g : Ends} {o₀ o o' : List ℤ} → Walking s i count e₀ o₀ o n e → 0 < n → length o' ≡ length o → WalkedArranged s i e o o' g → Walking s i count e₀ o₀ o' (n - 1) g
-walk-again {n = n} I p el W = record {
+walk-next : {s : List ℕ} {i count n : ℕ} {e₀ e g : Ends} {o₀ o o' : List ℤ} → Walking s i count e₀ o₀ o n e → 0 < n → length o' ≡ length o → WalkedArranged s i e o o' g → Walking s i count e₀ o₀ o' (n - 1) g
+walk-next {n = n} I p el W = record {
   long = el ∙ I.long;
   by = λ f k D G R l h c q ld ls m tm.
       let U = I.by f k D G R l h c q ld ls m tm in
@@ -263,6 +266,9 @@ all-walked t D R l o n e p done [] gap c k w ld ls k₀ made tm sm = subst (λ (
   told = tm ∙ ap capped (sym (add-zero made) ∙ sm);
 })
 all-walked t D R l o n e p done (v ∷ todo) gap c k w ld ls k₀ made tm sm = absurd (omega arith)
+
+pub walk-again : {s : List ℕ} {i count n m : ℕ} {e₀ e g : Ends} {o₀ o o' : List ℤ} → Walking s i count e₀ o₀ o n e → n ≡ m + 1 → length o' ≡ length o → WalkedArranged s i e o o' g → Walking s i count e₀ o₀ o' m g
+walk-again {s} {i} {count} {e₀ = e₀} {g = g} {o₀ = o₀} {o' = o'} I q el W = subst (λ (k : ℕ). Walking s i count e₀ o₀ o' k g) (omega (arith, q)) (walk-next I (omega (arith, q)) el W)
 
 pub walk-last : {s : List ℕ} {i count n : ℕ} {e₀ e : Ends} {o₀ o : List ℤ} → Walking s i count e₀ o₀ o n e → n ≤ 0 → WalkElementsPost s i count e₀ o₀ o e
 walk-last {s} {i} {n = n} {e = e} {o = o} I p = record {

@@ -6,7 +6,6 @@ ghost use Rattle.base_scratch.specs.Map.{form_words};
 ghost use Rattle.answer_types.specs.Shape.{Shaped};
 ghost use Rattle.answer_canonical.specs.CompactingWalk.{CarryPost, ArrangePost, WalkPost, WalkFieldsPost, WalkElementsPost, FinishPost, FinishCount};
 
-use answer_heap::more;
 use answer_sort::order;
 use answer_types::{Layout, ValueType, element_layout, layout_at};
 use base_buffer::{ahead, clear, mark, shift, step, tally};
@@ -60,7 +59,7 @@ fn arrange(s: &[u64], o: &mut [i64], t: Layout, p: usize, e: Ends) -> Ends
             Ends {
                 src: e.src,
                 dst: r.end,
-                comparisons: more(e.comparisons, r.comparisons),
+                comparisons: e.comparisons.saturating_add(r.comparisons),
             }
         }
     }
@@ -110,13 +109,11 @@ fn walk_elements(s: &[u64], o: &mut [i64], t: Layout, count: usize, e: Ends) -> 
     requires { Shaped s.now t.place t.shape }
     ensures { WalkElementsPost s.now t.place count e o.old o.new result }
 {
-    let mut n = count;
     let mut g = e;
-    while 0 < n {
+    for _ in 0..count {
         let p = g.dst;
         g = walk(s, o, t, g);
         g = arrange(s, o, t, p, g);
-        n -= 1;
     }
     g
 }

@@ -30,10 +30,8 @@ fn charge_all(t: &[u8], o: &mut [i64], n: usize)
     requires { ChargePre t.now n }
     ensures { o.new ≡ charged_from (tariff_in t.now) 2 n o.old }
 {
-    let mut k = 0;
-    while k < n {
+    for k in 0..n {
         charge_at(t, o, FIRST_DRAUGHT + SHIP_WORDS * k);
-        k += 1;
     }
 }
 

@@ -8,7 +8,7 @@ ghost use Rattle.answer_ships.specs.Contract.{BranchPost, TruthPost, NumberPost,
 use answer_types::{CollectionKind, ValueType, shape_at};
 use answer_writer::WriteForm;
 use base_syntax::Fun;
-use form_arith::{Sort, same};
+use form_arith::Sort;
 use form_words::{FormNode, branch, look, next};
 
 // "(ship, draught)"
@@ -37,7 +37,7 @@ fn is_truth(s: &[u64], i: usize) -> bool
     let WriteForm::Word(k) = answer_writer::shape_at(s, first_branch(s, i)) else {
         return false;
     };
-    !same(k, Sort::Number)
+    k != Sort::Number
 }
 
 fn is_number(s: &[u64], i: usize) -> bool

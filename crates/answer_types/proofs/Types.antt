@@ -2,7 +2,7 @@
 use mathlib.Core.Path.{◌≡◌, refl, sym, ap, subst, ◌∙◌}
 use mathlib.Core.Bool.{true, false}
 use mathlib.Core.List.{List}
-use Prim.Native.Nat.{ℕ, zero, suc, ◌+◌, ◌-◌, ◌/◌, ◌≤◌, ◌<◌}
+use Prim.Native.Nat.{ℕ, zero, suc, ◌+◌, ◌/◌, ◌≤◌, ◌<◌}
 use native.Mathlib.Omega.{arith}
 use Rattle.base_signed.proofs.SignedWords.{no}
 use Rattle.spec_calculus.specs.Syntax.{of, Bin, plus, minus, times, equal, less, and, or, Fun, choice, is_open}
@@ -60,9 +60,6 @@ pub seek-first : {s : List ℕ} {i e : ℕ} → ClauseEndPost s i e → Seeking 
 seek-first C = record { past = omega arith; upto = λ l. l; clause = C; same = λ f l. (f, l, refl, refl) }
 
 module _ {s : List ℕ} {i j e : ℕ} (I : Seeking s i j e) where
-  pub seek-less : j < e → form_words - e < form_words - j
-  seek-less l = omega (arith, I.clause.upto l)
-
   pub seek-again : {d : ℕ} → j < e → ClauseEndPost s e d → Seeking s i e d
   seek-again {d} l C = record {
     past = omega (arith, I.past);

@@ -4,7 +4,6 @@ use Rattle.std.specs.Prelude.{Bool, ℤ}
 use Rattle.spec_calculus.specs.Syntax.{Collection}
 use Rattle.spec_calculus.specs.Value.{Value, Values, num, truth, rec, coll, vnil, vcons}
 use Rattle.spec_checks.specs.Types.{Ty, Tys, number, record', ynil, ycons}
-use Rattle.spec_checks.specs.Types as Ty
 
 -- at least one field
 abbrev pub Some : Tys → Type 0

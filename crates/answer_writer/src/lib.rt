@@ -94,12 +94,9 @@ pub fn row(s: &[u64], data: &[u8], out: &mut [i64], limit: usize, g: usize, p: u
     if rows(w) <= r {
         return put(out, limit, p, 0);
     }
-    let n = columns(w);
     let mut q = p;
-    let mut c = 0;
-    while c < n {
+    for c in 0..columns(w) {
         q = put(out, limit, q, cell(data, w, r, c));
-        c += 1;
     }
     q
 }

@@ -1,4 +1,3 @@
 -- Laws of reading and moving words.
 pub mod TotalReads
 pub mod Blocks
-pub mod BlockSwaps

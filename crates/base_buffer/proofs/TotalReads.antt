@@ -1,21 +1,16 @@
 -- Laws of reading at a place.
 use mathlib.Core.Path.{◌≡◌, refl, sym, ap, ◌∙◌}
-use mathlib.Core.Bool.{Bool, true, false}
 use mathlib.Core.List.{List, ◌∷◌}
-use Prim.Native.Nat.{ℕ, zero, suc, ◌+◌, ◌-◌, ◌^◌, ◌≤◌, ◌<◌}
+use Prim.Native.Nat.{ℕ, zero, suc, ◌+◌, ◌-◌, ◌≤◌, ◌<◌, min}
 use native.Mathlib.Omega.{arith}
 use native.Mathlib.Nat.{suc-add}
-use lib.Dec.{T, ltb}
+use lib.Dec.{ltb}
 use lib.ListN.{length, get_or, drop, length-drop}
 use lib.Seq.{drop-drop, get_or-drop}
-use lib.IntN.{ℤ, pos, negsuc, nat_abs}
-use lib.Signed.{lt_z, non_neg}
-use mir.Syntax.{w64}
-use mir.Val.{SFits, Fits, to_z, of_z}
-use mir.Facts.{to_z-of_z, sfits_lit}
+use lib.IntN.{ℤ, pos}
 use borrow.Author.Tests.{lt-ltb, le-ltb, ltb-true, ltb-false}
 use Rattle.spec_calculus.specs.Lists.{pick}
-use Rattle.base_signed.proofs.SignedWords.{lt-is, by-test, no}
+use Rattle.base_signed.proofs.SignedWords.{by-test}
 use Rattle.base_buffer.specs.TotalReads.{word_at, nat_of, least, count_at, behind, times}
 
 -- ---- steps
@@ -76,29 +71,12 @@ ahead-cut w p (suc n) l m =
     (λ e. let h = ltb-true p (length w) e in ahead-cut w (p + 1) n (omega arith) (omega arith) ∙ ap (times n (behind w)) (behind-in w p h))
     (λ e. let h = ltb-false p (length w) e in omega (arith, ahead-out w p n h, ap (times n (behind w)) (behind-out w p h)))
 
--- ---- tally
-negative : (z : ℤ) → lt_z z (pos 0) ≡ true → 0 ≡ nat_of z
-negative (pos n) e = absurd (omega (arith, ltb-true n 0 e))
-negative (negsuc n) e = refl
-
-natural : (z : ℤ) → SFits w64 z → lt_z z (pos 0) ≡ false → (nat_abs z ≡ nat_of z) × T (non_neg z) × (nat_abs z < 2 ^ 63)
-natural (pos n) f e = (refl, tt, f.sfits)
-natural (negsuc n) f e = no e
-
--- z: the word as it was read into a local
-module _ (z : ℤ) (f : SFits w64 z) where
-  below : {t : Bool} → lt_z (to_z w64 (of_z w64 z)) (to_z w64 (of_z w64 (pos 0))) ≡ t → lt_z z (pos 0) ≡ t
-  below e = lt-is {a = z} {b = pos 0} f (sfits_lit {z = pos 0} tt) e
-
-  pub tally-none : lt_z (to_z w64 (of_z w64 z)) (to_z w64 (of_z w64 (pos 0))) ≡ true → 0 ≡ nat_of z
-  tally-none e = negative z (below e)
-
-  module _ (e : lt_z (to_z w64 (of_z w64 z)) (to_z w64 (of_z w64 (pos 0))) ≡ false) where
-    pub tally-fits : T (non_neg (to_z w64 (of_z w64 z))) × Fits w64 (nat_abs (to_z w64 (of_z w64 z)))
-    tally-fits = let n = natural z f (below e) in rw (to_z-of_z f) (n.1, omega arith)
-
-    pub tally-some : (nat_abs (to_z w64 (of_z w64 z)) ≡ nat_of z) × (nat_abs (to_z w64 (of_z w64 z)) < 2 ^ 63)
-    tally-some = let n = natural z f (below e) in rw (to_z-of_z f) (n.0, n.2)
+pub ahead_is : (w : List ℤ) (p n : ℕ) → p + min n (length w - p) ≡ times n (behind w) p
+ahead_is w p n = by-test (ltb p (length w))
+    (λ e. let h = ltb-true p (length w) e in by-test (ltb (length w - p) n)
+    (λ f. let g = ltb-true (length w - p) n f in omega (arith, h, g, ahead-cut w p n (omega (arith, h)) (omega (arith, g))))
+    (λ f. let g = ltb-false (length w - p) n f in omega (arith, h, g, ahead_in w p n (omega (arith, h, g)))))
+    (λ e. let h = ltb-false p (length w) e in omega (arith, h, ahead-out w p n h))
 
 -- ---- the lesser of two numbers
 pub least_first : {m x : ℕ} (n : ℕ) → m ≡ x → m ≤ n → m ≡ least x n
@@ -108,6 +86,9 @@ least_first {m} {x} n e l = rw (le-ltb n x (omega arith)) e
 pub least-second : {m x : ℕ} (n : ℕ) → m ≡ x → n < m → n ≡ least x n
 unfolding least pick
 least-second {m} {x} n e l = rw (lt-ltb n x (omega arith)) refl
+
+pub least_min : {m x r : ℕ} (n : ℕ) → m ≡ x → r ≡ min m n → r ≡ least x n
+least_min {m} n e q = by-test (ltb n m) (λ h. omega (arith, least-second n e (ltb-true n m h), ltb-true n m h)) (λ h. omega (arith, least_first n e (ltb-false n m h), ltb-false n m h))
 
 pub least-none : (m n : ℕ) → n ≤ 0 → 0 ≡ least m n
 least-none m n l = by-test (ltb n m) (λ e. omega (arith, least-second {m = m} n refl (ltb-true n m e))) (λ e. omega (arith, least_first {m = m} n refl (ltb-false n m e), ltb-false n m e))

@@ -4,17 +4,10 @@
 ghost use Rattle.std.specs.Prelude.{◌≡◌, ◌<◌, ◌^◌};
 ghost use Rattle.spec_encoding.specs.Record.{byte, two};
 
-// A cast of a parameter asks no proof where it is used.
-fn wide(x: u8) -> usize
-    ensures { (result ≡ x) × (result < 256) }
-{
-    x as usize
-}
-
 pub fn byte_at(s: &[u8], i: usize) -> usize
     ensures { (result ≡ byte s.now i) × (result < 256) }
 {
-    if i < s.len() { wide(s[i]) } else { 0 }
+    if i < s.len() { usize::from(s[i]) } else { 0 }
 }
 
 pub fn two_at(s: &[u8], i: usize) -> usize

@@ -1,20 +1,18 @@
 -- The calendar of a number stands behind as many records.
 use mathlib.Core.Path.{◌≡◌, refl, sym, ap, subst, ◌∙◌}
-use mathlib.Core.List.{List, [], ◌∷◌}
+use mathlib.Core.List.{[], ◌∷◌}
 use mathlib.Core.Bool.{Bool, true, false}
 use Prim.Native.Nat.{ℕ, zero, suc, ◌+◌, ◌-◌, ◌≤◌, ◌<◌}
 use native.Mathlib.Numerals.{add-one}
 use native.Mathlib.Omega.{arith}
-use lib.Dec.{leb, ltb}
+use lib.Dec.{leb}
 use lib.ListN.{length, get_or, take, drop, length-drop, drop_of_length-le}
 use lib.Seq.{take_all, take-nil, drop-nil, drop-drop}
-use borrow.Author.Tests.{leb-true, leb-false, le-leb, lt-ltb, le-ltb}
-use Rattle.spec_calendar.specs.Hours.{Calendar, calendar_of}
+use borrow.Author.Tests.{leb-true, leb-false}
 use Rattle.spec_encoding.specs.Record.{Bytes, two, length_of, content_of, behind}
 use Rattle.spec_hours.specs.CalendarBytes.{windows_of, calendars_from, calendars_of}
-use Rattle.base_calendars.specs.Contract.{Stands, FoundAs, FindPost}
-use Rattle.base_calendars.specs.declared.LentCalendar.{LentCalendar}
-use Rattle.base_calendars.specs.declared.LentCalendar.TheVariants.{Content, Missing}
+use Rattle.base_calendars.specs.Contract.{Stands, FindPost}
+use Rattle.std.specs.Prelude.{Option, Some, None, min}
 use Rattle.base_calendars.proofs.Records.{length_at}
 
 -- what stands behind so many records
@@ -59,47 +57,47 @@ ends (suc n) zero (b ∷ l) g = absurd (omega arith)
 ends (suc n) (suc k) (b ∷ l) g = omega (arith, ends n k (behind (b ∷ l)) g)
 
 -- ---- a part that is cut where the bytes end
-cut : (q n : ℕ) (l : Bytes) → take (q + n - (q + n - length l) - (q - (q - length l))) (drop (q - (q - length l)) l) ≡ take n (drop q l)
+cut : (q n : ℕ) (l : Bytes) → take (min (q + n) (length l) - (min q (length l))) (drop (min q (length l)) l) ≡ take n (drop q l)
 cut q n l = go (leb q (length l)) (leb (q + n) (length l)) refl refl
   where
     go : (s t : Bool) → leb q (length l) ≡ s → leb (q + n) (length l) ≡ t →
-        take (q + n - (q + n - length l) - (q - (q - length l))) (drop (q - (q - length l)) l) ≡ take n (drop q l)
+        take (min (q + n) (length l) - (min q (length l))) (drop (min q (length l)) l) ≡ take n (drop q l)
     go true true a b =
-        let e₁ : q - (q - length l) ≡ q = omega (arith, leb-true q (length l) a) in
-        let e₂ : q + n - (q + n - length l) - q ≡ n = omega (arith, leb-true (q + n) (length l) b) in
+        let e₁ : min q (length l) ≡ q = omega (arith, leb-true q (length l) a) in
+        let e₂ : min (q + n) (length l) - q ≡ n = omega (arith, leb-true (q + n) (length l) b) in
         rw (e₁, e₂)
     go true false a b =
-        let e₁ : q - (q - length l) ≡ q = omega (arith, leb-true q (length l) a) in
-        let e₂ : q + n - (q + n - length l) - q ≡ length l - q = omega (arith, leb-false (q + n) (length l) b) in
+        let e₁ : min q (length l) ≡ q = omega (arith, leb-true q (length l) a) in
+        let e₂ : min (q + n) (length l) - q ≡ length l - q = omega (arith, leb-false (q + n) (length l) b) in
         rw (e₁, e₂)
         (take_all (length l - q) (drop q l) (rw length-drop (omega arith))
         ∙ sym (take_all n (drop q l) (rw length-drop (omega (arith, leb-false (q + n) (length l) b)))))
     go false t a b =
-        let e₁ : q - (q - length l) ≡ length l = omega (arith, leb-false q (length l) a) in
+        let e₁ : min q (length l) ≡ length l = omega (arith, leb-false q (length l) a) in
         rw (e₁, drop_of_length-le l {i = length l} (omega arith), drop_of_length-le l {i = q} (omega (arith, leb-false q (length l) a)))
-        (take-nil (q + n - (q + n - length l) - length l) ∙ sym (take-nil n))
+        (take-nil (min (q + n) (length l) - length l) ∙ sym (take-nil n))
 
-drop-cut : (q : ℕ) (l : Bytes) → drop (q - (q - length l)) l ≡ drop q l
+drop-cut : (q : ℕ) (l : Bytes) → drop (min q (length l)) l ≡ drop q l
 drop-cut q l = go (leb q (length l)) refl
   where
-    go : (s : Bool) → leb q (length l) ≡ s → drop (q - (q - length l)) l ≡ drop q l
-    go true a = ap (λ (k : ℕ). drop k l) (let e : q - (q - length l) ≡ q = omega (arith, leb-true q (length l) a) in e)
+    go : (s : Bool) → leb q (length l) ≡ s → drop (min q (length l)) l ≡ drop q l
+    go true a = ap (λ (k : ℕ). drop k l) (let e : min q (length l) ≡ q = omega (arith, leb-true q (length l) a) in e)
     go false a =
-        let e : q - (q - length l) ≡ length l = omega (arith, leb-false q (length l) a) in
+        let e : min q (length l) ≡ length l = omega (arith, leb-false q (length l) a) in
         rw e (drop_of_length-le l {i = length l} (omega arith) ∙ sym (drop_of_length-le l {i = q} (omega (arith, leb-false q (length l) a))))
 
 -- ---- find
-pub beyond : (l : Bytes) (k : ℕ) → 4 ≤ k → FindPost l k Missing
+pub beyond : (l : Bytes) (k : ℕ) → 4 ≤ k → FindPost l k None
 unfolding calendars_of
 beyond l k h = record { is = omega (arith, few 4 l, h) }
 
 module _ (l : Bytes) (p n : ℕ) (inv : drop p l ≡ skip n l) where
-  pub ended : (k : ℕ) → n ≤ k → length l ≤ p → FindPost l k Missing
+  pub ended : (k : ℕ) → n ≤ k → length l ≤ p → FindPost l k None
   unfolding calendars_of
   ended k h g = record { is = omega (arith, ends 4 n l (ap length (sym inv ∙ drop_of_length-le l g)), h) }
 
-  module _ {a b m : ℕ} (em : m ≡ two l p) (ea : a ≡ p + 4 - (p + 4 - length l)) (eb : b ≡ p + 4 + m - (p + 4 + m - length l)) where
-    pub stands : (k : ℕ) → k < 4 → n ≡ k → p < length l → FindPost l k (Content a b)
+  module _ {a b m : ℕ} (em : m ≡ two l p) (ea : a ≡ min (p + 4) (length l)) (eb : b ≡ min (p + 4 + m) (length l)) where
+    pub stands : (k : ℕ) → k < 4 → n ≡ k → p < length l → FindPost l k (Some (a, b))
     unfolding calendars_of
     stands k h e g =
         let s : 0 < length (skip k l) = rw (← e, ← inv, length-drop) (omega arith) in
@@ -117,16 +115,10 @@ module _ (l : Bytes) (p n : ℕ) (inv : drop p l ≡ skip n l) where
         ap (λ (j : ℕ). drop j l) eb ∙ drop-cut (p + 4 + m) l ∙ ap (λ (j : ℕ). drop j l) z
         ∙ sym (drop-drop (4 + length_of (drop p l)) p l) ∙ ap behind inv ∙ skip-next n l ∙ ap (λ (j : ℕ). skip j l) (sym (add-one n))
 
--- ---- is_lent
-module _ {l : Bytes} {k : ℕ} {r : LentCalendar} (f : FindPost l k r) where
-  pub found : {a b : ℕ} → r ≡ Content a b → Stands l k a b
+-- ---- what was found, by its form
+module _ {l : Bytes} {k : ℕ} {r : Option (ℕ × ℕ)} (f : FindPost l k r) where
+  pub found : {a b : ℕ} → r ≡ Some (a, b) → Stands l k a b
   found e = (subst (FindPost l k) e f).is
 
-  pub not_found : r ≡ Missing → length (calendars_of l) ≤ k
+  pub not_found : r ≡ None → length (calendars_of l) ≤ k
   not_found e = (subst (FindPost l k) e f).is
-
-  pub lent-there : {a b : ℕ} → r ≡ Content a b → leb a b ≡ ltb k (length (calendars_of l))
-  lent-there {a} {b} e = le-leb a b (found e).order ∙ sym (lt-ltb k (length (calendars_of l)) (found e).lent)
-
-  pub lent-missing : r ≡ Missing → false ≡ ltb k (length (calendars_of l))
-  lent-missing e = sym (le-ltb k (length (calendars_of l)) (not_found e))

@@ -2,15 +2,15 @@
 use mathlib.Core.Path.{◌≡◌, refl, sym, ap, ◌∙◌}
 use mathlib.Core.List.{[], ◌∷◌}
 use mathlib.Core.Bool.{Bool, true, false, false≢true, ◌&&◌, and-eq-true_iff, and_assoc}
-use Prim.Native.Nat.{ℕ, zero, suc, ◌+◌, ◌-◌, ◌*◌, ◌≤◌, ◌<◌}
+use Prim.Native.Nat.{ℕ, zero, suc, ◌+◌, ◌-◌, ◌≤◌, ◌<◌}
 use native.Mathlib.Nat.{add-zero}
 use native.Mathlib.Omega.{arith}
 use lib.Dec.{eqb, leb}
-use lib.ListN.{length, get_or, take, drop, length-drop, drop_of_length-le}
+use lib.ListN.{length, take, drop, length-drop, drop_of_length-le}
 use lib.Seq.{take_all, drop-drop, get_or-drop}
 use borrow.Author.Tests.{leb-true, le-leb, lt-leb}
 use Rattle.spec_calculus.specs.Lists.{pick}
-use Rattle.spec_encoding.specs.Record.{Bytes, byte, two, length_of, kind_of, content_of, behind, is_whole}
+use Rattle.spec_encoding.specs.Record.{Bytes, two, length_of, kind_of, content_of, behind, is_whole}
 use Rattle.spec_hours.specs.CalendarBytes.{content_fits, is_calendar, calendars_fit}
 
 -- ---- is_calendar

@@ -1,12 +1,10 @@
 -- What the functions that read calendars ask and give.
-use Rattle.std.specs.Prelude.{◌≡◌, ℕ, ◌-◌, ◌≤◌, ◌<◌, length, take, drop}
+use Rattle.std.specs.Prelude.{◌≡◌, ℕ, ◌-◌, ◌≤◌, ◌<◌, Option, Some, None, length, take, drop}
 use Rattle.spec_calendar.specs.Hours as Hours
 use Rattle.spec_calendar.specs.Hours.{calendar_of}
 use Rattle.spec_encoding.specs.Record.{Bytes}
 use Rattle.spec_hours.specs.CalendarBytes.{windows_of, calendars_of}
 use Rattle.base_calendars.specs.declared.Window.{Window}
-use Rattle.base_calendars.specs.declared.LentCalendar.{LentCalendar}
-use Rattle.base_calendars.specs.declared.LentCalendar.TheVariants.{Content, Missing}
 
 -- a window that was read
 abbrev pub window_in : Window → Hours.Window
@@ -19,9 +17,10 @@ pub record Stands (l : Bytes) (k a b : ℕ) : Type 0 where
   pub lent : k < length (calendars_of l)
   pub windows : calendar_of (calendars_of l) k ≡ windows_of (take (b - a) (drop a l))
 
-abbrev pub FoundAs : Bytes → ℕ → LentCalendar → Type 0
-FoundAs l k (Content a b) = Stands l k a b
-FoundAs l k Missing = length (calendars_of l) ≤ k
+-- where the content of calendar k begins and ends, or that there is none
+abbrev pub FoundAs : Bytes → ℕ → Option (ℕ × ℕ) → Type 0
+FoundAs l k (Some (a, b)) = Stands l k a b
+FoundAs l k None = length (calendars_of l) ≤ k
 
-pub record FindPost (l : Bytes) (k : ℕ) (r : LentCalendar) : Type 0 where
+pub record FindPost (l : Bytes) (k : ℕ) (r : Option (ℕ × ℕ)) : Type 0 where
   pub is : FoundAs l k r

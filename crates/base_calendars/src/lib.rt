@@ -36,13 +36,6 @@ pub struct Window {
     pub end: u64,
 }
 
-// Where the content of a calendar begins and ends.
-#[derive(Clone, Copy)]
-pub enum LentCalendar {
-    Content(usize, usize),
-    Missing,
-}
-
 // How many windows a content has.
 pub fn window_count(c: &[u8]) -> usize
     ensures { (result ≡ byte c.now 0) × (result < 256) }
@@ -82,11 +75,8 @@ fn windows_fit(c: &[u8], n: usize) -> bool
     requires { n < 256 }
     ensures { result ≡ windows_fit (windows_from c.now 1 n) }
 {
-    let mut k = 0;
-    while k < n {
-        if window_fits(read_window(c, k)) {
-            k += 1;
-        } else {
+    for k in 0..n {
+        if !window_fits(read_window(c, k)) {
             return false;
         }
     }
@@ -149,39 +139,30 @@ pub fn calendars_fit(s: &[u8]) -> bool
     true
 }
 
-fn at_most(p: usize, end: usize) -> usize
-    ensures { result ≡ p - (p - end) }
-{
-    if p < end { p } else { end }
-}
-
-// Calendar k, "numbered by position from 0"; of a record that is cut short, what is there.
-pub fn find(s: &[u8], k: u64) -> LentCalendar
+// Where the content of calendar k, "numbered by position from 0", begins and ends; of a record that is cut short, what is there.
+pub fn find(s: &[u8], k: u64) -> Option<(usize, usize)>
     ensures { FindPost s.now k result }
 {
     if MOST_CALENDARS <= k {
-        return LentCalendar::Missing;
+        return None;
     }
     let mut p = 0;
     let mut n = 0;
     while p < s.len() {
-        let from = at_most(p + HEADER, s.len());
-        let next = at_most(p + HEADER + two_at(s, p), s.len());
+        let from = (p + HEADER).min(s.len());
+        let next = (p + HEADER + two_at(s, p)).min(s.len());
         if n == k {
-            return LentCalendar::Content(from, next);
+            return Some((from, next));
         }
         p = next;
         n += 1;
     }
-    LentCalendar::Missing
+    None
 }
 
 // Not "a calendar not lent", which is 42.
 pub fn is_lent(s: &[u8], k: u64) -> bool
     ensures { result ≡ ltb k (length (calendars_of s.now)) }
 {
-    let LentCalendar::Content(from, next) = find(s, k) else {
-        return false;
-    };
-    from <= next
+    find(s, k).is_some()
 }

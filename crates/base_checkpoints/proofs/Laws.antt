@@ -1,5 +1,5 @@
 -- A cell read by a checkpoint is the cell; checkpoints are put, and stay where their words and the descriptions do. Assumes nothing.
-use Rattle.std.proofs.Common.{◌≡◌, ℕ, zero, suc, ◌+◌, ◌-◌, ◌*◌, ◌/◌, ◌%◌, ◌^◌, ◌<◌, ◌≤◌, Bool, true, false, eqb, ltb, leb, List, length, get_or, set, ℤ, nat_abs, sym, refl, ap, ◌∙◌, subst, ap₂, inl, inr, add-zero, mul_comm, eq-or-lt_of_le, add-one, arith, length-set, get_or-set_other, get_or-set_same, ltb-false, ltb-true, le-ltb, lt-ltb, le-leb, leb-false, leb-true}
+use Rattle.std.proofs.Common.{◌≡◌, ℕ, zero, suc, ◌+◌, ◌-◌, ◌*◌, ◌/◌, ◌%◌, ◌^◌, ◌<◌, ◌≤◌, Bool, true, false, eqb, ltb, leb, List, length, get_or, set, ℤ, nat_abs, sym, refl, ap, ◌∙◌, ap₂, inl, inr, add-zero, mul_comm, eq-or-lt_of_le, arith, length-set, get_or-set_other, get_or-set_same, ltb-false, ltb-true, le-ltb, lt-ltb, le-leb, leb-true}
 use borrow.Author.Tests.{lt-leb}
 use Rattle.spec_calculus.specs.Lists.{pick}
 use Rattle.spec_encoding.specs.Record.{Bytes, four, signed}
@@ -138,7 +138,6 @@ checkpoint-is d w c e X Y = ap₂ (λ a b. a + 2 ^ 32 * b) (X ∙ ap (λ k. summ
 
 -- the first c checkpoints of table n - 1 stand in s
 pub record Checkpointing (d : Bytes) (s₀ : List ℕ) (n : ℕ) (s : List ℕ) (c : ℕ) : Type 0 where
-  pub few : c ≤ 8
   pub long : length s ≡ length s₀
   pub below : (j : ℕ) → j < checkpoint_at n 0 → get_or s j 0 ≡ get_or s₀ j 0
   pub behind : (j : ℕ) → checkpoint_at n 8 ≤ j → get_or s j 0 ≡ get_or s₀ j 0
@@ -146,11 +145,10 @@ pub record Checkpointing (d : Bytes) (s₀ : List ℕ) (n : ℕ) (s : List ℕ) 
 
 module _ {d : Bytes} {s₀ : List ℕ} {n : ℕ} where
   pub checkpointing-first : Checkpointing d s₀ n s₀ 0
-  checkpointing-first = record { few = omega arith; long = refl; below = λ j h. refl; behind = λ j h. refl; checkpoints = λ r i h. absurd (omega arith) }
+  checkpointing-first = record { long = refl; below = λ j h. refl; behind = λ j h. refl; checkpoints = λ r i h. absurd (omega arith) }
 
   pub checkpointing-next : {s s' : List ℕ} {c w m : ℕ} → Checkpointing d s₀ n s c → n ≤ 8 → c < 8 → w ≡ description_in s₀ n → m ≡ checkpoint_of d w c → s' ≡ set s (checkpoint_at n c) m → Checkpointing d s₀ n s' (c + 1)
   checkpointing-next {s} {s'} {c} {w} {m} I l h W M e = rw e (record {
-    few = omega arith;
     long = length-set s (checkpoint_at n c) m ∙ I.long;
     below = λ j q. get_or-set_other s (checkpoint_at n c) j m 0 (λ z. omega arith) ∙ I.below j q;
     behind = λ j q. get_or-set_other s (checkpoint_at n c) j m 0 (λ z. omega arith) ∙ I.behind j q;
@@ -168,8 +166,6 @@ module _ {d : Bytes} {s₀ : List ℕ} {n : ℕ} where
 
 -- those of the tables below n - 1 do
 pub record CheckpointedTo (d : Bytes) (s₀ s : List ℕ) (n : ℕ) : Type 0 where
-  pub from : 1 ≤ n
-  pub most : n ≤ 9
   pub long : length s ≡ length s₀
   pub below : (j : ℕ) → j < checkpoints_at → get_or s j 0 ≡ get_or s₀ j 0
   pub behind : (j : ℕ) → checkpoints_end ≤ j → get_or s j 0 ≡ get_or s₀ j 0
@@ -177,16 +173,14 @@ pub record CheckpointedTo (d : Bytes) (s₀ s : List ℕ) (n : ℕ) : Type 0 whe
 
 module _ {d : Bytes} {s₀ : List ℕ} where
   pub to-first : CheckpointedTo d s₀ s₀ 1
-  to-first = record { from = omega arith; most = omega arith; long = refl; below = λ j h. refl; behind = λ j h. refl; checkpoints = λ r m c l h y. absurd (omega (arith, tall-from s₀ m y)) }
+  to-first = record { long = refl; below = λ j h. refl; behind = λ j h. refl; checkpoints = λ r m c l h y. absurd (omega (arith, tall-from s₀ m y)) }
 
-  pub to-next : {s s' : List ℕ} {n : ℕ} → CheckpointedTo d s₀ s n → n ≤ 8 → CheckpointTablePost d s n s' → CheckpointedTo d s₀ s' (n + 1)
-  to-next {s} {s'} {n} I l P =
+  pub to-next : {s s' : List ℕ} {n : ℕ} → CheckpointedTo d s₀ s n → 1 ≤ n → n ≤ 8 → CheckpointTablePost d s n s' → CheckpointedTo d s₀ s' (n + 1)
+  to-next {s} {s'} {n} I f l P =
       let D : description_in s n ≡ description_in s₀ n = description-same s s₀ (λ j h. I.below j (omega arith)) n in
       record {
-        from = omega arith;
-        most = omega arith;
         long = P.long ∙ I.long;
-        below = λ j h. P.below j (omega (arith, I.from)) ∙ I.below j h;
+        below = λ j h. P.below j (omega arith) ∙ I.below j h;
         behind = λ j h. P.behind j (omega arith) ∙ I.behind j h;
         checkpoints = λ r m c q h y. elim (eq-or-lt_of_le {n = m} {m = n} (omega arith)) [
           | inl z ↦ ap (λ k. checkpoint_in s' k c) z ∙ P.checkpoints (omega (arith, I.long)) c h (ap tall_in D ∙ ap (λ k. tall_in (description_in s₀ k)) (sym z) ∙ y) ∙ ap (λ v. checkpoint_of d v c) (D ∙ ap (description_in s₀) (sym z))

@@ -1,5 +1,5 @@
 -- A checkpoint is what stands in scratch for a column of a table by columns: the cells above two of its rows. A cell is read by it without the numbers above.
-use Rattle.std.specs.Prelude.{◌≡◌, ℕ, suc, ◌+◌, ◌-◌, ◌*◌, ◌/◌, ◌%◌, ◌^◌, ◌<◌, ◌≤◌, Bool, true, false, List, length, ℤ, ◌==◌, nat_le, nat_lt, slice_index, unsigned_abs}
+use Rattle.std.specs.Prelude.{◌≡◌, ℕ, ◌+◌, ◌-◌, ◌*◌, ◌/◌, ◌%◌, ◌^◌, ◌<◌, ◌≤◌, Bool, true, false, List, length, ℤ, ◌==◌, nat_le, nat_lt, slice_index, unsigned_abs}
 use Rattle.spec_calculus.specs.Lists.{pick}
 use Rattle.spec_encoding.specs.Record.{Bytes, signed}
 use Rattle.spec_encoding.specs.Columns.{plus, summed}

@@ -49,10 +49,8 @@ fn checkpoint_table(s: &mut [u64], data: &[u8], n: usize)
 {
     let w = description(s, n);
     if tall(w) {
-        let mut c = 0;
-        while c < COLUMNS {
+        for c in 0..COLUMNS {
             store(s, BASE + COLUMNS * n + c, checkpoint_of(data, w, c));
-            c += 1;
         }
     }
 }
@@ -61,10 +59,8 @@ fn checkpoint_table(s: &mut [u64], data: &[u8], n: usize)
 pub fn checkpoint_tables(s: &mut [u64], data: &[u8])
     ensures { CheckpointTablesPost «data».now s.old s.new }
 {
-    let mut n = 1;
-    while n <= MOST_TABLES {
+    for n in 1..MOST_TABLES + 1 {
         checkpoint_table(s, data, n);
-        n += 1;
     }
 }
 

@@ -1,26 +1,24 @@
 -- A record turned in the target: its refusals, its head, and that the bytes which the loops leave are those of the other kind, with the target's own
 -- behind them. Assumes nothing.
-use Rattle.std.proofs.Common.{◌≡◌, ℕ, zero, suc, ◌+◌, ◌-◌, ◌*◌, ◌<◌, ◌≤◌, Bool, true, false, ◌&&◌, eqb, ltb, leb, List, [], ◌∷◌, ◌++◌, length, get_or, take, drop, set, sym, refl, ap, ◌∙◌, subst, ap₂, true≢false, mul_comm, arith, length-append, length-drop, length-set, get_or-drop, get_or-set_other, get_or-take, get_or-set_same, get_or-append-add, ext_get_or, ltb-false, ltb-true, eq-eqb, eqb-true, le-leb, leb-true}
+use Rattle.std.proofs.Common.{◌≡◌, ℕ, zero, suc, ◌+◌, ◌-◌, ◌*◌, ◌<◌, ◌≤◌, Bool, true, false, ◌&&◌, eqb, ltb, leb, ◌++◌, length, take, drop, set, sym, refl, ap, ◌∙◌, subst, ap₂, true≢false, mul_comm, arith, length-append, length-drop, length-set, get_or-drop, get_or-set_other, get_or-take, get_or-set_same, get_or-append-add, ext_get_or, ltb-false, ltb-true, eq-eqb, eqb-true, le-leb, leb-true, Option, Some, None}
 use mathlib.Core.Bool.{and-eq-true_iff}
 use borrow.Author.Tests.{lt-leb}
 use lib.ListN.{get_or-append}
 use Rattle.spec_calculus.specs.Lists.{pick}
 use Rattle.spec_encoding.specs.Record.{Bytes, Result, refused, got, require, byte, two, length_of, kind_of, content_of, is_whole}
 use Rattle.spec_encoding.specs.Columns.{difference, summed, bytes_of, bytes_by_columns, bytes_by_rows}
-use Rattle.spec_encoding.specs.Data.{is_kind, is_table, table_number, table_columns, table_rows, bounds_at, fits, cells_at, content_by_columns, content_by_rows, with_kind, to_columns, to_rows, table_by, bounded}
+use Rattle.spec_encoding.specs.Data.{is_kind, is_table, table_number, table_columns, table_rows, fits, cells_at, content_by_columns, content_by_rows, with_kind, to_columns, to_rows, table_by, bounded}
 use Rattle.spec_encoding.proofs.Data.{fit}
 use Rattle.spec_encoding.proofs.Arrangement.{grid-byte, front-byte, behind-byte, both-length, by-columns-length, by-rows-length}
 use Rattle.spec_encoding.proofs.Columns.{at_place}
 use Rattle.spec_encoding.proofs.ColumnRecords.{content-length}
-use Rattle.spec_outcome.specs.Directions.{Filled, filled, is_alone, turned, Fills}
+use Rattle.spec_outcome.specs.Directions.{filled, is_alone, turned, Fills}
 use Rattle.base_tables.proofs.DataRecords.{passes}
 use Rattle.base_tables.proofs.DataRecords as Whole
 use Rattle.base_tables.proofs.ByteReaders.{found, not_found}
 use Rattle.base_tables.specs.DataReader.{header_gives, header_at}
-use Rattle.base_tables.specs.declared.TableHeader.{TableHeader}
-use Rattle.base_tables.specs.declared.TableHeader.TheVariants.{Record, Bad}
 use Rattle.base_columns.proofs.WrittenColumns.{cell-within, column-within}
-use Rattle.base_columns.specs.Contract.{Cells, CellsPre, ByColumnsPost, ByRowsPost, HeadPost, own_refusal, or_else, refusal_of, Turnable}
+use Rattle.base_columns.specs.Contract.{CellsPre, ByColumnsPost, ByRowsPost, HeadPost, own_refusal, or_else, refusal_of, Turnable, LaidHead}
 
 -- ---- refusals
 unfoldable gives : ℕ → Bytes → Result Bytes
@@ -69,7 +67,7 @@ module _ (k : ℕ) (l : Bytes) (room : ℕ) where
   unfolding refusal_of pick
   not-alone h = rw (passes (is_alone k l) (λ e. e) h)
 
-  pub bad-header : is_kind k ≡ true → {h : TableHeader} → header_gives h ≡ header_at l → h ≡ Bad → 11 ≡ refusal_of k l room
+  pub bad-header : is_kind k ≡ true → {h : Option ℕ} → header_gives h ≡ header_at l → h ≡ None → 11 ≡ refusal_of k l room
   bad-header t e q = not-alone (λ a. let p = alone-parts k l a in whole-kind p.0 (ap is_kind p.1 ∙ t) (not_found l e q))
     where
       whole-kind : is_whole l ≡ true → is_kind (kind_of l) ≡ true → is_table l ≡ false → ⊥
@@ -79,7 +77,7 @@ module _ (k : ℕ) (l : Bytes) (room : ℕ) where
   other-kind h = not-alone (λ a. h (alone-parts k l a).1)
 
   -- a record of kind k or another, with n bytes of content
-  module _ {h : TableHeader} {n : ℕ} (e : header_gives h ≡ header_at l) (q : h ≡ Record n) where
+  module _ {h : Option ℕ} {n : ℕ} (e : header_gives h ≡ header_at l) (q : h ≡ Some n) where
     pub more_bytes : (length l ≡ 4 + n → ⊥) → 11 ≡ refusal_of k l room
     more_bytes z = not-alone (λ a. z (omega (arith, (alone-parts k l a).2, (found l e q).1)))
 
@@ -116,7 +114,7 @@ module _ (k : ℕ) (l : Bytes) (room : ℕ) where
           unfolding refusal_of pick or_else
           target-long h = rw (is-alone, sym own_is ∙ z, le-leb (length l) room h) refl
 
-pub header-within : (l : Bytes) {h : TableHeader} {n : ℕ} → header_gives h ≡ header_at l → h ≡ Record n → 4 + n ≤ length l
+pub header-within : (l : Bytes) {h : Option ℕ} {n : ℕ} → header_gives h ≡ header_at l → h ≡ Some n → 4 + n ≤ length l
 header-within l e q = omega (arith, (Whole.whole l (found l e q).0).within, (found l e q).1)
 
 -- ---- 12, 50, 43
@@ -355,24 +353,24 @@ module _ (l b : Bytes) (T : Turnable l b) where
     pub head-asks : (4 ≤ 4 + 5 + 4 * m) × (4 + 5 + 4 * m ≤ length l) × (4 + 5 + 4 * m ≤ length b)
     head-asks = let f = head-fits l b b b T in (omega arith, omega (arith, columns-read, f.0), omega (arith, columns-read, f.1))
 
-    head_as : (k : ℕ) (d₁ : Bytes) → HeadPost l (4 + 5 + 4 * m) k b d₁ → HeadPost l (4 + cells_at (content_of l)) k b d₁
-    head_as k d₁ H = let z : 4 + 5 + 4 * m ≡ 4 + cells_at (content_of l) = omega (arith, columns-read) in subst (λ (i : ℕ). HeadPost l i k b d₁) z H
+    pub head-laid : {k r : ℕ} {d₁ : Bytes} → r ≡ two (take (length l - 4) (drop 4 l)) 3 → HeadPost l (4 + 5 + 4 * m) k b d₁ → LaidHead l k b d₁ (m, r)
+    head-laid {k} {r} {d₁} er H = record {
+      head = let z : 4 + 5 + 4 * m ≡ 4 + cells_at (content_of l) = omega (arith, columns-read) in subst (λ (i : ℕ). HeadPost l i k b d₁) z H;
+      columns = columns-read;
+      rows = er ∙ ap (λ c. two c 3) part-is;
+    }
 
-    module _ {r : ℕ} (er : r ≡ two (take (length l - 4) (drop 4 l)) 3) where
-      rows-read : r ≡ table_rows (content_of l)
-      rows-read = er ∙ ap (λ c. two c 3) part-is
+  module _ {k : ℕ} {d₁ : Bytes} {m r : ℕ} (H : LaidHead l k b d₁ (m, r)) where
+    pub cells-ask : CellsPre (take (length l - 4) (drop 4 l)) d₁ m r
+    cells-ask = subst (λ c. CellsPre c d₁ m r) (sym part-is) (asks l b b b T H.head.long H.columns H.rows)
 
-      pub cells-ask : {d₁ : Bytes} → length d₁ ≡ length b → CellsPre (take (length l - 4) (drop 4 l)) d₁ m r
-      cells-ask {d₁} s = subst (λ c. CellsPre c d₁ m r) (sym part-is) (asks l b b b T s columns-read rows-read)
+    -- the cells of what `&l[4..]` is, of so many columns and rows
+    read_as : (P : Bytes → ℕ → ℕ → Type 0) → P (take (length l - 4) (drop 4 l)) m r → P (content_of l) (table_columns (content_of l)) (table_rows (content_of l))
+    read_as P C = subst (λ (i : ℕ). P (content_of l) i (table_rows (content_of l))) H.columns (subst (λ (i : ℕ). P (content_of l) m i) H.rows (subst (λ c. P c m r) part-is C))
 
-      pub columns-are : {d₁ d : Bytes} → HeadPost l (4 + 5 + 4 * m) 23 b d₁ → ByColumnsPost (take (length l - 4) (drop 4 l)) m r d₁ d → d ≡ to_columns l ++ drop (length l) b
-      columns-are {d₁} {d} H C =
-          columns-laid l b d₁ d T (head_as 23 d₁ H)
-          (subst (λ (i : ℕ). ByColumnsPost (content_of l) i (table_rows (content_of l)) d₁ d) columns-read
-          (subst (λ (i : ℕ). ByColumnsPost (content_of l) m i d₁ d) rows-read (subst (λ c. ByColumnsPost c m r d₁ d) part-is C)))
+  module _ {d₁ d : Bytes} {m r : ℕ} where
+    pub columns-are : LaidHead l 23 b d₁ (m, r) → ByColumnsPost (take (length l - 4) (drop 4 l)) m r d₁ d → d ≡ to_columns l ++ drop (length l) b
+    columns-are H C = columns-laid l b d₁ d T H.head (read_as H (λ c w n. ByColumnsPost c w n d₁ d) C)
 
-      pub rows_are : {d₁ d : Bytes} → HeadPost l (4 + 5 + 4 * m) 20 b d₁ → ByRowsPost (take (length l - 4) (drop 4 l)) m r d₁ d → d ≡ to_rows l ++ drop (length l) b
-      rows_are {d₁} {d} H C =
-          rows-laid l b d₁ d T (head_as 20 d₁ H)
-          (subst (λ (i : ℕ). ByRowsPost (content_of l) i (table_rows (content_of l)) d₁ d) columns-read
-          (subst (λ (i : ℕ). ByRowsPost (content_of l) m i d₁ d) rows-read (subst (λ c. ByRowsPost c m r d₁ d) part-is C)))
+    pub rows_are : LaidHead l 20 b d₁ (m, r) → ByRowsPost (take (length l - 4) (drop 4 l)) m r d₁ d → d ≡ to_rows l ++ drop (length l) b
+    rows_are H C = rows-laid l b d₁ d T H.head (read_as H (λ c w n. ByRowsPost c w n d₁ d) C)

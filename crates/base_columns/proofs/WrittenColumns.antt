@@ -1,13 +1,12 @@
 -- What numbers written in four bytes each leave, one column and all columns: a law for each step of the loops. Assumes nothing.
-use Rattle.std.proofs.Common.{◌≡◌, ℕ, zero, suc, ◌+◌, ◌-◌, ◌*◌, ◌/◌, ◌%◌, ◌^◌, ◌<◌, ◌≤◌, Bool, true, false, ltb, List, [], ◌∷◌, length, get_or, set, sym, refl, ap, ◌∙◌, subst, ap₂, inl, inr, mul_comm, eq-or-lt_of_le, mul-le-mul_left, mul-zero, mul-one, mul-suc, mul-add, add-one, arith, length-set, get_or-set_other, get_or-set_same, ltb-false, ltb-true}
+use Rattle.std.proofs.Common.{◌≡◌, ℕ, zero, suc, ◌+◌, ◌-◌, ◌*◌, ◌/◌, ◌%◌, ◌^◌, ◌<◌, ◌≤◌, Bool, true, false, ltb, [], ◌∷◌, length, set, sym, refl, ap, ◌∙◌, subst, ap₂, inl, inr, mul_comm, eq-or-lt_of_le, mul-le-mul_left, mul-suc, add-one, arith, length-set, get_or-set_other, get_or-set_same, ltb-false, ltb-true}
 use native.Mathlib.Numerals.{add-two, add-three}
 use lib.Arith.{digits_div, digits_mod}
 use lib.Seq.{sets, length-sets}
 use Rattle.spec_encoding.specs.Record.{Bytes, byte, four, signed}
 use Rattle.spec_encoding.specs.Columns.{minus, plus, folded, unfolded, above, difference, summed, bytes_of}
 use Rattle.spec_encoding.specs.Data.{bounds_at}
-use Rattle.spec_encoding.proofs.Folding.{fold-low, fold-high}
-use Rattle.base_columns.specs.Contract.{Written, Cells, FoldPre, UnfoldPre, CellsPre, ByColumnsPost, ByRowsPost}
+use Rattle.base_columns.specs.Contract.{Written, Cells, FoldPre, FoldPost, UnfoldPre, UnfoldPost, CellsPre, ByColumnsPost, ByRowsPost}
 
 -- ---- one number
 pub fold_is : (x y : ℕ) {d r : ℕ} → x < 2 ^ 32 → y < 2 ^ 32 → d < 2 ^ 32 → (d + y) % 2 ^ 32 ≡ x → r ≡ folded (signed d) → r ≡ folded (signed (minus x y))
@@ -65,70 +64,51 @@ module _ {d₀ : Bytes} {p step : ℕ} {f : ℕ → ℕ} where
   }
 
 -- a column being folded: r rows are done
-pub record Folding (c d₀ : Bytes) (from step to n : ℕ) (d : Bytes) (i o y r : ℕ) : Type 0 where
+pub record Folding (c d₀ : Bytes) (from step to : ℕ) (d : Bytes) (y r : ℕ) : Type 0 where
   pub done : Written d₀ d r to 4 (λ r. difference c from step r)
-  pub reading : i ≡ from + step * r
-  pub writing : o ≡ to + 4 * r
   pub last : y ≡ above c from step r
-  pub upto : r ≤ n
 
-pub record Unfolding (c d₀ : Bytes) (from to step n : ℕ) (d : Bytes) (i o y r : ℕ) : Type 0 where
+pub record Unfolding (c d₀ : Bytes) (from to step : ℕ) (d : Bytes) (y r : ℕ) : Type 0 where
   pub done : Written d₀ d r to step (λ r. summed c from (suc r))
-  pub reading : i ≡ from + 4 * r
-  pub writing : o ≡ to + step * r
   pub last : y ≡ summed c from r
-  pub upto : r ≤ n
 
-module _ (c d₀ : Bytes) (from step to n : ℕ) where
-  pub folding-first : Folding c d₀ from step to n d₀ from to 0 0
+module _ (c d₀ : Bytes) (from step to : ℕ) where
+  pub folding-first : Folding c d₀ from step to d₀ 0 0
   unfolding above
-  folding-first = record { done = written-first; reading = omega (arith, mul-zero step); writing = omega arith; last = refl; upto = omega arith }
+  folding-first = record { done = written-first; last = refl }
 
-  pub unfolding-first : Unfolding c d₀ from to step n d₀ from to 0 0
+  pub unfolding-first : Unfolding c d₀ from to step d₀ 0 0
   unfolding summed
-  unfolding-first = record { done = written-first; reading = omega arith; writing = omega (arith, mul-zero step); last = refl; upto = omega arith }
+  unfolding-first = record { done = written-first; last = refl }
 
-module _ {c d₀ : Bytes} {from step to n : ℕ} {d : Bytes} {i o y r : ℕ} (I : Folding c d₀ from step to n d i o y r) (P : FoldPre c d₀ from step to n) (l : r < n) where
-  pub fold-reads : i + 4 ≤ length c
-  fold-reads = omega (arith, I.reading, P.reads r l)
+module _ {c d₀ : Bytes} {from step to n : ℕ} {d : Bytes} {y r : ℕ} (I : Folding c d₀ from step to d y r) (P : FoldPre c d₀ from step to n) (l : r < n) where
+  pub fold-room : to + 4 * r + 4 ≤ length d
+  fold-room = omega (arith, P.room, I.done.long, l)
 
-  pub fold-room : o + 4 ≤ length d
-  fold-room = omega (arith, I.writing, P.room, I.done.long, l)
-
-  pub fold_next : {d' : Bytes} {x w : ℕ} → x ≡ four c i → w ≡ folded (signed (minus x y)) → d' ≡ sets d o (bytes_of w) → Folding c d₀ from step to n d' (i + step) (o + 4) x (r + 1)
+  pub fold_next : {d' : Bytes} {x w : ℕ} → x ≡ four c (from + step * r) → w ≡ folded (signed (minus x y)) → d' ≡ sets d (to + 4 * r) (bytes_of w) → Folding c d₀ from step to d' x (r + 1)
   unfolding above difference
-  fold_next {d'} {x} {w} ex ew E =
-      let a : x ≡ four c (from + step * r) = ex ∙ ap (four c) I.reading in record {
-        done = written_next I.done (omega arith) (omega (arith, I.writing, fold-room)) (ew ∙ ap₂ (λ a b. folded (signed (minus a b))) a I.last) (E ∙ ap (λ k. sets d k (bytes_of w)) I.writing);
-        reading = omega (arith, I.reading, mul-add step r 1, mul-one step);
-        writing = omega (arith, I.writing);
-        last = a ∙ ap (above c from step) (sym (add-one r));
-        upto = omega arith;
-      }
+  fold_next {d'} {x} {w} ex ew E = record {
+    done = written_next I.done (omega arith) fold-room (ew ∙ ap₂ (λ a b. folded (signed (minus a b))) ex I.last) E;
+    last = ex ∙ ap (above c from step) (sym (add-one r));
+  }
 
-pub fold_done : {c d₀ : Bytes} {from step to n : ℕ} {d : Bytes} {i o y r : ℕ} → Folding c d₀ from step to n d i o y r → n ≤ r → Written d₀ d n to 4 (λ r. difference c from step r)
-fold_done {c} {d₀} {from} {step} {to} {n} {d} {r = r} I h = let e : r ≡ n = omega (arith, I.upto) in subst (λ (k : ℕ). Written d₀ d k to 4 (λ r. difference c from step r)) e I.done
+pub fold_done : {c d₀ : Bytes} {from step to n : ℕ} {d : Bytes} {y r : ℕ} → Folding c d₀ from step to d y r → r ≡ n → FoldPost c from step n to d₀ d
+fold_done {c} {d₀} {from} {step} {to} {d = d} I e = subst (λ (k : ℕ). FoldPost c from step k to d₀ d) e I.done
 
-module _ {c d₀ : Bytes} {from to step n : ℕ} {d : Bytes} {i o y r : ℕ} (I : Unfolding c d₀ from to step n d i o y r) (P : UnfoldPre c d₀ from to step n) (l : r < n) where
-  pub unfold-reads : i + 4 ≤ length c
-  unfold-reads = omega (arith, I.reading, P.reads, l)
+module _ {c d₀ : Bytes} {from to step n : ℕ} {d : Bytes} {y r : ℕ} (I : Unfolding c d₀ from to step d y r) (P : UnfoldPre c d₀ from to step n) (l : r < n) where
+  pub unfold-room : to + step * r + 4 ≤ length d
+  unfold-room = omega (arith, P.room r l, I.done.long)
 
-  pub unfold-room : o + 4 ≤ length d
-  unfold-room = omega (arith, I.writing, P.room r l, I.done.long)
-
-  pub unfold-next : {d' : Bytes} {x v : ℕ} → v ≡ four c i → x ≡ plus y (unfolded v) → d' ≡ sets d o (bytes_of x) → Unfolding c d₀ from to step n d' (i + 4) (o + step) x (r + 1)
+  pub unfold-next : {d' : Bytes} {x v : ℕ} → v ≡ four c (from + 4 * r) → x ≡ plus y (unfolded v) → d' ≡ sets d (to + step * r) (bytes_of x) → Unfolding c d₀ from to step d' x (r + 1)
   unfolding summed
   unfold-next {d'} {x} {v} ev ex E =
-      let a : x ≡ summed c from (suc r) = ex ∙ ap₂ (λ a b. plus a (unfolded b)) I.last (ev ∙ ap (four c) I.reading) in record {
-        done = written_next I.done P.least (omega (arith, I.writing, unfold-room)) a (E ∙ ap (λ k. sets d k (bytes_of x)) I.writing);
-        reading = omega (arith, I.reading);
-        writing = omega (arith, I.writing, mul-add step r 1, mul-one step);
+      let a : x ≡ summed c from (suc r) = ex ∙ ap₂ (λ a b. plus a (unfolded b)) I.last ev in record {
+        done = written_next I.done P.least unfold-room a E;
         last = a ∙ ap (summed c from) (sym (add-one r));
-        upto = omega arith;
       }
 
-pub unfold-done : {c d₀ : Bytes} {from to step n : ℕ} {d : Bytes} {i o y r : ℕ} → Unfolding c d₀ from to step n d i o y r → n ≤ r → Written d₀ d n to step (λ r. summed c from (suc r))
-unfold-done {c} {d₀} {from} {to} {step} {n} {d} {r = r} I h = let e : r ≡ n = omega (arith, I.upto) in subst (λ (k : ℕ). Written d₀ d k to step (λ r. summed c from (suc r))) e I.done
+pub unfold-done : {c d₀ : Bytes} {from to step n : ℕ} {d : Bytes} {y r : ℕ} → Unfolding c d₀ from to step d y r → r ≡ n → UnfoldPost c from n to step d₀ d
+unfold-done {c} {d₀} {from} {to} {step} {d = d} I e = subst (λ (k : ℕ). UnfoldPost c from k to step d₀ d) e I.done
 
 -- ---- all columns
 module _ {d₀ : Bytes} {n p : ℕ} {q f : ℕ → ℕ → ℕ} where
@@ -153,26 +133,6 @@ one_place m a x b y h g e =
     let s : a * m + x ≡ b * m + y = ap (λ (k : ℕ). k + x) (mul_comm a m) ∙ e ∙ ap (λ (k : ℕ). k + y) (mul_comm m b) in
     (sym (digits_div a h) ∙ ap (λ (k : ℕ). k / m) s ∙ digits_div b g, sym (digits_mod a h) ∙ ap (λ (k : ℕ). k % m) s ∙ digits_mod b g)
 
--- columns being folded: i are done
-pub record FoldingCells (c d₀ : Bytes) (w n : ℕ) (d : Bytes) (from to i : ℕ) : Type 0 where
-  pub done : Cells d₀ d i n (4 + (bounds_at + 4 * w)) (λ i r. n * i + r) (λ i r. difference c (bounds_at + 4 * w + 4 * i) (4 * w) r)
-  pub reading : from ≡ bounds_at + 4 * w + 4 * i
-  pub writing : to ≡ 4 + (bounds_at + 4 * w) + 4 * (n * i)
-  pub upto : i ≤ w
-
-pub record UnfoldingCells (c d₀ : Bytes) (w n : ℕ) (d : Bytes) (from to i : ℕ) : Type 0 where
-  pub done : Cells d₀ d i n (4 + (bounds_at + 4 * w)) (λ i r. w * r + i) (λ i r. summed c (bounds_at + 4 * w + 4 * (n * i)) (suc r))
-  pub reading : from ≡ bounds_at + 4 * w + 4 * (n * i)
-  pub writing : to ≡ 4 + (bounds_at + 4 * w) + 4 * i
-  pub upto : i ≤ w
-
-module _ (c d₀ : Bytes) (w n : ℕ) where
-  pub folding-cells-first : FoldingCells c d₀ w n d₀ (bounds_at + 4 * w) (4 + (bounds_at + 4 * w)) 0
-  folding-cells-first = record { done = cells-first; reading = omega arith; writing = omega (arith, mul-zero n); upto = omega arith }
-
-  pub unfolding-cells-first : UnfoldingCells c d₀ w n d₀ (bounds_at + 4 * w) (4 + (bounds_at + 4 * w)) 0
-  unfolding-cells-first = record { done = cells-first; reading = omega (arith, mul-zero n); writing = omega arith; upto = omega arith }
-
 -- a cell is within its columns
 pub cell-within : (w n i r : ℕ) → i < w → r < n → w * r + i + 1 ≤ w * n
 cell-within w n i r h g = omega (arith, mul-suc w r, mul-le-mul_left {m = suc r} {n = n} w g)
@@ -180,47 +140,40 @@ cell-within w n i r h g = omega (arith, mul-suc w r, mul-le-mul_left {m = suc r}
 pub column-within : (w n i : ℕ) → i < w → n * i + n ≤ w * n
 column-within w n i h = omega (arith, mul-suc n i, mul-le-mul_left {m = suc i} {n = w} n h, mul_comm w n)
 
-module _ {c d₀ : Bytes} {w n : ℕ} {d : Bytes} {from to i : ℕ} (P : CellsPre c d₀ w n) (l : i < w) where
-  module _ (I : FoldingCells c d₀ w n d from to i) where
-    pub fold_asks : FoldPre c d from (4 * w) to n
+-- columns laid so far: i are done
+abbrev pub FoldingCells : Bytes → ℕ → ℕ → Bytes → Bytes → ℕ → Type 0
+FoldingCells c w n d₀ d i = Cells d₀ d i n (4 + (bounds_at + 4 * w)) (λ i r. n * i + r) (λ i r. difference c (bounds_at + 4 * w + 4 * i) (4 * w) r)
+
+abbrev pub UnfoldingCells : Bytes → ℕ → ℕ → Bytes → Bytes → ℕ → Type 0
+UnfoldingCells c w n d₀ d i = Cells d₀ d i n (4 + (bounds_at + 4 * w)) (λ i r. w * r + i) (λ i r. summed c (bounds_at + 4 * w + 4 * (n * i)) (suc r))
+
+module _ {c d₀ : Bytes} {w n : ℕ} {d : Bytes} {i : ℕ} (P : CellsPre c d₀ w n) (l : i < w) where
+  module _ (I : FoldingCells c w n d₀ d i) where
+    pub fold_asks : FoldPre c d (bounds_at + 4 * w + 4 * i) (4 * w) (4 + (bounds_at + 4 * w) + 4 * (n * i)) n
     fold_asks = record {
-      reads = λ r h. omega (arith, I.reading, P.long, cell-within w n i r l h);
-      room = omega (arith, I.writing, P.room, P.long, I.done.long, column-within w n i l);
+      reads = λ r h. omega (arith, P.long, cell-within w n i r l h);
+      room = omega (arith, P.room, P.long, I.long, column-within w n i l);
       most = omega (arith, P.most);
     }
 
-    pub fold-cells-next : {d' : Bytes} → Written d d' n to 4 (λ r. difference c from (4 * w) r) → FoldingCells c d₀ w n d' (from + 4) (to + 4 * n) (i + 1)
-    fold-cells-next {d'} W = record {
-      done = cells-next I.done (subst (λ (k : ℕ). Written d d' n to 4 (λ r. difference c k (4 * w) r)) I.reading W)
-          (λ r h. omega (arith, I.writing)) (λ k r t u h g e. omega (arith, u, (one_place n k r i t h g e).0));
-      reading = omega (arith, I.reading);
-      writing = omega (arith, I.writing, mul-add n i 1, mul-one n);
-      upto = omega arith;
-    }
+    pub fold-cells-next : {d' : Bytes} → Written d d' n (4 + (bounds_at + 4 * w) + 4 * (n * i)) 4 (λ r. difference c (bounds_at + 4 * w + 4 * i) (4 * w) r) → FoldingCells c w n d₀ d' (i + 1)
+    fold-cells-next W = cells-next I W (λ r h. omega arith) (λ k r t u h g e. omega (arith, u, (one_place n k r i t h g e).0))
 
-  module _ (I : UnfoldingCells c d₀ w n d from to i) where
-    pub unfold-asks : UnfoldPre c d from to (4 * w) n
+  module _ (I : UnfoldingCells c w n d₀ d i) where
+    pub unfold-asks : UnfoldPre c d (bounds_at + 4 * w + 4 * (n * i)) (4 + (bounds_at + 4 * w) + 4 * i) (4 * w) n
     unfold-asks = record {
-      reads = omega (arith, I.reading, P.long, column-within w n i l);
-      room = λ r h. omega (arith, I.writing, P.room, P.long, I.done.long, cell-within w n i r l h);
+      reads = omega (arith, P.long, column-within w n i l);
+      room = λ r h. omega (arith, P.room, P.long, I.long, cell-within w n i r l h);
       least = omega (arith, P.least);
       most = omega (arith, P.most);
     }
 
-    pub unfold-cells-next : {d' : Bytes} → Written d d' n to (4 * w) (λ r. summed c from (suc r)) → UnfoldingCells c d₀ w n d' (from + 4 * n) (to + 4) (i + 1)
-    unfold-cells-next {d'} W = record {
-      done = cells-next I.done (subst (λ (k : ℕ). Written d d' n to (4 * w) (λ r. summed c k (suc r))) I.reading W)
-          (λ r h. omega (arith, I.writing)) (λ k r t u h g e. omega (arith, u, (one_place w r k t i (omega arith) l e).1));
-      reading = omega (arith, I.reading, mul-add n i 1, mul-one n);
-      writing = omega (arith, I.writing);
-      upto = omega arith;
-    }
+    pub unfold-cells-next : {d' : Bytes} → Written d d' n (4 + (bounds_at + 4 * w) + 4 * i) (4 * w) (λ r. summed c (bounds_at + 4 * w + 4 * (n * i)) (suc r)) → UnfoldingCells c w n d₀ d' (i + 1)
+    unfold-cells-next W = cells-next I W (λ r h. omega arith) (λ k r t u h g e. omega (arith, u, (one_place w r k t i (omega arith) l e).1))
 
-module _ {c d₀ : Bytes} {w n : ℕ} {d : Bytes} {from to i : ℕ} (h : w ≤ i) where
-  pub fold-cells-done : FoldingCells c d₀ w n d from to i → ByColumnsPost c w n d₀ d
-  fold-cells-done I = let e : i ≡ w = omega (arith, I.upto) in
-      subst (λ (k : ℕ). Cells d₀ d k n (4 + (bounds_at + 4 * w)) (λ i r. n * i + r) (λ i r. difference c (bounds_at + 4 * w + 4 * i) (4 * w) r)) e I.done
+module _ {c d₀ : Bytes} {w n : ℕ} {d : Bytes} {i : ℕ} (P : CellsPre c d₀ w n) (e : i ≡ w) where
+  pub fold-cells-done : FoldingCells c w n d₀ d i → ByColumnsPost c w n d₀ d
+  fold-cells-done I = subst (λ (k : ℕ). FoldingCells c w n d₀ d k) e I
 
-  pub unfold-cells-done : UnfoldingCells c d₀ w n d from to i → ByRowsPost c w n d₀ d
-  unfold-cells-done I = let e : i ≡ w = omega (arith, I.upto) in
-      subst (λ (k : ℕ). Cells d₀ d k n (4 + (bounds_at + 4 * w)) (λ i r. w * r + i) (λ i r. summed c (bounds_at + 4 * w + 4 * (n * i)) (suc r))) e I.done
+  pub unfold-cells-done : UnfoldingCells c w n d₀ d i → ByRowsPost c w n d₀ d
+  unfold-cells-done I = subst (λ (k : ℕ). UnfoldingCells c w n d₀ d k) e I

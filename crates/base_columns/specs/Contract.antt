@@ -3,7 +3,7 @@ use Rattle.std.specs.Prelude.{◌≡◌, ℕ, zero, suc, ◌+◌, ◌*◌, ◌<�
 use Rattle.spec_calculus.specs.Lists.{pick}
 use Rattle.spec_encoding.specs.Record.{Bytes, byte, length_of, content_of}
 use Rattle.spec_encoding.specs.Columns.{difference, summed, bytes_of}
-use Rattle.spec_encoding.specs.Data.{bounds_at, table_number, fits, table_by, bounded}
+use Rattle.spec_encoding.specs.Data.{bounds_at, table_number, table_columns, table_rows, fits, cells_at, table_by, bounded}
 use Rattle.spec_outcome.specs.Directions.{is_alone}
 
 -- n numbers f, each in four bytes, the first at p, each step bytes behind the last, and nothing else
@@ -74,3 +74,9 @@ pub record Turnable (l d : Bytes) : Type 0 where
   pub alone : length l ≡ 4 + length_of l
   pub fitting : fits (content_of l) ≡ true
   pub room : length l ≤ length d
+
+-- its head written for kind k; its columns and rows
+pub record LaidHead (l : Bytes) (k : ℕ) (d d' : Bytes) (r : ℕ × ℕ) : Type 0 where
+  pub head : HeadPost l (4 + cells_at (content_of l)) k d d'
+  pub columns : r.0 ≡ table_columns (content_of l)
+  pub rows : r.1 ≡ table_rows (content_of l)

@@ -3,15 +3,18 @@
 
 ghost use Rattle.std.specs.Prelude.{◌≡◌, ◌+◌, ◌%◌, ◌≤◌, true, ◌++◌, length, drop};
 ghost use Rattle.std.proofs.lemmas.List.Edits.{sets};
+ghost use Rattle.base_refusals.specs.Numbers.{outcome_number, outcome_length};
 ghost use Rattle.spec_encoding.specs.Record.{signed};
 ghost use Rattle.spec_encoding.specs.Columns.{minus, folded, bytes_of};
 ghost use Rattle.spec_encoding.specs.Data.{is_kind, to_columns, to_rows};
 ghost use Rattle.spec_outcome.specs.Directions.{table_to_columns, table_to_rows, Fills};
-ghost use Rattle.base_columns.specs.Contract.{HeadPost, FoldPre, FoldPost, UnfoldPre, UnfoldPost, CellsPre, ByColumnsPost, ByRowsPost, own_refusal, refusal_of, Turnable};
+ghost use Rattle.base_columns.specs.Contract.{HeadPost, FoldPre, FoldPost, UnfoldPre, UnfoldPost, CellsPre, ByColumnsPost, ByRowsPost, own_refusal, refusal_of, Turnable, LaidHead};
 
+use base_bytes::{byte_at, two_at};
+use base_refusals::Refusal;
 use base_tables::{
-    BOUNDS_AT, COLUMNS_AT, MOST_TABLES, NUMBER_AT, ROWS_AT, TableHeader, below, byte_at,
-    columns_bounded, read_header, two_at, well_formed, word_in,
+    BOUNDS_AT, COLUMNS_AT, MOST_TABLES, NUMBER_AT, ROWS_AT, below, columns_bounded, read_header,
+    well_formed, word_in,
 };
 
 // Length and kind of a record stand before its content.
@@ -23,13 +26,6 @@ pub const CONTENT_AT: usize = 4;
 const FIRST_BELOW_0: u32 = 2147483648;
 
 const LAST: u32 = 4294967295;
-
-// A refusal's number and length 0, or 0 and the record's length.
-#[derive(Clone, Copy)]
-pub struct Turned {
-    pub number: u64,
-    pub length: usize,
-}
 
 // What is stored for a cell below another: "the difference wrapping at 32 bits, then folded".
 fn fold(x: u32, above: u32) -> u32
@@ -64,18 +60,12 @@ fn fold_column(c: &[u8], d: &mut [u8], from: usize, step: usize, to: usize, n: u
     requires { FoldPre c.now d.old from step to n }
     ensures { FoldPost c.now from step n to d.old d.new }
 {
-    let mut i = from;
-    let mut o = to;
     let mut above: u32 = 0;
-    let mut r = 0;
-    while r < n {
-        let x = word_in(c, i);
+    for r in 0..n {
+        let x = word_in(c, from + step * r);
         let y = fold(x, above);
-        put(d, o, y);
+        put(d, to + 4 * r, y);
         above = x;
-        i += step;
-        o += 4;
-        r += 1;
     }
 }
 
@@ -84,16 +74,10 @@ fn unfold_column(c: &[u8], d: &mut [u8], from: usize, to: usize, step: usize, n:
     requires { UnfoldPre c.now d.old from to step n }
     ensures { UnfoldPost c.now from n to step d.old d.new }
 {
-    let mut i = from;
-    let mut o = to;
     let mut x: u32 = 0;
-    let mut r = 0;
-    while r < n {
-        x = below(x, word_in(c, i));
-        put(d, o, x);
-        i += 4;
-        o += step;
-        r += 1;
+    for r in 0..n {
+        x = below(x, word_in(c, from + 4 * r));
+        put(d, to + step * r, x);
     }
 }
 
@@ -103,30 +87,23 @@ fn fold_cells(c: &[u8], d: &mut [u8], columns: usize, rows: usize)
     ensures { ByColumnsPost c.now columns rows d.old d.new }
 {
     let step = 4 * columns;
-    let mut from = BOUNDS_AT + step;
-    let mut to = CONTENT_AT + from;
-    let mut i = 0;
-    while i < columns {
-        fold_column(c, d, from, step, to, rows);
-        from += 4;
-        to += 4 * rows;
-        i += 1;
+    let first = BOUNDS_AT + step;
+    for i in 0..columns {
+        let to = CONTENT_AT + first + 4 * (rows * i);
+        fold_column(c, d, first + 4 * i, step, to, rows);
     }
 }
 
+// The same back. A loop of its own: the places are exchanged, and one with both as parameters is no plainer.
 fn unfold_cells(c: &[u8], d: &mut [u8], columns: usize, rows: usize)
     requires { CellsPre c.now d.old columns rows }
     ensures { ByRowsPost c.now columns rows d.old d.new }
 {
     let step = 4 * columns;
-    let mut from = BOUNDS_AT + step;
-    let mut to = CONTENT_AT + from;
-    let mut i = 0;
-    while i < columns {
-        unfold_column(c, d, from, to, step, rows);
-        from += 4 * rows;
-        to += 4;
-        i += 1;
+    let first = BOUNDS_AT + step;
+    for i in 0..columns {
+        let from = first + 4 * (rows * i);
+        unfold_column(c, d, from, CONTENT_AT + first + 4 * i, step, rows);
     }
 }
 
@@ -135,67 +112,66 @@ fn put_head(l: &[u8], d: &mut [u8], n: usize, kind: u8)
     requires { (4 ≤ n) × (n ≤ length l.now) × (n ≤ length d.old) }
     ensures { HeadPost l.now n kind d.old d.new }
 {
-    let mut j = 0;
-    while j < n {
+    for j in 0..n {
         d[j] = l[j];
-        j += 1;
     }
     d[KIND_AT] = kind;
     d[KIND_AT + 1] = 0;
 }
 
-// The record's own refusals behind 11, or 0.
-fn own_refusal(c: &[u8], kind: usize) -> u64
-    ensures { result ≡ own_refusal kind c.now }
+// The record's own refusals behind 11.
+fn own_refusal(c: &[u8], kind: usize) -> Result<(), Refusal>
+    ensures { outcome_number result ≡ own_refusal kind c.now }
 {
     if well_formed(c) {
         if MOST_TABLES <= byte_at(c, NUMBER_AT) {
-            return base_refusals::TABLE_NUMBER_OUT_OF_RANGE;
+            return Err(Refusal::TableNumberOutOfRange);
         }
         if columns_bounded(c, kind) {
-            return 0;
+            return Ok(());
         }
-        return base_refusals::CELL_BEYOND_BOUND;
+        return Err(Refusal::CellBeyondBound);
     }
-    base_refusals::TABLE_OUT_OF_RANGE
+    Err(Refusal::TableOutOfRange)
 }
 
-// "For the two directions the other kind, or bytes behind the record, is 11"; behind the record's own refusals 52, for a target of so many bytes. 0 for none.
-fn refusal(l: &[u8], kind: usize, room: usize) -> u64
+// "For the two directions the other kind, or bytes behind the record, is 11"; behind the record's own refusals 52, for a target of so many bytes.
+fn refusal(l: &[u8], kind: usize, room: usize) -> Result<(), Refusal>
     requires { is_kind kind ≡ true }
-    ensures { result ≡ refusal_of kind l.now room }
+    ensures { outcome_number result ≡ refusal_of kind l.now room }
 {
-    let TableHeader::Record(n) = read_header(l) else {
-        return base_refusals::NOT_A_TABLE;
+    let Some(n) = read_header(l) else {
+        return Err(Refusal::NotATable);
     };
     if two_at(l, KIND_AT) != kind {
-        return base_refusals::NOT_A_TABLE;
+        return Err(Refusal::NotATable);
     }
     if l.len() != CONTENT_AT + n {
-        return base_refusals::NOT_A_TABLE;
+        return Err(Refusal::NotATable);
     }
-    let own = own_refusal(&l[CONTENT_AT..], kind);
-    if own != 0 {
-        return own;
-    }
+    own_refusal(&l[CONTENT_AT..], kind)?;
     if room < l.len() {
-        return base_refusals::TARGET_TOO_SHORT;
+        return Err(Refusal::TargetTooShort);
     }
-    0
+    Ok(())
+}
+
+// Header and bounds of the record turned into this kind. Answers its columns and rows.
+fn lay_head(l: &[u8], d: &mut [u8], kind: u8) -> (usize, usize)
+    requires { Turnable l.now d.old }
+    ensures { LaidHead l.now kind d.old d.new result }
+{
+    let columns = byte_at(&l[CONTENT_AT..], COLUMNS_AT);
+    let rows = two_at(&l[CONTENT_AT..], ROWS_AT);
+    put_head(l, d, CONTENT_AT + BOUNDS_AT + 4 * columns, kind);
+    (columns, rows)
 }
 
 fn lay_columns(l: &[u8], d: &mut [u8])
     requires { Turnable l.now d.old }
     ensures { d.new ≡ to_columns l.now ++ drop (length l.now) d.old }
 {
-    let columns = byte_at(&l[CONTENT_AT..], COLUMNS_AT);
-    let rows = two_at(&l[CONTENT_AT..], ROWS_AT);
-    put_head(
-        l,
-        d,
-        CONTENT_AT + BOUNDS_AT + 4 * columns,
-        base_syntax::KIND_COLUMNS as u8,
-    );
+    let (columns, rows) = lay_head(l, d, base_syntax::KIND_COLUMNS as u8);
     fold_cells(&l[CONTENT_AT..], d, columns, rows);
 }
 
@@ -203,49 +179,24 @@ fn lay_rows(l: &[u8], d: &mut [u8])
     requires { Turnable l.now d.old }
     ensures { d.new ≡ to_rows l.now ++ drop (length l.now) d.old }
 {
-    let columns = byte_at(&l[CONTENT_AT..], COLUMNS_AT);
-    let rows = two_at(&l[CONTENT_AT..], ROWS_AT);
-    put_head(
-        l,
-        d,
-        CONTENT_AT + BOUNDS_AT + 4 * columns,
-        base_syntax::KIND_ROWS as u8,
-    );
+    let (columns, rows) = lay_head(l, d, base_syntax::KIND_ROWS as u8);
     unfold_cells(&l[CONTENT_AT..], d, columns, rows);
 }
 
-// A record of kind 20 as kind 23 in the target's first bytes. "A refusal changes no byte of it, an answer none behind the record."
-pub fn to_columns(source: &[u8], target: &mut [u8]) -> Turned
-    ensures { Fills (table_to_columns source.now target.old) result.number result.length target.new }
+// A record of kind 20 as kind 23 in the target's first bytes, and how many they are. "A refusal changes no byte of it, an answer none behind the record."
+pub fn to_columns(source: &[u8], target: &mut [u8]) -> Result<usize, Refusal>
+    ensures { Fills (table_to_columns source.now target.old) (outcome_number result) (outcome_length result) target.new }
 {
-    let number = refusal(source, base_syntax::KIND_ROWS, target.len());
-    if number != 0 {
-        return Turned {
-            number: number,
-            length: 0,
-        };
-    }
+    refusal(source, base_syntax::KIND_ROWS, target.len())?;
     lay_columns(source, target);
-    Turned {
-        number: 0,
-        length: source.len(),
-    }
+    Ok(source.len())
 }
 
 // A record of kind 23 as kind 20.
-pub fn to_rows(source: &[u8], target: &mut [u8]) -> Turned
-    ensures { Fills (table_to_rows source.now target.old) result.number result.length target.new }
+pub fn to_rows(source: &[u8], target: &mut [u8]) -> Result<usize, Refusal>
+    ensures { Fills (table_to_rows source.now target.old) (outcome_number result) (outcome_length result) target.new }
 {
-    let number = refusal(source, base_syntax::KIND_COLUMNS, target.len());
-    if number != 0 {
-        return Turned {
-            number: number,
-            length: 0,
-        };
-    }
+    refusal(source, base_syntax::KIND_COLUMNS, target.len())?;
     lay_rows(source, target);
-    Turned {
-        number: 0,
-        length: source.len(),
-    }
+    Ok(source.len())
 }

@@ -1,14 +1,14 @@
 -- One law for each way out of the functions about dates.
-use mathlib.Core.Path.{◌≡◌, refl, sym, ap, subst, ◌∙◌}
+use mathlib.Core.Path.{◌≡◌, refl, sym, ap, ◌∙◌}
 use mathlib.Core.Bool.{Bool, true, false}
-use Prim.Native.Nat.{ℕ, suc, ◌+◌, ◌-◌, ◌%◌, ◌≤◌, ◌<◌}
+use Prim.Native.Nat.{ℕ, ◌+◌, ◌-◌, ◌%◌, ◌≤◌, ◌<◌}
 use native.Mathlib.Omega.{arith}
-use lib.Dec.{eqb, ltb, leb}
+use lib.Dec.{eqb, leb}
 use borrow.Author.Tests.{eq-eqb, ne_eqb, le-ltb, lt-ltb, leb-true, leb-false}
-use Rattle.spec_calendar.specs.Dates.{first_year, last_year, all_days, is_leap, leap_day, year_days, month_days, first_day, month_start, Date, on, date_exists, day_number, day_exists, date_of}
+use Rattle.spec_calendar.specs.Dates.{first_year, last_year, all_days, is_leap, leap_day, year_days, month_days, first_day, month_start, Date, on, date_exists, day_number}
 use Rattle.spec_calendar.proofs.Sums.{leap-most, first-most, month-next, year-whole, month-end}
 use Rattle.spec_calendar.proofs.Dates.{IsDate, Exists, there-is, is-there, Numbered, numbered_is}
-use Rattle.spec_encoding.specs.Record.{got, require}
+use Rattle.spec_encoding.specs.Record.{require}
 use Rattle.spec_hours.specs.Calls.{DayOutcome, DateOutcome, day_told, day_numbered, date_told, dated}
 use Rattle.spec_hours.proofs.Calls.{day-told, date-told}
 use Rattle.base_dates.specs.Contract.{InYear, InMonth}
@@ -75,14 +75,14 @@ module _ (d : Date) {b : Bool} (e : b ≡ date_exists d) where
   pub day-given : b ≡ true → {n : ℕ} → n ≡ day_number d → ◌≡◌ {A = DayOutcome} (record { number = 0; day = n }) (day_numbered d)
   day-given t q = ap (λ (k : ℕ). record { number = 0; day = k }) q ∙ sym (day-told d (sym e ∙ t))
 
-  pub day-refused : b ≡ false → ◌≡◌ {A = DayOutcome} (record { number = 41; day = 0 }) (day_numbered d)
+  pub day-refused : b ≡ false → {x : ℕ} → x ≡ 41 → ◌≡◌ {A = DayOutcome} (record { number = x; day = 0 }) (day_numbered d)
   unfolding day_numbered day_told require
-  day-refused f = rw (sym e ∙ f)
+  day-refused f ex = rw (ex, sym e ∙ f)
 
 -- ---- date_of
-pub date-refused : (n : ℕ) → all_days ≤ n → ◌≡◌ {A = DateOutcome} (record { number = 41; year = 0; month = 0; day = 0 }) (dated n)
+pub date-refused : (n : ℕ) → all_days ≤ n → {x : ℕ} → x ≡ 41 → ◌≡◌ {A = DateOutcome} (record { number = x; year = 0; month = 0; day = 0 }) (dated n)
 unfolding dated date_told require
-date-refused n h = rw (le-ltb n all_days h)
+date-refused n h ex = rw (ex, le-ltb n all_days h)
 
 module _ (n : ℕ) {k r : ℕ} {l : Bool} (i : InYear n k) (el : l ≡ is_leap (first_year + k)) (er : r ≡ n - first_day k) where
   pub within-year : r < month_start l 12

@@ -7,7 +7,7 @@ ghost use Rattle.spec_calendar.proofs.Dates.{Exists};
 ghost use Rattle.spec_hours.specs.Calls.{day_numbered, dated};
 ghost use Rattle.base_dates.specs.Contract.{day_in, date_in, InYear, InMonth};
 
-use base_refusals::CALENDAR_OR_DATE_OUT_OF_RANGE;
+use base_refusals::Refusal;
 
 // "years 2000 to 2399, 146,097 days"
 const FIRST_YEAR: u64 = 2000;
@@ -28,7 +28,7 @@ const MONTHS: usize = 12;
 // No year has more days.
 const YEAR_DAYS: u64 = 366;
 
-// A day number, or the refusal's number and 0.
+// A day number, or the refusal's number and 0. No Result (kept: the C interface).
 #[repr(C)]
 #[derive(Clone, Copy)]
 pub struct DayTold {
@@ -36,7 +36,7 @@ pub struct DayTold {
     pub day: u64,
 }
 
-// A date, or the refusal's number and zeros.
+// A date, or the refusal's number and zeros. No Result (kept: the C interface).
 #[repr(C)]
 #[derive(Clone, Copy)]
 pub struct DateTold {
@@ -170,7 +170,7 @@ pub fn day_number(year: u64, month: u64, day: u64) -> DayTold
         };
     }
     DayTold {
-        number: CALENDAR_OR_DATE_OUT_OF_RANGE,
+        number: Refusal::CalendarOrDateOutOfRange.number(),
         day: 0,
     }
 }
@@ -180,14 +180,12 @@ fn year_of(n: u64) -> usize
     requires { n < 146097 }
     ensures { InYear n result }
 {
-    let mut k = (n / YEAR_DAYS) as usize;
-    while k < YEARS - 1 {
+    for k in (n / YEAR_DAYS) as usize..YEARS - 1 {
         if n < first_day(k + 1) {
             return k;
         }
-        k += 1;
     }
-    k
+    YEARS - 1
 }
 
 // The month, from 0, that has day n of a year.
@@ -195,14 +193,12 @@ fn month_of(leap: bool, n: u64) -> usize
     requires { n < month_start leap 12 }
     ensures { InMonth leap n result }
 {
-    let mut k: usize = 0;
-    while k < MONTHS - 1 {
+    for k in 0..MONTHS - 1 {
         if n < month_start(leap, k + 1) {
             return k;
         }
-        k += 1;
     }
-    k
+    MONTHS - 1
 }
 
 // "and back"
@@ -211,7 +207,7 @@ pub fn date_of(n: u64) -> DateTold
 {
     if DAYS <= n {
         return DateTold {
-            number: CALENDAR_OR_DATE_OUT_OF_RANGE,
+            number: Refusal::CalendarOrDateOutOfRange.number(),
             year: 0,
             month: 0,
             day: 0,

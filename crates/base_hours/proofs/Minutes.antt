@@ -1,6 +1,6 @@
 -- Signed minutes: open ones of the years, and the first one.
-use mathlib.Core.Path.{◌≡◌, refl, sym, ap, subst, ◌∙◌}
-use mathlib.Core.Bool.{Bool, true, false, true≢false, ◌&&◌, cond, and-eq-true_iff}
+use mathlib.Core.Path.{◌≡◌, refl, sym, ap, ◌∙◌}
+use mathlib.Core.Bool.{Bool, true, false, cond, and-eq-true_iff}
 use Prim.Native.Nat.{ℕ, ◌/◌, ◌%◌, ◌≤◌, ◌<◌}
 use native.Mathlib.Omega.{arith}
 use lib.Dec.{ltb}
@@ -11,7 +11,7 @@ use mir.Syntax.{w64}
 use mir.Val.{SFits, to_z, of_z}
 use mir.Facts.{to_z-of_z}
 use Rattle.spec_calendar.specs.Dates.{all_days, day_exists, weekday_of}
-use Rattle.spec_calendar.specs.Hours.{Calendar, in_window, open_at, Found, at, none, not_before, first_open, FirstOpen}
+use Rattle.spec_calendar.specs.Hours.{Calendar, in_window, open_at, at, none, not_before, first_open, FirstOpen}
 use Rattle.spec_calendar.proofs.FirstMinute.{before-years, open-inside, least, without, is-first}
 use Rattle.base_signed.proofs.SignedWords.{natural}
 use Rattle.base_hours.specs.Contract.{all_minutes, minute_in, lies_in_one, LeastPost}
@@ -40,14 +40,6 @@ module _ (c : Calendar) {z : ℤ} {t : ℕ} (e : z ≡ pos t) where
   pub by-window : t / 1440 < all_days → {w : ℕ} {b : Bool} → w ≡ weekday_of (t / 1440) → b ≡ in_window c w (t % 1440) → b ≡ open_at c z
   unfolding open_at
   by-window h ew eb = rw (e, lt-ltb (t / 1440) all_days h) (eb ∙ ap (λ (w : ℕ). in_window c w (t % 1440)) ew)
-
--- ---- not_before
-pub clip-before : (z : ℤ) → lt_z z (pos 0) ≡ true → 0 ≡ not_before z
-clip-before (pos t) e = absurd (omega (arith, ltb-true t 0 e))
-clip-before (negsuc n) e = refl
-
-pub clip-counted : {z : ℤ} {t : ℕ} → z ≡ pos t → t ≡ not_before z
-clip-counted e = sym (ap not_before e)
 
 -- ---- first_from
 open-lies : (c : Calendar) (u : ℕ) → open_at c (pos u) ≡ true → lies_in_one c u ≡ true

@@ -8,11 +8,9 @@ ghost use Rattle.spec_hours.specs.Calls.{first_opened};
 ghost use Rattle.base_calendars.specs.Contract.{window_in};
 ghost use Rattle.base_hours.specs.Contract.{open_in, minute_in, NextPost, LeastPost};
 
-use base_calendars::{
-    DAY_MINUTES, LentCalendar, Window, calendars_fit, find, read_window, window_count,
-};
+use base_calendars::{DAY_MINUTES, Window, calendars_fit, find, read_window, window_count};
 use base_dates::weekday;
-use base_refusals::{CALENDAR_NOT_LENT, CALENDAR_OR_DATE_OUT_OF_RANGE};
+use base_refusals::Refusal;
 use base_signed::magnitude;
 
 // "minute 0 is its midnight"; so many minutes have the years, and a week.
@@ -22,7 +20,7 @@ const MINUTES: u64 = 210379680;
 
 const WEEK_MINUTES: u64 = 10080;
 
-// Whether there is an open minute, and which; or the refusal's number and zeros.
+// Whether there is an open minute, and which; or the refusal's number and zeros. No Result (kept: the C interface).
 #[repr(C)]
 #[derive(Clone, Copy)]
 pub struct OpenTold {
@@ -78,13 +76,8 @@ fn first_in(c: &[u8], f: u64) -> u64
 {
     let n = window_count(c);
     let mut r = MINUTES;
-    let mut k = 0;
-    while k < n {
-        let t = next_in(read_window(c, k), f);
-        if t < r {
-            r = t;
-        }
-        k += 1;
+    for k in 0..n {
+        r = r.min(next_in(read_window(c, k), f));
     }
     r
 }
@@ -92,11 +85,7 @@ fn first_in(c: &[u8], f: u64) -> u64
 fn not_before(minute: i64) -> u64
     ensures { result ≡ not_before minute }
 {
-    if minute < FIRST_MINUTE {
-        0
-    } else {
-        magnitude(minute)
-    }
+    magnitude(minute.max(FIRST_MINUTE))
 }
 
 // "the first open minute at or after a given signed one"; the end of the years where there is none.
@@ -116,14 +105,14 @@ pub fn first_open(calendars: &[u8], k: u64, minute: i64) -> OpenTold
 {
     if !calendars_fit(calendars) {
         return OpenTold {
-            number: CALENDAR_OR_DATE_OUT_OF_RANGE,
+            number: Refusal::CalendarOrDateOutOfRange.number(),
             found: 0,
             minute: 0,
         };
     }
-    let LentCalendar::Content(from, next) = find(calendars, k) else {
+    let Some((from, next)) = find(calendars, k) else {
         return OpenTold {
-            number: CALENDAR_NOT_LENT,
+            number: Refusal::CalendarNotLent.number(),
             found: 0,
             minute: 0,
         };

@@ -31,13 +31,11 @@ two_is d i w pa pb = simp (add-one, pa, pb)
 -- ---- put_bounds
 pub record Bounding (d₀ d : Bytes) (p w i : ℕ) : Type 0 where
   pub long : length d ≡ length d₀
-  pub inside : i ≤ w
   pub left : sets d (p + 4 * i) (bound_bytes (w - i)) ≡ sets d₀ p (bound_bytes w)
 
 pub bounding-first : (d : Bytes) (p w : ℕ) → Bounding d d p w 0
 bounding-first d p w = record {
   long = refl;
-  inside = omega arith;
   left = let e : p + 4 * 0 ≡ p = omega arith in let n : w - 0 ≡ w = omega arith in ap₂ (λ (k n : ℕ). sets d k (bound_bytes n)) e n;
 }
 
@@ -48,7 +46,6 @@ bound-next w i l = let e : w - i ≡ suc (w - (i + 1)) = omega arith in ap (λ (
 pub bounding-next : {d₀ d e : Bytes} {p w i : ℕ} → Bounding d₀ d p w i → i < w → e ≡ sets d (p + 4 * i) (bytes_of 1023) → Bounding d₀ e p w (i + 1)
 bounding-next {d₀} {d} {e} {p} {w} {i} B l h = record {
   long = ap length h ∙ length-sets d (p + 4 * i) (bytes_of 1023) ∙ B.long;
-  inside = omega arith;
   left = ap (λ o. sets o (p + 4 * (i + 1)) (bound_bytes (w - (i + 1)))) h
       ∙ sym (one-behind d (p + 4 * i) (bytes_of 1023) (bound_bytes (w - (i + 1))) (omega arith))
       ∙ ap (sets d (p + 4 * i)) (sym (bound-next w i l)) ∙ B.left;

@@ -15,7 +15,7 @@ use Rattle.spec_encoding.specs.Record.{Bytes, Result, refused, got, and_then, re
 use Rattle.spec_encoding.specs.Data.{read_data}
 use Rattle.spec_encoding.proofs.Data.{read-well-formed}
 use Rattle.spec_encoding.proofs.Refusals.{Only, data-only}
-use Rattle.spec_outcome.specs.Directions.{Filled, filled, Fills}
+use Rattle.spec_outcome.specs.Directions.{filled, Fills}
 use Rattle.spec_logs.specs.Logs.{paired}
 use Rattle.spec_logs.specs.Records.{records}
 use Rattle.spec_logs.specs.PairLogs.{log_of, is_log, paired_logs, pair_logs}
@@ -158,7 +158,3 @@ module _ (d : Bytes) (m n t : ℕ) (b : Bytes) {x y : ℕ} (D : Found d m n x y)
       logs-paired {c} {j} ec ej =
           subst (λ r. Fills (filled b r) 0 j c) (sym (paired-gives ∙ ap (λ (k : ℕ). gives k three) (sym e ∙ z)))
           (record { number = refl; size = ej ∙ sym three-long; buffer = ec ∙ sets-front b three (omega (arith, three-long, own-passed.1)) })
-
--- as it is told
-pub told : {o : Filled} {k : ℕ} {b : Bytes} {a l : ℕ} → (a ≡ k) × (l ≡ 0) → Fills o k 0 b → Fills o a l b
-told e F = record { number = e.0 ∙ F.number; size = e.1 ∙ F.size; buffer = F.buffer }

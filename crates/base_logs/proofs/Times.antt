@@ -90,7 +90,6 @@ falls-from d w r (suc n) =
 
 pub record Falling (d : Bytes) (w n last x r : ℕ) : Type 0 where
   pub count : n ≡ rows_in w
-  pub inside : r ≤ n
   pub above : x ≡ above_word d w r
   pub left : never_falls (times_in d w) ≡ goes_on last (times_from d w r (n - r))
 
@@ -98,7 +97,6 @@ pub falling-first : (d : Bytes) (w : ℕ) {n : ℕ} → n ≡ rows_in w → Fall
 unfolding above_word
 falling-first d w {n} e = record {
   count = e;
-  inside = omega arith;
   above = refl;
   left = let z : rows_in w ≡ n - 0 = omega (arith, e) in falls-from d w 0 (rows_in w) ∙ ap (λ (k : ℕ). goes_on 0 (times_from d w 0 k)) z;
 }
@@ -119,7 +117,6 @@ module _ {d : Bytes} {w n last x r : ℕ} (F : Falling d w n last x r) (l : r < 
   unfolding above_word
   falling-next h = record {
     count = F.count;
-    inside = omega arith;
     above = word-here ∙ ap (above_word d w) (sym (add-one r));
     left = left_here ∙ ap (λ b. b && goes_on t (times_from d w (suc r) (n - suc r))) (le-leb last t h)
         ∙ ap (λ (k : ℕ). goes_on t (times_from d w k (n - k))) (sym (add-one r));

@@ -3,6 +3,7 @@
 
 ghost use Rattle.std.specs.Prelude.{◌≡◌, ◌+◌, ◌*◌, ◌≤◌, ◌<◌, ◌^◌, length};
 ghost use Rattle.std.proofs.lemmas.List.Edits.{sets};
+ghost use Rattle.base_refusals.specs.Numbers.{outcome_number, outcome_length};
 ghost use Rattle.spec_encoding.specs.Record.{signed};
 ghost use Rattle.spec_logs.specs.Logs.{never_falls, paired};
 ghost use Rattle.spec_logs.specs.Records.{two_bytes, records};
@@ -16,6 +17,7 @@ ghost use Rattle.base_logs.specs.Laying.{bound_bytes, head_bytes, HeadPre, RowPr
 ghost use Rattle.base_logs.specs.OwnRefusal.{refusal_of};
 
 use base_columns::{CONTENT_AT, KIND_AT, low, put};
+use base_refusals::Refusal;
 use base_scratch::DESCRIPTIONS;
 use base_signed::CELL_LIMIT;
 use base_tables::{
@@ -46,13 +48,6 @@ const LAST_POSITION: u32 = 1023;
 const PAIRS_HEAD: usize = 17;
 
 const SINGLES_HEAD: usize = 13;
-
-// A refusal's number and length 0, or 0 and the length of the three records.
-#[derive(Clone, Copy)]
-pub struct LogsPaired {
-    pub number: u64,
-    pub length: usize,
-}
 
 // What becomes of the earliest rows left: they pair, or that of the first or the second log is single.
 #[derive(Clone, Copy)]
@@ -104,15 +99,13 @@ fn never_falls(data: &[u8], w: u64) -> bool
     let n = rows(w);
     let mut last: u64 = 0;
     let mut x: u32 = 0;
-    let mut r = 0;
-    while r < n {
+    for r in 0..n {
         x = word_of(data, w, r, x);
         let t = time(x);
         if t < last {
             return false;
         }
         last = t;
-        r += 1;
     }
     true
 }
@@ -243,10 +236,8 @@ fn put_bounds(d: &mut [u8], p: usize, w: usize)
     requires { (w ≤ 8) × (p + 4 * w ≤ length d.old) }
     ensures { d.new ≡ sets d.old p (bound_bytes w) }
 {
-    let mut i = 0;
-    while i < w {
+    for i in 0..w {
         put(d, p + 4 * i, LAST_POSITION);
-        i += 1;
     }
 }
 
@@ -344,53 +335,41 @@ fn records_length(a: u64, b: u64) -> usize
     PAIRS_HEAD + 2 * SINGLES_HEAD + 4 * (rows(a) + rows(b))
 }
 
-// 53, 54, 52, or 0, for a target of so many bytes.
-fn refusal(data: &[u8], a: u64, b: u64, t: u64, room: usize) -> u64
-    ensures { result ≡ refusal_of «data».now a b t room }
+// 53, 54, or 52 for a target of so many bytes.
+fn refusal(data: &[u8], a: u64, b: u64, t: u64, room: usize) -> Result<(), Refusal>
+    ensures { outcome_number result ≡ refusal_of «data».now a b t room }
 {
     if !is_log(data, a) {
-        return base_refusals::NOT_A_LOG;
+        return Err(Refusal::NotALog);
     }
     if !is_log(data, b) {
-        return base_refusals::NOT_A_LOG;
+        return Err(Refusal::NotALog);
     }
     if MOST_TOLERANCE < t {
-        return base_refusals::TOLERANCE_OUT_OF_RANGE;
+        return Err(Refusal::ToleranceOutOfRange);
     }
     if room < records_length(a, b) {
-        return base_refusals::TARGET_TOO_SHORT;
+        return Err(Refusal::TargetTooShort);
     }
-    0
-}
-
-fn refused(k: u64) -> LogsPaired
-    ensures { (result.number ≡ k) × (result.length ≡ 0) }
-{
-    LogsPaired {
-        number: k,
-        length: 0,
-    }
+    Ok(())
 }
 
 // "Give three tables .. written one behind the other into a lent buffer"; "in that order, after the data, with the buffer unchanged, as are bytes behind an
-// answer". The descriptions of eight tables fit a local array.
-pub fn pair_logs(data: &[u8], first: u64, second: u64, t: u64, target: &mut [u8]) -> LogsPaired
-    ensures { Fills (pair_logs «data».now first second t target.old) result.number result.length target.new }
+// answer". Answers the three records' length. The descriptions of eight tables fit a local array.
+pub fn pair_logs(
+    data: &[u8],
+    first: u64,
+    second: u64,
+    t: u64,
+    target: &mut [u8],
+) -> Result<usize, Refusal>
+    ensures { Fills (pair_logs «data».now first second t target.old) (outcome_number result) (outcome_length result) target.new }
 {
     let mut tables = [0u64; DESCRIPTIONS + MOST_TABLES];
-    let number = read_data(data, &mut tables);
-    if number != 0 {
-        return refused(number);
-    }
+    read_data(data, &mut tables)?;
     let a = table(&tables, first as usize);
     let b = table(&tables, second as usize);
-    let own = refusal(data, a, b, t, target.len());
-    if own != 0 {
-        return refused(own);
-    }
+    refusal(data, a, b, t, target.len())?;
     lay_records(data, a, b, t, target);
-    LogsPaired {
-        number: 0,
-        length: records_length(a, b),
-    }
+    Ok(records_length(a, b))
 }

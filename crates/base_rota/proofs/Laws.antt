@@ -2,12 +2,12 @@
 use native.Mathlib.Omega.{arith}
 use mathlib.Core.Path.{◌≡◌, refl, sym, ap, ◌∙◌}
 use mathlib.Core.List.{List, [], ◌∷◌}
-use mathlib.Core.Bool.{Bool, true, false, not, ◌&&◌}
+use mathlib.Core.Bool.{Bool, true, false, ◌&&◌}
 use Prim.Native.Nat.{ℕ, zero, suc, ◌+◌, ◌≤◌, ◌<◌}
 use borrow.Author.Tests.{leb-true, le-leb, lt-leb}
 use lib.Dec.{leb}
 use lib.ListN.{length, get_or, drop}
-use Rattle.spec_calculus.proofs.Truths.{both, not-true, not-false}
+use Rattle.spec_calculus.proofs.Truths.{both}
 use Rattle.spec_outcome.specs.Rota.{quota_fits, quotas_fit, rota_fits}
 
 -- ---- quota_fits
@@ -50,13 +50,13 @@ module _ (qs : List ℕ) where
 
   -- the quota at i ends it, or leaves it to those behind
   module _ (i : ℕ) (inv : rota_fits qs ≡ quotas_fit (drop i qs)) (l : i < length qs) {b : Bool} (e : b ≡ quota_fits (get_or qs i 0)) where
-    pub rota-stops : not b ≡ true → false ≡ rota_fits qs
-    rota-stops h = sym (inv ∙ quotas-next qs i l ∙ ap (λ t. t && quotas_fit (drop (suc i) qs)) (sym e ∙ not-true b h))
+    pub rota-stops : b ≡ false → false ≡ rota_fits qs
+    rota-stops h = sym (inv ∙ quotas-next qs i l ∙ ap (λ t. t && quotas_fit (drop (suc i) qs)) (sym e ∙ h))
 
-    pub rota-goes : not b ≡ false → rota_fits qs ≡ quotas_fit (drop (i + 1) qs)
+    pub rota-goes : b ≡ true → rota_fits qs ≡ quotas_fit (drop (i + 1) qs)
     rota-goes h =
         let n : suc i ≡ i + 1 = omega arith in
-        inv ∙ quotas-next qs i l ∙ ap (λ t. t && quotas_fit (drop (suc i) qs)) (sym e ∙ not-false b h) ∙ ap (λ k. quotas_fit (drop k qs)) n
+        inv ∙ quotas-next qs i l ∙ ap (λ t. t && quotas_fit (drop (suc i) qs)) (sym e ∙ h) ∙ ap (λ k. quotas_fit (drop k qs)) n
 
   pub rota-ends : (i : ℕ) → rota_fits qs ≡ quotas_fit (drop i qs) → length qs ≤ i → true ≡ rota_fits qs
   rota-ends i inv l = sym (inv ∙ quotas-end qs i l)

@@ -25,14 +25,10 @@ pub fn rota_fits(quotas: &[u64]) -> bool
     if 4 < n {
         return false;
     }
-    let mut i = 0;
-    while i < n {
-        let q = quotas[i];
-        let fits = quota_fits(q);
-        if !fits {
+    for &q in quotas {
+        if !quota_fits(q) {
             return false;
         }
-        i = i + 1;
     }
     true
 }

@@ -102,10 +102,8 @@ pub fn wipe(s: &mut [u64], a: usize, b: usize)
     requires { (a ≤ b) × (b ≤ length s.old) }
     ensures { WipePost a b s.old s.new }
 {
-    let mut i = a;
-    while i < b {
+    for i in a..b {
         s[i] = 0;
-        i += 1;
     }
 }
 

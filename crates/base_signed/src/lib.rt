@@ -1,8 +1,7 @@
 // 64-bit signed arithmetic: the bound of numbers, magnitudes, and laws. See proofs/.
 #![tactic(auto)]
 
-ghost use Rattle.std.specs.Prelude.{◌≡◌, ◌<◌, pos, nat_abs, ◌<ℤ◌, ◌≤ℤ◌};
-ghost use Rattle.std.specs.Int.Signed.{mag};
+ghost use Rattle.std.specs.Prelude.{◌≡◌, nat_abs};
 
 // "28: a number in the normal form with bound over 2^62."
 pub const NUMBER_LIMIT: u64 = 4611686018427387904;
@@ -21,29 +20,8 @@ pub const CELL_LEAST: i64 = -CELL_MOST;
 // Counts and places in a buffer stop at NUMBER_LIMIT, too.
 pub const COUNT_LIMIT: usize = NUMBER_LIMIT as usize;
 
-// A number that is not negative.
-fn natural(x: i64) -> u64
-    requires { pos 0 ≤ℤ x }
-    ensures result_value { pos result ≡ x }
-    ensures upper_bound { result < 9223372036854775809 }
-{
-    x as u64
-}
-
-// -1 - x of a negative x: the least number has no opposite.
-fn flipped(x: i64) -> i64
-    requires { x <ℤ pos 0 }
-    ensures { result ≡ pos (mag x) }
-{
-    -1 - x
-}
-
 pub fn magnitude(x: i64) -> u64
     ensures { result ≡ nat_abs x }
 {
-    if x < 0 {
-        natural(flipped(x)) + 1
-    } else {
-        natural(x)
-    }
+    x.unsigned_abs()
 }

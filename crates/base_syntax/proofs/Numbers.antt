@@ -1,6 +1,6 @@
 -- A number that was written is read back; every other is the first.
 use mathlib.Core.Path.{◌≡◌, refl, sym, ap, ◌∙◌}
-use Prim.Native.Nat.{ℕ, zero, suc, ◌+◌, ◌-◌, ◌%◌}
+use Prim.Native.Nat.{ℕ, zero, suc, ◌-◌, ◌%◌}
 use native.Mathlib.Omega.{arith}
 use lib.ListN.{get_or-eq_default}
 use Rattle.spec_calendar.specs.Hours.{Calendar}
@@ -49,9 +49,6 @@ monoid-back all = refl
 -- of each of the enum's cases
 pub fun-first : (f : Fun) → f ≡ Choice → 0 ≡ fun_arg (fun_of f)
 fun-first f e = sym (ap (λ x. fun_arg (fun_of x)) e)
-
-pub fun-open : (f : Fun) (n : ℕ) → f ≡ Open n → 1 + n % 256 ≡ fun_arg (fun_of f)
-fun-open f n e = omega arith ∙ sym (ap (λ x. fun_arg (fun_of x)) e)
 
 -- numbers that a match leaves
 pub op-rest : (a : ℕ) → (a ≡ 1 → ⊥) → (a ≡ 2 → ⊥) → (a ≡ 3 → ⊥) → (a ≡ 4 → ⊥) → (a ≡ 5 → ⊥) → (a ≡ 6 → ⊥) → Plus ≡ op_at a

@@ -9,10 +9,12 @@ ghost use Rattle.base_syntax.specs.Numbers.{bin_of, op_arg, op_at, fun_of, fun_a
 
 use base_signed::{COUNT_LIMIT, NUMBER_MOST};
 
-// What max and min have before their first head: no head has this word, since all are within 2^62.
+// What max and min have before their first head: no head has this word, since all are within 2^62. No Option (what may not change:
+// `zero_word` and `chosen` are on one word, as it stands in scratch).
 pub const NONE: i64 = NUMBER_MOST + 1;
 
-// Document 01's kinds of a question's records.
+// Document 01's kinds of a question's records. No enum (no plainer): they are bytes of a question and parts of a node's word, which
+// hold any number, and each reader asks for one kind or two.
 pub const KIND_NUMBER: u64 = 1;
 
 pub const KIND_TRUTH: u64 = 2;
@@ -71,7 +73,7 @@ const NUMBERS: usize = 256;
 // Monoids have the numbers 1 to 8.
 pub const MONOIDS: u64 = 8;
 
-#[derive(Clone, Copy)]
+#[derive(Clone, Copy, Debug, PartialEq, Eq)]
 pub enum BinOp {
     Plus,
     Minus,
@@ -83,22 +85,22 @@ pub enum BinOp {
 }
 
 // Document 02's operators, each over a list of terms; whether a minute is open goes by the calendar of a number.
-#[derive(Clone, Copy)]
+#[derive(Clone, Copy, Debug, PartialEq, Eq)]
 pub enum Fun {
     Choice,
     Open(usize),
 }
 
-#[derive(Clone, Copy)]
+#[derive(Clone, Copy, Debug, PartialEq, Eq)]
 pub enum Monoid {
-    List,
-    Bag,
-    Set,
-    Sum,
-    Max,
-    Some,
-    All,
-    Min,
+    List = 1,
+    Bag = 2,
+    Set = 3,
+    Sum = 4,
+    Max = 5,
+    Some = 6,
+    All = 7,
+    Min = 8,
 }
 
 // Of two words the second where the test says so, else the first; where one is NONE, the other.
@@ -116,6 +118,7 @@ fn choose(a: i64, b: i64, second: bool) -> i64
 
 impl Monoid {
     // What it has before its first head, as a word: a collection's is its count.
+    #[tactic(auto, unfolding(crate::specs::MonoidWord::zero_word))]
     pub fn zero(self) -> i64
         ensures { result ≡ zero_word (monoid_of self) }
     {
@@ -149,6 +152,7 @@ impl Monoid {
     }
 
     // The value's word, once no head is left: over nothing, max and min are 0.
+    #[tactic(auto, unfolding(crate::specs::MonoidWord::finish_word))]
     pub fn finish(self, a: i64) -> i64
         ensures { result ≡ finish_word (monoid_of self) a }
     {
@@ -182,18 +186,10 @@ impl Monoid {
     pub fn number(self) -> u64
         ensures { result ≡ monoid_code self }
     {
-        match self {
-            Monoid::List => 1,
-            Monoid::Bag => 2,
-            Monoid::Set => 3,
-            Monoid::Sum => 4,
-            Monoid::Max => 5,
-            Monoid::Some => 6,
-            Monoid::All => 7,
-            Monoid::Min => 8,
-        }
+        self as u64
     }
 
+    // Every other number is a list's. No `From` (no plainer): a monoid has two numbers, this one and its bits below.
     pub fn from_number(n: u64) -> Monoid
         ensures { result ≡ monoid_numbered n }
     {
@@ -233,17 +229,10 @@ impl BinOp {
     pub fn number(self) -> u64
         ensures { (result ≡ op_arg (bin_of self)) × (result < 8) }
     {
-        match self {
-            BinOp::Plus => 0,
-            BinOp::Minus => 1,
-            BinOp::Times => 2,
-            BinOp::Equal => 3,
-            BinOp::Less => 4,
-            BinOp::And => 5,
-            BinOp::Or => 6,
-        }
+        self as u64
     }
 
+    // Every other number is plus's. No `From` (no plainer): an operator has two numbers, document 01's kind and this one.
     pub fn from_number(n: u64) -> BinOp
         ensures { result ≡ op_at n }
     {
@@ -270,6 +259,7 @@ impl Fun {
         }
     }
 
+    // Every number is one. No `From` (no plainer): as above.
     pub fn from_number(n: u64) -> Fun
         ensures { result ≡ fun_at n }
     {

@@ -1,5 +1,5 @@
 -- One law for each way out of the functions that read bytes. Assumes nothing.
-use Rattle.std.proofs.Common.{◌≡◌, ℕ, suc, ◌+◌, ◌-◌, ◌*◌, ◌/◌, ◌%◌, ◌^◌, ◌<◌, ◌≤◌, Bool, true, false, eqb, ltb, leb, List, length, get_or, take, drop, ℤ, pos, negsuc, ◌-ℤ◌, nat_abs, sym, refl, ap, ◌∙◌, subst, ap₂, le_trans, mul-le-mul_right, mul_comm, mul-le-mul_left, one-mul, zero-mul, mul-one, mul-add, add-one, arith, length-drop, get_or-drop, take_all, drop-drop, to_z-of_z, w64, SFits, to_z, of_z, ltb-false, ltb-true, le-ltb, lt-ltb, eq-eqb, ne_eqb, eqb-true, le-leb, leb-true}
+use Rattle.std.proofs.Common.{◌≡◌, ℕ, suc, ◌+◌, ◌-◌, ◌*◌, ◌/◌, ◌%◌, ◌^◌, ◌<◌, ◌≤◌, Bool, true, false, eqb, ltb, leb, List, length, get_or, take, drop, ℤ, pos, negsuc, ◌-ℤ◌, nat_abs, sym, refl, ap, ◌∙◌, subst, ap₂, le_trans, mul-le-mul_right, mul_comm, mul-le-mul_left, one-mul, zero-mul, mul-one, mul-add, add-one, arith, length-drop, get_or-drop, take_all, drop-drop, to_z-of_z, w64, SFits, to_z, of_z, ltb-false, ltb-true, le-ltb, lt-ltb, eq-eqb, ne_eqb, eqb-true, le-leb, leb-true, Option, Some, None, Ok, Err}
 use borrow.Author.Tests.{lt-leb, eqb-false}
 use Rattle.spec_calculus.specs.Lists.{pick}
 use Rattle.spec_calculus.specs.Value.{bound_of}
@@ -11,12 +11,9 @@ use Rattle.spec_encoding.specs.Data.{is_kind, is_table, table_number, table_coll
 use Rattle.spec_encoding.proofs.Folding.{unfold-even, unfold-odd}
 use Rattle.spec_encoding.proofs.Data.{Fit, fit}
 use Rattle.base_tables.specs.Description.{one_column, one_row, one_kind, one_position, kind_bit, description_of, columns_in, rows_in, kind_in, subset_in, full_in, position_in, present_in, subset_rows, kept_row, whole_in, stored_word_in, word_in, cell_in, bound_in, place_in, column_place_in, placed_in, Placed, PlacedPost, CellPost, BoundPost}
-use Rattle.base_tables.specs.DataReader.{header_gives, header_at, numbered_table, table_at}
+use Rattle.base_tables.specs.DataReader.{header_gives, header_at, TableRead, numbered_table, table_at}
 use Rattle.base_tables.proofs.DataRecords.{passes, TableRecord, whole, whole_is, fit_is}
-use Rattle.base_tables.specs.declared.TableHeader.{TableHeader}
-use Rattle.base_tables.specs.declared.TableHeader.TheVariants.{Record, Bad}
-use Rattle.base_tables.specs.declared.TableRead.{TableRead}
-use Rattle.base_tables.specs.declared.TableRead.TheVariants.{Is, Refused}
+use Rattle.base_refusals.specs.declared.Refusal.TheVariants.{NotATable, TableOutOfRange, CellBeyondBound, TableNumberOutOfRange, TableNumberUsed}
 
 pub few : (a b : ℕ) → a < 16 → b < 2048 → a * b < 32768
 few a b p q =
@@ -59,11 +56,11 @@ kind-rows {k} e = rw (eq-eqb k 20 e) refl
 pub kind-columns : {k : ℕ} → (k ≡ 20 → ⊥) → eqb k 23 ≡ is_kind k
 kind-columns {k} e = rw (ne_eqb k 20 e) refl
 
-pub header-bad : (s : Bytes) → (TableRecord s → ⊥) → header_gives Bad ≡ header_at s
+pub header-bad : (s : Bytes) → (TableRecord s → ⊥) → header_gives None ≡ header_at s
 unfolding header_gives header_at require
 header-bad s h = rw (passes (is_table s) (whole s) h)
 
-pub header-good : (s : Bytes) {n : ℕ} → n ≡ length_of s → TableRecord s → header_gives (Record n) ≡ header_at s
+pub header-good : (s : Bytes) {n : ℕ} → n ≡ length_of s → TableRecord s → header_gives (Some n) ≡ header_at s
 unfolding header_gives header_at require
 header-good s e w = rw (whole_is s w, e)
 
@@ -243,7 +240,7 @@ unfolding placed_in pick
 placed-other {w = w} z = record { is = rw (ne_eqb (subset_in w) 0 z); cells = λ e. no (sym e) }
 
 -- what a header's answer says of the bytes
-pub found : (l : Bytes) {h : TableHeader} {n : ℕ} → header_gives h ≡ header_at l → h ≡ Record n → (is_table l ≡ true) × (length_of l ≡ n)
+pub found : (l : Bytes) {h : Option ℕ} {n : ℕ} → header_gives h ≡ header_at l → h ≡ Some n → (is_table l ≡ true) × (length_of l ≡ n)
 unfolding header_gives header_at require
 found l {n = n} e q = go (is_table l) (sym e ∙ ap header_gives q)
   where
@@ -251,7 +248,7 @@ found l {n = n} e q = go (is_table l) (sym e ∙ ap header_gives q)
     go true h = (refl, cc)
     go false h = no (cc)
 
-pub not_found : (l : Bytes) {h : TableHeader} → header_gives h ≡ header_at l → h ≡ Bad → is_table l ≡ false
+pub not_found : (l : Bytes) {h : Option ℕ} → header_gives h ≡ header_at l → h ≡ None → is_table l ≡ false
 unfolding header_gives header_at require
 not_found l e q = go (is_table l) (sym e ∙ ap header_gives q)
   where
@@ -261,7 +258,7 @@ not_found l e q = go (is_table l) (sym e ∙ ap header_gives q)
 
 -- numbered_table
 module _ (K : ℕ) (c : Bytes) (s : List ℕ) (p e : ℕ) {k : ℕ} (n : k ≡ table_number c) where
-  pub number-high : 8 ≤ k → Refused 50 ≡ numbered_table K c s p e
+  pub number-high : 8 ≤ k → Err TableNumberOutOfRange ≡ numbered_table K c s p e
   unfolding numbered_table pick
   number-high h = rw (lt-leb (table_number c) 7 (rw n at h))
 
@@ -269,16 +266,16 @@ module _ (K : ℕ) (c : Bytes) (s : List ℕ) (p e : ℕ) {k : ℕ} (n : k ≡ t
     low-number : leb (table_number c) 7 ≡ true
     low-number = le-leb (table_number c) 7 (omega (arith, n, l))
 
-    pub number-used : u ≡ true → Refused 51 ≡ numbered_table K c s p e
+    pub number-used : u ≡ true → Err TableNumberUsed ≡ numbered_table K c s p e
     unfolding numbered_table pick
     number-used y = rw (low-number, ← n, ← m, y)
 
     module _ (y : u ≡ false) {f : Bool} (g : f ≡ bounded (table_by K c)) where
-      pub number-beyond : f ≡ false → Refused 43 ≡ numbered_table K c s p e
+      pub number-beyond : f ≡ false → Err CellBeyondBound ≡ numbered_table K c s p e
       unfolding numbered_table pick
       number-beyond z = rw (low-number, ← n, ← m, y, ← g, z)
 
-      pub number_is : f ≡ true → {w : ℕ} → w ≡ description_of K c p → Is k w e ≡ numbered_table K c s p e
+      pub number_is : f ≡ true → {w : ℕ} → w ≡ description_of K c p → Ok (k, w, e) ≡ numbered_table K c s p e
       unfolding numbered_table pick
       number_is z v = rw (low-number, ← n, ← m, y, ← g, z, v)
 
@@ -291,12 +288,12 @@ part-from d p = take_all (length d - p) (drop p d) (rw length-drop (omega arith)
 kind-at : (d : Bytes) (p : ℕ) → kind_of (drop p d) ≡ two d (p + 2)
 kind-at d p = ap₂ (λ a b. a + 256 * b) (get_or-drop p d 2 0) (get_or-drop p d 3 0 ∙ ap (λ (i : ℕ). get_or d i 0) (omega arith))
 
-module _ (d : Bytes) (s : List ℕ) (p : ℕ) {h : TableHeader} (e : header_gives h ≡ header_at (take (length d - p) (drop p d))) where
-  pub table-bad : h ≡ Bad → Refused 11 ≡ table_at d s p
+module _ (d : Bytes) (s : List ℕ) (p : ℕ) {h : Option ℕ} (e : header_gives h ≡ header_at (take (length d - p) (drop p d))) where
+  pub table-bad : h ≡ None → Err NotATable ≡ table_at d s p
   unfolding table_at pick
   table-bad q = rw (not_found (drop p d) (e ∙ ap header_at (part-from d p)) q)
 
-  module _ {n : ℕ} (q : h ≡ Record n) where
+  module _ {n : ℕ} (q : h ≡ Some n) where
     good : is_table (drop p d) ≡ true
     good = (found (drop p d) (e ∙ ap header_at (part-from d p)) q).0
 
@@ -313,7 +310,7 @@ module _ (d : Bytes) (s : List ℕ) (p : ℕ) {h : TableHeader} (e : header_give
         rw (k, long) (ap (take n) (sym (drop-drop 4 p d)))
 
     module _ {f : Bool} (g : f ≡ fits (take (p + 4 + n - (p + 4)) (drop (p + 4) d))) where
-      pub table-unfit : f ≡ false → Refused 12 ≡ table_at d s p
+      pub table-unfit : f ≡ false → Err TableOutOfRange ≡ table_at d s p
       unfolding table_at pick
       table-unfit z = rw (good, ← content, ← g, z)
 

@@ -1,6 +1,6 @@
 -- The loops that look for a cell beyond its column's bound: what holds while they run, and a law for each way out. Assumes nothing.
 use Rattle.std.proofs.Common.{◌≡◌, ℕ, ◌+◌, ◌-◌, ◌*◌, ◌%◌, ◌^◌, ◌<◌, ◌≤◌, Bool, true, false, eqb, ltb, leb, length, ℤ, nat_abs, sym, refl, ap, ◌∙◌, subst, inl, inr, mul_comm, eq-or-lt_of_le, mul-zero, mul-one, mul-add, add-one, arith, ltb-false, ltb-true, eq-eqb, ne_eqb, eqb-true, le-leb, leb-false, leb-true}
-use borrow.Author.Tests.{lt-leb, eqb-false}
+use borrow.Author.Tests.{eqb-false}
 use Rattle.spec_calculus.specs.Lists.{pick}
 use Rattle.spec_encoding.specs.Record.{Bytes, four, signed}
 use Rattle.spec_encoding.specs.Columns.{summed}
@@ -88,12 +88,11 @@ number-next c i r h = omega arith
 
 -- the first r cells are within b
 pub record Looking (c : Bytes) (i b r : ℕ) : Type 0 where
-  pub upto : r ≤ table_rows c
   pub so_far : CellsWithin c i b r
 
 module _ {c : Bytes} {i b : ℕ} where
   pub look-first : Looking c i b 0
-  look-first = record { upto = omega arith; so_far = λ r p. absurd (omega arith) }
+  look-first = record { so_far = λ r p. absurd (omega arith) }
 
   module _ {n r : ℕ} (L : Looking c i b r) (N : n ≡ table_rows c) where
     pub look-last : n ≤ r → ColumnWithinPost c i b true
@@ -102,7 +101,6 @@ module _ {c : Bytes} {i b : ℕ} where
     module _ (l : r < n) (x : ℕ) (here : content_cell c r i ≡ signed x) {t : Bool} (h : t ≡ leb (nat_abs (signed x)) b) where
       pub look-again : t ≡ true → Looking c i b (r + 1)
       look-again y = record {
-        upto = omega arith;
         so_far = λ q k. elim (eq-or-lt_of_le {n = q} {m = r} (omega arith)) [
           | inl j ↦ subst (λ (u : ℕ). nat_abs (content_cell c u i) ≤ b) (sym j) (subst (λ (z : ℤ). nat_abs z ≤ b) (sym here) (leb-true (nat_abs (signed x)) b (sym h ∙ y)))
           | inr j ↦ L.so_far q j
@@ -150,12 +148,11 @@ module _ (k : ℕ) {c : Bytes} {i b : ℕ} (P : ColumnPre c i) (B : b ≡ conten
 -- ---- the columns
 -- the first i columns keep their bounds
 pub record Keeping (c : Bytes) (i : ℕ) : Type 0 where
-  pub upto : i ≤ table_columns c
   pub so_far : (j : ℕ) → j < i → Column c j
 
 module _ {c : Bytes} where
   pub keep-first : Keeping c 0
-  keep-first = record { upto = omega arith; so_far = λ j p. absurd (omega arith) }
+  keep-first = record { so_far = λ j p. absurd (omega arith) }
 
   module _ {n i : ℕ} (K : Keeping c i) (N : n ≡ table_columns c) where
     pub keep-last : n ≤ i → true ≡ bounded (table_of c)
@@ -164,7 +161,6 @@ module _ {c : Bytes} where
     module _ (l : i < n) {t : Bool} (h : ColumnBoundedPost c i t) where
       pub keep-again : t ≡ true → Keeping c (i + 1)
       keep-again y = record {
-        upto = omega arith;
         so_far = λ j p. elim (eq-or-lt_of_le {n = j} {m = i} (omega arith)) [ inl u ↦ subst (Column c) (sym u) (h.yes y) | inr u ↦ K.so_far j u ];
       }
 

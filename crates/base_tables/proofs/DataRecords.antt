@@ -1,5 +1,5 @@
 -- Laws of the data's records: what 11, 12, 50 and 43 leave, and how a reading goes on behind a record. Assumes nothing.
-use Rattle.std.proofs.Common.{◌≡◌, ℕ, zero, suc, ◌+◌, ◌*◌, ◌<◌, ◌≤◌, Bool, true, false, not, ◌&&◌, eqb, leb, List, [], ◌∷◌, length, drop, set, refl, ap, ◌∙◌, subst, le_trans, mul-le-mul_right, mul-le-mul_left, arith, length-drop, length-take-le, drop-drop, eq-eqb, eqb-true, le-leb, leb-true}
+use Rattle.std.proofs.Common.{◌≡◌, ℕ, zero, suc, ◌+◌, ◌*◌, ◌<◌, ◌≤◌, Bool, true, false, not, ◌&&◌, leb, List, [], ◌∷◌, length, drop, set, refl, ap, ◌∙◌, subst, le_trans, mul-le-mul_right, mul-le-mul_left, arith, length-drop, length-take-le, drop-drop, eq-eqb, le-leb, leb-true, Ok, Err}
 use mathlib.Core.Bool.{and-eq-true_iff}
 use Rattle.spec_calculus.specs.Lists.{pick}
 use Rattle.spec_calculus.specs.Value.{Tables, is_there}
@@ -8,9 +8,10 @@ use Rattle.spec_encoding.specs.Data.{is_kind, is_table, table_number, table_coll
 use Rattle.spec_encoding.proofs.Data.{Fit, fit}
 use Rattle.base_signed.proofs.SignedWords.{no}
 use Rattle.base_tables.specs.Description.{description_of, present_in}
-use Rattle.base_tables.specs.DataReader.{numbered_table, table_at, descriptions_from}
-use Rattle.base_tables.specs.declared.TableRead.{TableRead}
-use Rattle.base_tables.specs.declared.TableRead.TheVariants.{Is, Refused}
+use Rattle.base_tables.specs.DataReader.{TableRead, numbered_table, table_at, descriptions_from}
+use Rattle.base_refusals.specs.declared.Refusal.{Refusal}
+use Rattle.base_refusals.specs.declared.Refusal.TheVariants.{NotATable, TableOutOfRange, CellBeyondBound, TableNumberOutOfRange, TableNumberUsed}
+use Rattle.base_refusals.specs.Numbers.{number_of}
 
 -- a test, and the facts that it tests
 pub passes : (t : Bool) {F : Type 0} → (t ≡ true → F) → (F → ⊥) → t ≡ false
@@ -103,11 +104,11 @@ tested d p a b m u f =
     pick a
     (pick b
     (pick m
-    (pick u (Refused 51)
-    (pick f (Is (table_number (content_at d p)) (description_of (kind_at d p) (content_at d p) (p + 4 + bounds_at)) (p + 4 + length_of (drop p d))) (Refused 43)))
-    (Refused 50))
-    (Refused 12))
-    (Refused 11)
+    (pick u (Err TableNumberUsed)
+    (pick f (Ok (table_number (content_at d p), description_of (kind_at d p) (content_at d p) (p + 4 + bounds_at), p + 4 + length_of (drop p d))) (Err CellBeyondBound)))
+    (Err TableNumberOutOfRange))
+    (Err TableOutOfRange))
+    (Err NotATable)
 
 -- a record that was read: table k, with the description w, and e the position behind it
 pub record ReadAt (d : Bytes) (p k w e : ℕ) : Type 0 where
@@ -119,18 +120,26 @@ pub record ReadAt (d : Bytes) (p k w e : ℕ) : Type 0 where
   pub word : description_of (kind_of (drop p d)) (content_of (drop p d)) (p + 4 + bounds_at) ≡ w
   pub next : p + 4 + length_of (drop p d) ≡ e
 
+-- what a table's reading gives is one thing
+abbrev Is : ℕ × ℕ × ℕ → TableRead
+Is x = Ok x
+
+got_are : {x y : ℕ × ℕ × ℕ} → Is x ≡ Is y → x ≡ y
+got_are h = cc
+
 -- and its number was not used
-pub read_at : (d : Bytes) (s : List ℕ) (p : ℕ) {k w e : ℕ} → table_at d s p ≡ Is k w e → ReadAt d p k w e × (present_in s k ≡ false)
+pub read_at : (d : Bytes) (s : List ℕ) (p : ℕ) {k w e : ℕ} → table_at d s p ≡ Ok (k, w, e) → ReadAt d p k w e × (present_in s k ≡ false)
 unfolding table_at numbered_table pick
 read_at d s p {k} {w} {e} h = go _ _ _ _ _ refl refl refl refl refl h
   where
     go : (a b m u f : Bool) → is_table (drop p d) ≡ a → fits (content_at d p) ≡ b → leb (table_number (content_at d p)) 7 ≡ m →
         present_in s (table_number (content_at d p)) ≡ u → bounded (table_by (kind_at d p) (content_at d p)) ≡ f →
-        tested d p a b m u f ≡ Is k w e →
+        tested d p a b m u f ≡ Ok (k, w, e) →
         ReadAt d p k w e × (present_in s k ≡ false)
     go true true true false true a b m u f h =
-        let n : table_number (content_at d p) ≡ k = cc in
-        (record { good = a; fitting = b; low = m; keeping = f; number = n; word = cc; next = cc }, subst (λ (j : ℕ). present_in s j ≡ false) n u)
+        let t = got_are h in
+        let n : table_number (content_at d p) ≡ k = ap (λ (x : ℕ × ℕ × ℕ). x.0) t in
+        (record { good = a; fitting = b; low = m; keeping = f; number = n; word = ap (λ (x : ℕ × ℕ × ℕ). x.1) t; next = ap (λ (x : ℕ × ℕ × ℕ). x.2) t }, subst (λ (j : ℕ). present_in s j ≡ false) n u)
     go true true true false false a b m u f h = no (cc)
     go true true true true f' a b m u f h = no (cc)
     go true true false u' f' a b m u f h = no (cc)
@@ -171,17 +180,17 @@ module _ {d : Bytes} {p k w e : ℕ} (R : ReadAt d p k w e) where
     pub read-descriptions : (D : List ℕ) → descriptions_from (suc n) p D (drop p d) ≡ descriptions_from n e (set D k w) (drop e d)
     read-descriptions D = rw (descriptions-one n p D (drop p d) q, R.number, R.word, R.next, next-bytes)
 
-pub refused-at : (d : Bytes) (s : List ℕ) (T : Tables) → ((k : ℕ) → present_in s k ≡ is_there T k) → (p n : ℕ) {x : ℕ} → 0 < length (drop p d) →
-    table_at d s p ≡ Refused x → tables_from (suc n) T (drop p d) ≡ refused x
+pub refused-at : (d : Bytes) (s : List ℕ) (T : Tables) → ((k : ℕ) → present_in s k ≡ is_there T k) → (p n : ℕ) {x : Refusal} → 0 < length (drop p d) →
+    table_at d s p ≡ Err x → tables_from (suc n) T (drop p d) ≡ refused (number_of x)
 unfolding table_at numbered_table pick require
 refused-at d s T same p n {x} q h =
     let c = content_at d p in
     tables-one n T (drop p d) q ∙ go (is_table (drop p d)) (fits c) (leb (table_number c) 7) (is_there T (table_number c)) (bounded (table_by (kind_at d p) c)) (rw same at h)
   where
     go : (a b m u f : Bool) →
-        tested d p a b m u f ≡ Refused x →
+        tested d p a b m u f ≡ Err x →
         require 11 a (require 12 b (require 50 m (require 51 (not u) (require 43 f
-        (tables_from n (set T (table_number (content_at d p)) (table_by (kind_at d p) (content_at d p))) (behind (drop p d))))))) ≡ refused x
+        (tables_from n (set T (table_number (content_at d p)) (table_by (kind_at d p) (content_at d p))) (behind (drop p d))))))) ≡ refused (number_of x)
     go true true true false true h = no (cc)
     go true true true false false h = cc
     go true true true true f h = cc

@@ -1,5 +1,5 @@
 -- Tables and their descriptions, each at its number: what holds of both from record to record. Assumes nothing.
-use Rattle.std.proofs.Common.{◌≡◌, ℕ, zero, suc, ◌+◌, ◌<◌, ◌≤◌, Bool, true, false, not, eqb, ltb, leb, ◌⊎◌, List, [], ◌∷◌, length, get_or, drop, set, replicate, sym, refl, ap, ◌∙◌, subst, inl, inr, ⊎_elim, one-add, arith, length-set, get_or-set_other, get_or-set_same, ltb-false, ltb-true, eqb-true, le-leb, leb-false}
+use Rattle.std.proofs.Common.{◌≡◌, ℕ, zero, suc, ◌+◌, ◌<◌, true, false, not, eqb, ltb, leb, ◌⊎◌, List, [], ◌∷◌, length, get_or, drop, set, replicate, sym, refl, ap, ◌∙◌, subst, inl, inr, ⊎_elim, one-add, arith, length-set, get_or-set_other, get_or-set_same, ltb-false, ltb-true, eqb-true, le-leb, leb-false}
 use borrow.Author.Tests.{eqb-false}
 use lib.ListN.{get_or-eq_default}
 use Rattle.spec_calculus.specs.Lists.{pick}
@@ -11,7 +11,7 @@ use Rattle.spec_calculus.proofs.Truths.{not-true}
 use Rattle.base_signed.proofs.SignedWords.{by-test, no}
 use Rattle.base_tables.specs.Description.{most_tables, description_of, columns_in, subset_in, table_in, present_in, Describes}
 use Rattle.base_tables.specs.DataReader.{descriptions_from, descriptions}
-use Rattle.base_tables.proofs.DataRecords.{kind_at, content_at, tables-one, tables-ninth, tables-none, descriptions-none, ReadAt, read-fit, number-few, read-tables, read-descriptions}
+use Rattle.base_tables.proofs.DataRecords.{kind_at, content_at, tables-one, tables-ninth, tables-none, descriptions-none, ReadAt, number-few, read-tables, read-descriptions}
 use Rattle.base_tables.proofs.TableCells.{described-same, described-here, full-here}
 
 -- each table of T is described by the word at its number in D, and where there is none that word is 0; no word leaves a row out

@@ -1,15 +1,17 @@
 -- The loop of `read_data`: what holds while it runs, and a law for each way out. Assumes nothing.
-use Rattle.std.proofs.Common.{◌≡◌, ℕ, suc, ◌+◌, ◌-◌, ◌*◌, ◌<◌, ◌≤◌, false, eqb, List, length, get_or, drop, set, replicate, sym, refl, ap, ◌∙◌, subst, inr, arith, length-drop, length-set, drop_of_length-le, get_or-set_other, get_or-set_same, eqb-true}
+use Rattle.std.proofs.Common.{◌≡◌, ℕ, suc, ◌+◌, ◌-◌, ◌*◌, ◌<◌, ◌≤◌, false, eqb, List, length, get_or, drop, set, replicate, sym, refl, ap, ◌∙◌, subst, inr, arith, length-drop, length-set, drop_of_length-le, get_or-set_other, get_or-set_same, eqb-true, Ok, Err}
 use borrow.Author.Tests.{eqb-false}
 use lib.ListN.{get_or-replicate}
 use Rattle.spec_calculus.specs.Value.{Tables, is_there, no_tables}
-use Rattle.spec_encoding.specs.Record.{Bytes, refused, got, content_of}
+use Rattle.spec_encoding.specs.Record.{Bytes, refused, got}
 use Rattle.spec_encoding.specs.Data.{table_by, tables_from, read_data}
 use Rattle.base_scratch.specs.ZeroedWords.{WipePost}
 use Rattle.base_signed.proofs.SignedWords.{by-test, no}
 use Rattle.base_tables.specs.Description.{most_tables}
-use Rattle.base_tables.specs.DataReader.{table_at, descriptions_from, descriptions, refusal_number, Stored, ReadDataPost}
-use Rattle.base_tables.specs.declared.TableRead.TheVariants.{Is, Refused}
+use Rattle.base_tables.specs.DataReader.{table_at, descriptions_from, descriptions, refusal_number, ReadDataPost}
+use Rattle.base_refusals.specs.declared.Refusal.{Refusal}
+use Rattle.base_refusals.specs.declared.Refusal.TheVariants.{}
+use Rattle.base_refusals.specs.Numbers.{number_of}
 use Rattle.base_tables.proofs.DataRecords.{kind_at, content_at, tables-ninth, tables-none, descriptions-none, refused-at, ReadAt, read_at, number-few, next-far, next-within, next-near, read-tables, read-descriptions}
 use Rattle.base_tables.proofs.NumberedTables.{Numbered, numbered-first, numbered_next, present-word}
 
@@ -69,20 +71,20 @@ module _ {d : Bytes} {s₀ s : List ℕ} {p n : ℕ} (g : ReadLoop d s₀ s p n)
     pub going-ninth : n ≡ 8 → ReadDataPost d s₀ s 13
     going-ninth e = no-more (g.rest ∙ rw (e, tables-ninth g.done (drop p d) some))
 
-    pub going-falls : {k w e : ℕ} → table_at d s p ≡ Is k w e → length d - e < length d - p
+    pub going-falls : {k w e : ℕ} → table_at d s p ≡ Ok (k, w, e) → length d - e < length d - p
     going-falls h = let R = (read_at d s p h).0 in omega (arith, next-far R, next-within R g.within)
 
-    pub going-number : {k w e : ℕ} → table_at d s p ≡ Is k w e → k < 8
+    pub going-number : {k w e : ℕ} → table_at d s p ≡ Ok (k, w, e) → k < 8
     going-number h = number-few (read_at d s p h).0
 
     module _ (ne : n ≡ 8 → ⊥) where
       left : 8 - n ≡ suc (8 - (n + 1))
       left = omega arith
 
-      pub going-refused : {x : ℕ} → table_at d s p ≡ Refused x → ReadDataPost d s₀ s x
+      pub going-refused : {x : Refusal} → table_at d s p ≡ Err x → ReadDataPost d s₀ s (number_of x)
       going-refused e = no-more (g.rest ∙ rw (left, refused-at d s g.done (present-word g.numbered s g.each) p (8 - (n + 1)) some e))
 
-      module _ {k w e : ℕ} (h : table_at d s p ≡ Is k w e) {s' : List ℕ} (z : s' ≡ set s (1 + k) w) where
+      module _ {k w e : ℕ} (h : table_at d s p ≡ Ok (k, w, e)) {s' : List ℕ} (z : s' ≡ set s (1 + k) w) where
         R : ReadAt d p k w e
         R = (read_at d s p h).0
 

@@ -1,5 +1,5 @@
 -- A subset of a table's rows: which rows it has, and that the word with its bits describes them.
-use Rattle.std.proofs.Common.{◌≡◌, ℕ, zero, suc, ◌+◌, ◌-◌, ◌*◌, ◌/◌, ◌%◌, ◌^◌, ◌<◌, ◌≤◌, Bool, true, false, eqb, ltb, List, [], ◌∷◌, length, get_or, ℤ, pos, nat_abs, sym, refl, ap, ◌∙◌, subst, ap₂, one-add, arith, ltb-false, ltb-true, le-ltb, lt-ltb, eq-eqb, ne_eqb, eqb-true}
+use Rattle.std.proofs.Common.{◌≡◌, ℕ, zero, suc, ◌+◌, ◌-◌, ◌*◌, ◌/◌, ◌%◌, ◌^◌, ◌<◌, ◌≤◌, true, false, eqb, ltb, List, [], ◌∷◌, length, get_or, ℤ, pos, sym, refl, ap, ◌∙◌, ap₂, arith, ltb-false, ltb-true, le-ltb, lt-ltb, eq-eqb, ne_eqb, eqb-true}
 use native.Mathlib.Nat.{pow-succ', pow-le-pow_right}
 use borrow.Author.Tests.{eqb-false}
 use Rattle.spec_calculus.specs.Lists.{pick}
@@ -7,7 +7,7 @@ use Rattle.spec_calculus.specs.Value.{Value, Values, vcons, num, rec, junk, as_i
 use Rattle.spec_calculus.proofs.Lists.{All}
 use Rattle.spec_encoding.specs.Record.{Bytes, signed}
 use Rattle.base_signed.proofs.SignedWords.{by-test}
-use Rattle.base_tables.specs.Description.{one_row, one_subset, one_position, collection_in, columns_in, rows_in, kind_in, subset_in, full_in, position_in, subset_rows, ones_in, kept_row, kept, whole_in, without_in, stored_word_in, word_in, cell_in, cells_in, bound_in, collection_number, Describes}
+use Rattle.base_tables.specs.Description.{one_row, one_subset, one_position, collection_in, columns_in, rows_in, subset_in, position_in, subset_rows, ones_in, kept_row, kept, whole_in, without_in, stored_word_in, word_in, cell_in, cells_in, bound_in, collection_number, Describes}
 
 -- ---- how many are left out
 pub ones-next : (i x n : ℕ) {t : ℕ} → i < 12 → n + ones_in (12 - i) x ≡ t → n + x % 2 + ones_in (12 - (i + 1)) (x / 2) ≡ t

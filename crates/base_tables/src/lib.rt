@@ -2,6 +2,7 @@
 #![tactic(auto)]
 
 ghost use Rattle.std.specs.Prelude.{◌≡◌, ◌+◌, ◌*◌, ◌^◌, ◌<◌, ◌≤◌, true, length, ◌==◌, nat_le, slice_index, unsigned_abs};
+ghost use Rattle.base_refusals.specs.Numbers.{outcome_number};
 ghost use Rattle.spec_encoding.specs.Record.{four, signed};
 ghost use Rattle.spec_encoding.specs.Columns.{plus, unfolded, summed};
 ghost use Rattle.spec_encoding.specs.Data.{fits, is_kind, content_by_rows, content_by, table_by, bounded};
@@ -10,6 +11,8 @@ ghost use Rattle.base_tables.specs.ColumnBounds.{ColumnPre, ColumnWithinPost, Co
 ghost use Rattle.base_tables.specs.DataReader.{header_gives, header_at, numbered_table, table_at, ReadDataPost};
 ghost use Rattle.base_tables.specs.Stretches.{Stretchable, StretchPre, StretchPost};
 
+use base_bytes::{byte_at, two_at};
+use base_refusals::Refusal;
 use base_scratch::{DESCRIPTIONS, load, store, wipe};
 
 // "Data is 0 to 8 such records", numbered 0 to 7.
@@ -65,48 +68,14 @@ pub const SUBSET_ROWS: usize = 12;
 // 2^33, half of the positions that such a word has: from below it a position can be moved by a table's bytes.
 const LOW_POSITIONS: u64 = 8589934592;
 
-// A whole record of kind 20 or 23 with the length of its content, or none.
-#[derive(Clone, Copy)]
-pub enum TableHeader {
-    Record(usize),
-    Bad,
-}
-
-// A table's number, its description and the position behind its record, or the refusal's number.
-#[derive(Clone, Copy)]
-pub enum TableRead {
-    Is(usize, u64, usize),
-    Refused(u64),
-}
-
-// A cast of a parameter asks no proof where it is used.
-fn wide(x: u8) -> usize
-    ensures { (result ≡ x) × (result < 256) }
-{
-    x as usize
-}
-
-// A byte; 0 outside.
-pub fn byte_at(s: &[u8], i: usize) -> usize
-    ensures { (result ≡ slice_index s.now i) × (result < 256) }
-{
-    if i < s.len() { wide(s[i]) } else { 0 }
-}
-
-// Two bytes, little-endian.
-pub fn two_at(s: &[u8], i: usize) -> usize
-    requires { i < 2 ^ 62 }
-    ensures { (result ≡ slice_index s.now i + 256 * slice_index s.now (i + 1)) × (result < 65536) }
-{
-    byte_at(s, i) + 256 * byte_at(s, i + 1)
-}
-
 // Four bytes, little-endian, where all are there. No test, so that a loop over many cells makes none.
 pub fn four_in(s: &[u8], i: usize) -> usize
     requires { i + 4 ≤ length s.now }
     ensures { (result ≡ four s.now i) × (result < 2 ^ 32) }
 {
-    wide(s[i]) + 256 * wide(s[i + 1]) + 65536 * (wide(s[i + 2]) + 256 * wide(s[i + 2 + 1]))
+    usize::from(s[i])
+        + 256 * usize::from(s[i + 1])
+        + 65536 * (usize::from(s[i + 2]) + 256 * usize::from(s[i + 2 + 1]))
 }
 
 // The same anywhere. One test where all are there: a cell is read for each pair of rows.
@@ -150,24 +119,20 @@ fn sum_in(s: &[u8], p: usize, n: usize) -> u32
     ensures { result ≡ summed s.now p n }
 {
     let mut x: u32 = 0;
-    let mut r = 0;
-    while r < n {
+    for r in 0..n {
         x = below(x, word_in(s, p + 4 * r));
-        r += 1;
     }
     x
 }
 
-// The same wherever they stand.
+// The same wherever they stand. A loop of its own: one with the reader as a parameter is no plainer.
 fn sum_at(s: &[u8], p: usize, n: usize) -> u32
     requires { (p < 2 ^ 60) × (n ≤ 2048) }
     ensures { result ≡ summed s.now p n }
 {
     let mut x: u32 = 0;
-    let mut r = 0;
-    while r < n {
+    for r in 0..n {
         x = below(x, word_at(s, p + 4 * r));
-        r += 1;
     }
     x
 }
@@ -200,21 +165,21 @@ fn is_table(kind: usize) -> bool
     kind == base_syntax::KIND_COLUMNS
 }
 
-// "a record cut short or not kind 20", nor 23
-pub fn read_header(s: &[u8]) -> TableHeader
+// The length of its content; not of "a record cut short or not kind 20", nor 23.
+pub fn read_header(s: &[u8]) -> Option<usize>
     ensures { header_gives result ≡ header_at s.now }
 {
     if s.len() < 4 {
-        return TableHeader::Bad;
+        return None;
     }
     let n = two_at(s, 0);
     if s.len() - 4 < n {
-        return TableHeader::Bad;
+        return None;
     }
     if is_table(two_at(s, 2)) {
-        return TableHeader::Record(n);
+        return Some(n);
     }
-    TableHeader::Bad
+    None
 }
 
 // "12: collection, columns or rows outside their ranges, or a length that does not match"
@@ -260,15 +225,12 @@ fn column_within(c: &[u8], i: usize, b: usize) -> bool
 {
     let n = two_at(c, ROWS_AT);
     let step = 4 * byte_at(c, COLUMNS_AT);
-    let mut r = 0;
     let mut p = BOUNDS_AT + step + 4 * i;
-    while r < n {
-        if cell_within(four_in(c, p), b) {
-            r += 1;
-            p += step;
-        } else {
+    for _r in 0..n {
+        if !cell_within(four_in(c, p), b) {
             return false;
         }
+        p += step;
     }
     true
 }
@@ -281,15 +243,12 @@ fn sums_within(c: &[u8], i: usize, b: usize) -> bool
     let n = two_at(c, ROWS_AT);
     let mut p = BOUNDS_AT + 4 * byte_at(c, COLUMNS_AT) + 4 * cells(i, n);
     let mut x: u32 = 0;
-    let mut r = 0;
-    while r < n {
+    for _r in 0..n {
         x = below(x, word_in(c, p));
-        if cell_within(x as usize, b) {
-            r += 1;
-            p += 4;
-        } else {
+        if !cell_within(x as usize, b) {
             return false;
         }
+        p += 4;
     }
     true
 }
@@ -314,12 +273,8 @@ pub fn columns_bounded(c: &[u8], kind: usize) -> bool
     requires { fits c.now ≡ true }
     ensures { result ≡ bounded (table_by kind c.now) }
 {
-    let n = byte_at(c, COLUMNS_AT);
-    let mut i = 0;
-    while i < n {
-        if column_bounded(c, kind, i) {
-            i += 1;
-        } else {
+    for i in 0..byte_at(c, COLUMNS_AT) {
+        if !column_bounded(c, kind, i) {
             return false;
         }
     }
@@ -479,11 +434,9 @@ fn ones(m: u64) -> u64
 {
     let mut x = m;
     let mut n = 0;
-    let mut i = 0;
-    while i < SUBSET_ROWS {
+    for _i in 0..SUBSET_ROWS {
         n += x % 2;
         x = x / 2;
-        i += 1;
     }
     n
 }
@@ -495,17 +448,15 @@ fn kept_row(m: u64, r: usize) -> usize
 {
     let mut x = m;
     let mut before = r;
-    let mut q = 0;
-    while q < SUBSET_ROWS {
+    for q in 0..SUBSET_ROWS {
         let here = 1 - (x % 2) as usize;
         if before < here {
             return q;
         }
         before -= here;
         x = x / 2;
-        q += 1;
     }
-    q
+    SUBSET_ROWS
 }
 
 // The description of all rows that are stored, where w leaves those of m out.
@@ -579,32 +530,38 @@ pub fn bound(data: &[u8], w: u64, c: usize) -> u64
     four_at(data, first - 4 * width + 4 * c) as u64
 }
 
-// The table with this content, of a record of this kind, whose bounds begin at p and whose record ends before next; scratch has those of
-// the records before.
-fn numbered_table(c: &[u8], kind: usize, scratch: &[u64], p: usize, next: usize) -> TableRead
+// The table with this content, of a record of this kind, whose bounds begin at p and whose record ends before next: its number, its
+// description and next. Scratch has those of the records before.
+fn numbered_table(
+    c: &[u8],
+    kind: usize,
+    scratch: &[u64],
+    p: usize,
+    next: usize,
+) -> Result<(usize, u64, usize), Refusal>
     requires { (fits c.now ≡ true) × (p < 2 ^ 33) }
     ensures { result ≡ numbered_table kind c.now scratch.now p next }
 {
     let k = byte_at(c, NUMBER_AT);
     if MOST_TABLES <= k {
-        return TableRead::Refused(base_refusals::TABLE_NUMBER_OUT_OF_RANGE);
+        return Err(Refusal::TableNumberOutOfRange);
     }
     if present(scratch, k) {
-        return TableRead::Refused(base_refusals::TABLE_NUMBER_USED);
+        return Err(Refusal::TableNumberUsed);
     }
     if columns_bounded(c, kind) {
-        return TableRead::Is(k, describe(c, kind, p), next);
+        return Ok((k, describe(c, kind, p), next));
     }
-    TableRead::Refused(base_refusals::CELL_BEYOND_BOUND)
+    Err(Refusal::CellBeyondBound)
 }
 
 // The record that begins at p.
-fn table_at(data: &[u8], scratch: &[u64], p: usize) -> TableRead
+fn table_at(data: &[u8], scratch: &[u64], p: usize) -> Result<(usize, u64, usize), Refusal>
     requires { (p ≤ length «data».now) × (p < 2 ^ 32) }
     ensures { result ≡ table_at «data».now scratch.now p }
 {
-    let TableHeader::Record(n) = read_header(&data[p..]) else {
-        return TableRead::Refused(base_refusals::NOT_A_TABLE);
+    let Some(n) = read_header(&data[p..]) else {
+        return Err(Refusal::NotATable);
     };
     let from = p + 4;
     let next = from + n;
@@ -617,32 +574,26 @@ fn table_at(data: &[u8], scratch: &[u64], p: usize) -> TableRead
             next,
         );
     }
-    TableRead::Refused(base_refusals::TABLE_OUT_OF_RANGE)
+    Err(Refusal::TableOutOfRange)
 }
 
 // "the data, earliest record first, 13 before 11 before 12"; "50 .. 51 .. both at their record, after 12 and before 43".
-// Answers the refusal's number, or 0 with each table's description at its number.
-pub fn read_data(data: &[u8], scratch: &mut [u64]) -> u64
+// Leaves each table's description at its number.
+pub fn read_data(data: &[u8], scratch: &mut [u64]) -> Result<(), Refusal>
     requires { 9 ≤ length scratch.old }
-    ensures { ReadDataPost «data».now scratch.old scratch.new result }
+    ensures { ReadDataPost «data».now scratch.old scratch.new (outcome_number result) }
 {
     wipe(scratch, DESCRIPTIONS, DESCRIPTIONS + MOST_TABLES);
     let mut p = 0;
     let mut n = 0;
     while p < data.len() {
         if n == MOST_TABLES {
-            return base_refusals::TOO_MANY_TABLES;
+            return Err(Refusal::TooManyTables);
         }
-        match table_at(data, scratch, p) {
-            TableRead::Refused(x) => {
-                return x;
-            }
-            TableRead::Is(k, w, next) => {
-                n += 1;
-                store(scratch, DESCRIPTIONS + k, w);
-                p = next;
-            }
-        }
+        let (k, w, next) = table_at(data, scratch, p)?;
+        n += 1;
+        store(scratch, DESCRIPTIONS + k, w);
+        p = next;
     }
-    0
+    Ok(())
 }

@@ -56,19 +56,23 @@ module _ (c : Bytes) (n k : ℕ) (inv : rates_fit (steps_from c 1 n) ≡ rates_f
 
 -- ---- uppers_rise
 module _ (c : Bytes) (n k : ℕ) (inv : rising (steps_from c 1 n) ≡ rising (rest c n k)) where
-  module _ (h : k + 1 < n) {x y : ℕ} (ex : x ≡ four c (1 + 8 * k)) (ey : y ≡ four c (1 + 8 * (k + 1))) where
+  module _ {j : ℕ} (e : j ≡ k + 1) (h : j < n) {x y : ℕ} (ex : x ≡ four c (1 + 8 * k)) (ey : y ≡ four c (1 + 8 * j)) where
+    lower : y ≡ four c (1 + 8 * (k + 1))
+    lower = ey ∙ ap (λ (i : ℕ). four c (1 + 8 * i)) e
+
     pair : rising (steps_from c 1 n) ≡ ltb (four c (1 + 8 * k)) (four c (1 + 8 * (k + 1))) && rising (rest c n (k + 1))
     unfolding rising step_at
     pair =
+        let m : k + 1 < n = omega (arith, e, h) in
         at_next c n rising k (omega arith) inv
-        ∙ ap (λ (l : List TariffStep). rising (step_at c (1 + 8 * k) ∷ l)) (rest-next c n (k + 1) h)
-        ∙ ap (λ (l : List TariffStep). ltb (four c (1 + 8 * k)) (four c (1 + 8 * (k + 1))) && rising l) (sym (rest-next c n (k + 1) h))
+        ∙ ap (λ (l : List TariffStep). rising (step_at c (1 + 8 * k) ∷ l)) (rest-next c n (k + 1) m)
+        ∙ ap (λ (l : List TariffStep). ltb (four c (1 + 8 * k)) (four c (1 + 8 * (k + 1))) && rising l) (sym (rest-next c n (k + 1) m))
 
-    pub upper-goes : x < y → rising (steps_from c 1 n) ≡ rising (rest c n (k + 1))
-    upper-goes l = pair ∙ ap (λ (b : Bool). b && rising (rest c n (k + 1))) (lt-ltb (four c (1 + 8 * k)) (four c (1 + 8 * (k + 1))) (omega (arith, ex, ey)))
+    pub upper-goes : x < y → rising (steps_from c 1 n) ≡ rising (rest c n (j + 1 - 1))
+    upper-goes l = let i : k + 1 ≡ j + 1 - 1 = omega (arith, e) in pair ∙ ap (λ (b : Bool). b && rising (rest c n (k + 1))) (lt-ltb (four c (1 + 8 * k)) (four c (1 + 8 * (k + 1))) (omega (arith, ex, lower))) ∙ ap (λ (m : ℕ). rising (rest c n m)) i
 
     pub upper-stops : y ≤ x → false ≡ rising (steps_from c 1 n)
-    upper-stops l = sym (pair ∙ ap (λ (b : Bool). b && rising (rest c n (k + 1))) (le-ltb (four c (1 + 8 * k)) (four c (1 + 8 * (k + 1))) (omega (arith, ex, ey))))
+    upper-stops l = sym (pair ∙ ap (λ (b : Bool). b && rising (rest c n (k + 1))) (le-ltb (four c (1 + 8 * k)) (four c (1 + 8 * (k + 1))) (omega (arith, ex, lower))))
 
   pub uppers-end : n ≤ k + 1 → true ≡ rising (steps_from c 1 n)
   unfolding steps_from rising

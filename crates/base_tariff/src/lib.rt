@@ -37,26 +37,19 @@ const MOST_CENTS: u64 = 10000000;
 // "metres begun are the draught divided by 100, rounded up"
 const METRE: u64 = 100;
 
-// A cast of a parameter asks no proof where it is used.
-fn wide(x: u32) -> u64
-    ensures { (result ≡ x) × (result < 2 ^ 32) }
-{
-    x as u64
-}
-
 // The upper draught and the rate of step k.
 fn upper(c: &[u8], k: usize) -> u64
     requires { k < 256 }
     ensures { (result ≡ four c.now (1 + 8 * k)) × (result < 2 ^ 32) }
 {
-    wide(word_at(c, FIRST_STEP + STEP_BYTES * k))
+    u64::from(word_at(c, FIRST_STEP + STEP_BYTES * k))
 }
 
 fn rate(c: &[u8], k: usize) -> u64
     requires { k < 256 }
     ensures { (result ≡ four c.now (1 + 8 * k + 4)) × (result < 2 ^ 32) }
 {
-    wide(word_at(c, FIRST_STEP + STEP_BYTES * k + RATE_AT))
+    u64::from(word_at(c, FIRST_STEP + STEP_BYTES * k + RATE_AT))
 }
 
 // The minimum charge stands behind the steps.
@@ -64,7 +57,7 @@ fn minimum(c: &[u8], n: usize) -> u64
     requires { n < 256 }
     ensures { (result ≡ four c.now (1 + 8 * n)) × (result < 2 ^ 32) }
 {
-    wide(word_at(c, FIRST_STEP + STEP_BYTES * n))
+    u64::from(word_at(c, FIRST_STEP + STEP_BYTES * n))
 }
 
 // "rising strictly"
@@ -72,12 +65,9 @@ fn uppers_rise(c: &[u8], n: usize) -> bool
     requires { n < 256 }
     ensures { result ≡ rising (steps_from c.now 1 n) }
 {
-    let mut k = 0;
-    while k + 1 < n {
-        let x = upper(c, k);
-        if x < upper(c, k + 1) {
-            k += 1;
-        } else {
+    for k in 1..n {
+        let x = upper(c, k - 1);
+        if upper(c, k) <= x {
             return false;
         }
     }
@@ -88,11 +78,8 @@ fn rates_fit(c: &[u8], n: usize) -> bool
     requires { n < 256 }
     ensures { result ≡ rates_fit (steps_from c.now 1 n) }
 {
-    let mut k = 0;
-    while k < n {
-        if rate(c, k) <= MOST_CENTS {
-            k += 1;
-        } else {
+    for k in 0..n {
+        if MOST_CENTS < rate(c, k) {
             return false;
         }
     }
@@ -177,12 +164,10 @@ fn rate_of(c: &[u8], h: u64) -> u64
     ensures { RatePost c.now h result }
 {
     let n = byte_at(c, 0);
-    let mut k = 0;
-    while k < n {
+    for k in 0..n {
         if h <= upper(c, k) {
             return rate(c, k);
         }
-        k += 1;
     }
     0
 }
@@ -194,21 +179,14 @@ fn metres_begun(h: u64) -> u64
     (h + (METRE - 1)) / METRE
 }
 
-// "the greater of rate times metres and minimum"
-fn greater(x: u64, y: u64) -> u64
-    ensures { result ≡ max x y }
-{
-    if x < y { y } else { x }
-}
-
-// The charge by a content for the draught h, in centimetres.
+// The charge by a content for the draught h, in centimetres: "the greater of rate times metres and minimum".
 fn charge(c: &[u8], h: u64) -> u64
     requires { h ≤ 2 ^ 63 }
     ensures { ChargePost c.now h result }
 {
     let x = rate_of(c, h);
     let m = metres_begun(h);
-    greater(x * m, minimum(c, byte_at(c, 0)))
+    (x * m).max(minimum(c, byte_at(c, 0)))
 }
 
 // The cents of a draught that 46 lets pass.

@@ -37,10 +37,8 @@ pub fn say(text: &mut [u8], limit: usize, p: usize, b: &[u8]) -> usize
     ensures { Lays limit b.now text.old p text.new result }
 {
     let mut q = p;
-    let mut i = 0;
-    while i < b.len() {
+    for i in 0..b.len() {
         q = put(text, limit, q, b[i]);
-        i += 1;
     }
     q
 }

@@ -1,19 +1,17 @@
 -- One law for each way out of the functions that lay a calendar's windows into scratch or go through those that stand there.
 use mathlib.Core.Path.{◌≡◌, refl, sym, ap, ◌∙◌}
-use mathlib.Core.List.{List, [], ◌∷◌}
+use mathlib.Core.List.{List, []}
 use mathlib.Core.Bool.{Bool, true, false, ◌||◌}
 use Prim.Native.Nat.{ℕ, zero, suc, ◌+◌, ◌-◌, ◌*◌, ◌%◌, ◌≤◌, ◌<◌}
 use native.Mathlib.Omega.{arith}
-use lib.Dec.{ltb}
-use lib.ListN.{length, get_or, set, length-set, get_or-eq_default, take, drop}
+use lib.ListN.{length, get_or, set, get_or-eq_default, take, drop}
 use borrow.Author.Tests.{lt-ltb, le-ltb}
 use Rattle.spec_calculus.specs.Lists.{pick}
 use Rattle.spec_calendar.specs.Hours.{Window, Calendar, calendar_of, holds, in_window}
 use Rattle.spec_encoding.specs.Record.{Bytes, byte}
 use Rattle.spec_hours.specs.CalendarBytes.{window_at, windows_from, windows_of, calendars_of}
-use Rattle.base_calendars.specs.Contract.{Stands, FindPost}
-use Rattle.base_calendars.specs.declared.LentCalendar.{LentCalendar}
-use Rattle.base_calendars.specs.declared.LentCalendar.TheVariants.{Content, Missing}
+use Rattle.base_calendars.specs.Contract.{FindPost}
+use Rattle.std.specs.Prelude.{Option, Some, None}
 use Rattle.base_calendars.proofs.Windows.{windows-next}
 use Rattle.base_calendars.proofs.Finding.{found, not_found}
 use Rattle.base_hours.proofs.Exits.{left_from, all-windows, no-windows}
@@ -34,22 +32,16 @@ module _ (c : Bytes) (a : ℕ) (s₀ : List ℕ) where
   whole = laid_from (a + 1) (windows_of c) s₀
 
   pub record Laying (n : ℕ) (s : List ℕ) (k : ℕ) : Type 0 where
-    pub most : k ≤ n
-    pub long : length s ≡ length s₀
     pub rest : whole ≡ laid_from (a + 1 + k) (left_from c n k) s
 
   pub lay-first : {n : ℕ} → n ≡ byte c 0 → Laying n s₀ 0
   lay-first {n} e = record {
-    most = omega arith;
-    long = refl;
     rest = ap (λ (w : Calendar). laid_from (a + 1) w s₀) (all-windows c e) ∙ ap (λ (j : ℕ). laid_from j (left_from c n 0) s₀) (omega arith);
   }
 
   pub lay-again : {n k : ℕ} {s t : List ℕ} {x : Window} {w : ℕ} → Laying n s k → k < n → x ≡ window_at c (1 + 5 * k) → w ≡ packed x → t ≡ set s (a + 1 + k) w → Laying n t (k + 1)
   unfolding laid_from
   lay-again {n} {k} {s} {t} L l ex ew et = record {
-    most = omega arith;
-    long = ap length et ∙ length-set s (a + 1 + k) _ ∙ L.long;
     rest = L.rest ∙ ap (λ (d : Calendar). laid_from (a + 1 + k) d s) (windows-next c n k l)
         ∙ ap (λ (r : List ℕ). laid_from (a + 1 + k + 1) (left_from c n (k + 1)) r) (ap (λ (y : Window). set s (a + 1 + k) (packed y)) (sym ex) ∙ ap (set s (a + 1 + k)) (sym ew) ∙ sym et)
         ∙ ap (λ (j : ℕ). laid_from j (left_from c n (k + 1)) t) (omega arith);
@@ -61,12 +53,12 @@ module _ (c : Bytes) (a : ℕ) (s₀ : List ℕ) where
       sym (L.rest ∙ ap (λ (d : Calendar). laid_from (a + 1 + k) d s) (no-windows c n k h)) ∙ ap (laid_from (a + 1) (windows_of c)) (p ∙ ap (set r a) (counted c e))
 
 -- ---- keep_one
-module _ {l : Bytes} {k : ℕ} {r : LentCalendar} (F : FindPost l k r) (s : List ℕ) where
-  pub keep-found : {a b : ℕ} → r ≡ Content a b → {t : List ℕ} → let c = windows_of (take (b - a) (drop a l)) in
+module _ {l : Bytes} {k : ℕ} {r : Option (ℕ × ℕ)} (F : FindPost l k r) (s : List ℕ) where
+  pub keep-found : {a b : ℕ} → r ≡ Some (a, b) → {t : List ℕ} → let c = windows_of (take (b - a) (drop a l)) in
       t ≡ laid_from (count_at k + 1) c (set s (count_at k) (length c)) → t ≡ laid k (calendar_of (calendars_of l) k) s
   keep-found e q = q ∙ ap (λ (c : Calendar). laid k c s) (sym (found F e).windows)
 
-  pub keep-missing : r ≡ Missing → {t : List ℕ} → t ≡ set s (count_at k) 0 → t ≡ laid k (calendar_of (calendars_of l) k) s
+  pub keep-missing : r ≡ None → {t : List ℕ} → t ≡ set s (count_at k) 0 → t ≡ laid k (calendar_of (calendars_of l) k) s
   unfolding laid_from
   keep-missing e q = q ∙ ap (λ (c : Calendar). laid k c s) (sym (get_or-eq_default (calendars_of l) [] (not_found F e)))
 
@@ -80,15 +72,11 @@ module _ (s : List ℕ) (n w m : ℕ) where
   far h = sym (ap (λ (b : Bool). in_window (pick b (windows_in s (count_at n + 1) (get_or s (count_at n) 0 % 64)) []) w m) (le-ltb n 4 h))
 
   pub record Seeking (e k : ℕ) : Type 0 where
-    pub most : k ≤ e
-    pub few : e < 64
     pub rest : in_window (calendar_in s n) w m ≡ in_window (left_in s (count_at n) e k) w m
 
   pub seek-first : n < 4 → {e : ℕ} → e ≡ get_or s (count_at n) 0 % 64 → Seeking e 0
   unfolding calendar_in pick
   seek-first h {e} q = record {
-    most = omega arith;
-    few = omega (arith, q);
     rest = ap (λ (b : Bool). in_window (pick b (windows_in s (count_at n + 1) (get_or s (count_at n) 0 % 64)) []) w m) (lt-ltb n 4 h)
         ∙ ap (λ (x : ℕ). in_window (windows_in s (count_at n + 1) x) w m) (sym q)
         ∙ ap (λ (a : ℕ). in_window (windows_in s a e) w m) (omega arith) ∙ ap (λ (x : ℕ). in_window (windows_in s (count_at n + 1 + 0) x) w m) (omega arith);
@@ -109,7 +97,7 @@ module _ (s : List ℕ) (n w m : ℕ) where
       seek_found h = sym (step ∙ ap (λ (t : Bool). t || in_window (left_in s (count_at n) e (k + 1)) w m) h)
 
       pub seek-again : b ≡ false → Seeking e (k + 1)
-      seek-again h = record { most = omega arith; few = S.few; rest = step ∙ ap (λ (t : Bool). t || in_window (left_in s (count_at n) e (k + 1)) w m) h }
+      seek-again h = record { rest = step ∙ ap (λ (t : Bool). t || in_window (left_in s (count_at n) e (k + 1)) w m) h }
 
     pub seek-last : e ≤ k → false ≡ in_window (calendar_in s n) w m
     unfolding windows_in in_window

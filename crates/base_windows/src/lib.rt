@@ -7,7 +7,7 @@ ghost use Rattle.spec_hours.specs.CalendarBytes.{windows_of, calendars_of};
 ghost use Rattle.base_calendars.specs.Contract.{window_in};
 ghost use Rattle.base_windows.specs.KeptCalendars.{packed, window_of, calendar_in, laid_from, laid, kept_in};
 
-use base_calendars::{DAY_MINUTES, LentCalendar, Window, find, read_window, window_count};
+use base_calendars::{DAY_MINUTES, Window, find, read_window, window_count};
 use base_dates::{DAYS, weekday};
 use base_hours::window_holds;
 use base_scratch::{CALENDAR_WORDS, CALENDARS, load, store};
@@ -50,10 +50,8 @@ fn lay(s: &mut [u64], a: usize, c: &[u8])
 {
     let n = window_count(c);
     store(s, a, n as u64);
-    let mut k = 0;
-    while k < n {
+    for k in 0..n {
         store(s, a + 1 + k, pack(read_window(c, k)));
-        k += 1;
     }
 }
 
@@ -64,8 +62,8 @@ fn keep_one(s: &mut [u64], calendars: &[u8], n: usize)
 {
     let a = CALENDARS + CALENDAR_WORDS * n;
     match find(calendars, n as u64) {
-        LentCalendar::Content(from, next) => lay(s, a, &calendars[from..next]),
-        LentCalendar::Missing => store(s, a, 0),
+        Some((from, next)) => lay(s, a, &calendars[from..next]),
+        None => store(s, a, 0),
     }
 }
 
@@ -87,12 +85,10 @@ fn in_window(s: &[u64], n: usize, w: u64, m: u64) -> bool
     }
     let a = CALENDARS + CALENDAR_WORDS * n;
     let e = (load(s, a) % COUNTS) as usize;
-    let mut k = 0;
-    while k < e {
+    for k in 0..e {
         if window_holds(unpack(load(s, a + 1 + k)), w, m) {
             return true;
         }
-        k += 1;
     }
     false
 }

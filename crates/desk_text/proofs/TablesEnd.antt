@@ -9,8 +9,7 @@ use Rattle.spec_calculus.specs.Lists.{pick}
 use Rattle.base_signed.proofs.SignedWords.{by-test}
 use Rattle.spec_encoding.specs.Record.{Bytes, length_of, behind}
 use Rattle.spec_encoding.specs.Data.{is_table}
-use Rattle.base_tables.specs.declared.TableHeader.{TableHeader}
-use Rattle.base_tables.specs.declared.TableHeader.TheVariants.{Record, Bad}
+use Rattle.std.specs.Prelude.{Option, Some, None}
 use Rattle.base_tables.specs.DataReader.{header_gives, header_at}
 use Rattle.base_tables.proofs.DataRecords.{passes, whole}
 use Rattle.base_tables.proofs.ByteReaders.{found, not_found}
@@ -68,11 +67,11 @@ module _ (s : Bytes) (p : ℕ) (P : Past s p) where
   part : take (length s - p) (drop p s) ≡ drop p s
   part = take_all (length s - p) (drop p s) (omega (arith, length-drop p s))
 
-  module _ {h : TableHeader} (e : header_gives h ≡ header_at (take (length s - p) (drop p s))) where
-    pub past-bad : h ≡ Bad → (p ≡ tables_end s) × (p ≤ length s)
+  module _ {h : Option ℕ} (e : header_gives h ≡ header_at (take (length s - p) (drop p s))) where
+    pub past-bad : h ≡ None → (p ≡ tables_end s) × (p ≤ length s)
     past-bad q = ends (not_found (drop p s) (e ∙ ap header_at part) q)
 
-    module _ {n : ℕ} (q : h ≡ Record n) where
+    module _ {n : ℕ} (q : h ≡ Some n) where
       here : (is_table (drop p s) ≡ true) × (length_of (drop p s) ≡ n)
       here = found (drop p s) (e ∙ ap header_at part) q
 

@@ -11,7 +11,7 @@ ghost use Rattle.spec_desk.specs.TablesEnd.{tables_end};
 ghost use Rattle.spec_desk.specs.Desk.{text_bytes, alone, spaced, answer_line, refusal_line, asked, desk};
 ghost use Rattle.spec_desk.specs.TextInBuffer.{Prints, FrontLength};
 
-use base_tables::{TableHeader, read_header};
+use base_tables::read_header;
 use base_text::{decimal, put, say, signed};
 use engine::{Reply, dislogha_answer_by_loops, dislogha_plan_lines};
 
@@ -21,14 +21,10 @@ fn tables_end(input: &[u8]) -> usize
 {
     let mut p = 0;
     while p < input.len() {
-        match read_header(&input[p..]) {
-            TableHeader::Bad => {
-                return p;
-            }
-            TableHeader::Record(n) => {
-                p += 4 + n;
-            }
-        }
+        let Some(n) = read_header(&input[p..]) else {
+            return p;
+        };
+        p += 4 + n;
     }
     p
 }
@@ -39,11 +35,9 @@ fn spaced_words(text: &mut [u8], limit: usize, p: usize, words: &[i64]) -> usize
     ensures words_len_bound { length (spaced words.now) ≤ 21 * length words.now }
 {
     let mut q = p;
-    let mut i = 0;
-    while i < words.len() {
+    for i in 0..words.len() {
         q = put(text, limit, q, b' ');
         q = signed(text, limit, q, words[i]);
-        i += 1;
     }
     q
 }

@@ -22,7 +22,7 @@ pub record Got {A : Type 0} (b : List A) (x : Result (Answer A)) (o : Outcome A)
 
 module _ {A : Type 0} (least : ℕ) (s : List ℕ) (b : List A) where
   -- what 31 gives, or what stands behind it
-  abbrev Behind : Bool → Result (Answer A) → Outcome A
+  abbrev pub Behind : Bool → Result (Answer A) → Outcome A
   Behind t x = elim t [ true ↦ record { number = 31; size = 0; buffer = b; scratch = s } | false ↦ settled least s b x ]
 
   settled-refusal : (x : Result (Answer A)) → ((settled least s b x).number ≡ 0 → ⊥) → (settled least s b x).buffer ≡ b

@@ -11,7 +11,6 @@ use lib.IntN.{ℤ}
 use Rattle.spec_calculus.specs.Lists.{pick}
 use Rattle.base_signed.proofs.SignedWords.{no}
 use Rattle.spec_encoding.specs.Record.{Bytes, Result, refused, got, and_then}
-use Rattle.spec_encoding.proofs.Refusals.{Only}
 use Rattle.spec_outcome.specs.Acceptance.{Lent, Accepted, examine}
 use Rattle.spec_outcome.specs.Outcome.{scratch_words, cleared, checked, written, answered, planned}
 use Rattle.spec_outcome.proofs.Checks.{got-is}
@@ -28,32 +27,21 @@ use Rattle.exec_portions.specs.declared.Progress.TheVariants as Progress
 use Rattle.exec_portions.proofs.PortionStep.{spares_then}
 use Rattle.engine.specs.Replies.{AdmitPost, Replies}
 use Rattle.engine.specs.Portions.{BeginPost, outside, refusal, Says, PortionPost, EndedPost}
-use Rattle.engine.specs.declared.Admitted.{Admitted}
-use Rattle.engine.specs.declared.Admitted.TheVariants as Admitted
+use Rattle.std.specs.declared.result.Result.{Result as Res}
+use Rattle.std.specs.declared.result.Result.TheVariants.{Ok, Err}
 use Rattle.engine.specs.declared.Reply.{Reply}
 use Rattle.engine.specs.declared.Portioned.{Portioned}
-use Rattle.engine.proofs.Calls.{apart-spares, replied, accepts, refuses, check-scant, check-refused, check-accepted}
-use Rattle.engine.proofs.Outcomes.{checks-only}
+use Rattle.engine.proofs.Calls.{apart-spares, replied, accepts, refuses, check-accepted}
 
 -- ---- beginning
-module _ {d : Bytes} {l : Lent} {s t : List ℕ} {x : Admitted} (B : AdmitPost d l s t x) where
-  begin-refusal : {u : List ℕ} (r : Reply) → Gives (checked d l s) r.number r.length [] u → (r.number ≡ 0 → ⊥) → BeginPost scratch_words d l s u r
+module _ {d : Bytes} {l : Lent} {s t : List ℕ} {x : Res (Unit {0}) Reply} (B : AdmitPost d l s t x) where
+  pub begin-refused : {r : Reply} → x ≡ Err r → BeginPost scratch_words d l s t r
   unfolding checked
-  begin-refusal r C h = record { number = C.number; size = C.size; refused = λ n. C.scratch; begins = λ e. absurd (h e); spares = λ e. absurd (h e) }
+  begin-refused e =
+      let p = refuses B e in
+      record { number = p.0.number; size = p.0.size; refused = λ n. p.0.scratch; begins = λ z. absurd (p.1 z); spares = λ z. absurd (p.1 z) }
 
-  pub begin-scant : x ≡ Admitted.Scant → (r : Reply) → r.number ≡ 31 → r.length ≡ 0 → BeginPost scratch_words d l s t r
-  begin-scant e r en ez =
-      let C = check-scant B e in
-      begin-refusal r (record { number = en ∙ C.number; size = ez ∙ C.size; buffer = C.buffer; scratch = C.scratch }) (λ z. omega (arith, z, en))
-
-  -- no check refuses by 0
-  refuses-above : {k : ℕ} → x ≡ Admitted.Refused k → k ≡ 0 → ⊥
-  refuses-above e = subst (Only (λ n. n ≡ 0 → ⊥)) (refuses B e).1.is (checks-only d l)
-
-  pub begin-refused : {k : ℕ} → x ≡ Admitted.Refused k → {u : List ℕ} {r : Reply} → Replies t u k 0 r → BeginPost scratch_words d l s u r
-  begin-refused e {r = r} R = begin-refusal r (check-refused B e R) (λ z. refuses-above e (sym R.number ∙ z))
-
-  pub begin-accepted : x ≡ Admitted.Accepted → {u : List ℕ} → Un.BeginPost t u → (r : Reply) → r.number ≡ 0 → r.length ≡ 0 → BeginPost scratch_words d l s u r
+  pub begin-accepted : {z : Unit {0}} → x ≡ Ok z → {u : List ℕ} → Un.BeginPost t u → (r : Reply) → r.number ≡ 0 → r.length ≡ 0 → BeginPost scratch_words d l s u r
   unfolding checked
   begin-accepted e {u} P r en ez = record {
     number = en ∙ C.number;

@@ -24,8 +24,8 @@ module _ {least : ℕ} {d : Bytes} {qs : List ℕ} {i : ℕ} {r : Portioned} whe
   seat-visited l P = record { visited = λ h. P; beyond = λ h. absurd (omega (arith, l, h)) }
 
 module _ {least : ℕ} {d : Bytes} {qs : List ℕ} {b : Bool} (e : b ≡ rota_fits qs) where
-  pub round-refused : {x₀ x₁ x₂ x₃ : Seat} {r : Portioned} → not b ≡ true → Says r 0 0 0 0 → RoundPost least d qs x₀ x₁ x₂ x₃ x₀ x₁ x₂ x₃ (record { number = 49; first = r; second = r; third = r; fourth = r })
-  round-refused n S = record { refused = λ h. (refl, (idle S, (idle S, (idle S, idle S)))); served = λ h. absurd (true≢false (sym n ∙ ap not (e ∙ h))) }
+  pub round-refused : {x₀ x₁ x₂ x₃ : Seat} {r : Portioned} {k : ℕ} → k ≡ 49 → not b ≡ true → Says r 0 0 0 0 → RoundPost least d qs x₀ x₁ x₂ x₃ x₀ x₁ x₂ x₃ (record { number = k; first = r; second = r; third = r; fourth = r })
+  round-refused k n S = record { refused = λ h. (k, (idle S, (idle S, (idle S, idle S)))); served = λ h. absurd (true≢false (sym n ∙ ap not (e ∙ h))) }
 
   pub round-served : {x₀ x₁ x₂ x₃ y₀ y₁ y₂ y₃ : Seat} {a c : TwoSeats} → not b ≡ false → TwoSeatsPost least d qs 0 x₀ x₁ y₀ y₁ a → TwoSeatsPost least d qs 2 x₂ x₃ y₂ y₃ c
       → RoundPost least d qs x₀ x₁ x₂ x₃ y₀ y₁ y₂ y₃ (record { number = 0; first = a.first; second = a.second; third = c.first; fourth = c.second })

@@ -15,18 +15,19 @@ use Rattle.spec_tariff.specs.WithTariff.{charged, charged_with, with_tariff}
 use Rattle.base_tariff.specs.Contract.{tariff_in, IsTariff}
 use Rattle.form_prepared.specs.AnswerContract.{Asked}
 use Rattle.form_prepared.proofs.SettledOutcome.{settles-refused}
-use Rattle.loop_dues.specs.declared.Dues.{Dues}
-use Rattle.loop_dues.specs.Contract.{dues_number, dues_length, DuesPost}
+use Rattle.base_refusals.specs.Numbers.{outcome_number, outcome_length}
+use Rattle.base_refusals.specs.declared.Refusal.{Refusal}
+use Rattle.loop_dues.specs.Contract.{DuesPost}
+use Rattle.std.specs.declared.result.Result.{Result as Res}
+use Rattle.std.specs.declared.result.Result.TheVariants.{Ok, Err}
 use Rattle.engine.specs.Replies.{AdmitPost, Replies}
-use Rattle.engine.specs.declared.Admitted.{Admitted}
-use Rattle.engine.specs.declared.Admitted.TheVariants as Admitted
 use Rattle.engine.specs.declared.Reply.{Reply}
-use Rattle.engine.proofs.Calls.{spares-all, too_short, replied, asked, room-accepted, scant-by, refused-by, settled-by}
+use Rattle.engine.proofs.Calls.{spares-all, too_short, replied, asked, room-accepted, refused-by, settled-by}
 
 module _ (l d : Bytes) (q : Lent) (s : List ℕ) (b : List ℤ) where
-  pub tariff-scant : length s < scratch_words → Gives (with_tariff l d q s b) 31 0 b s
+  pub tariff-scant : length s < scratch_words → {k n : ℕ} → k ≡ 31 → n ≡ 0 → Gives (with_tariff l d q s b) k n b s
   unfolding with_tariff
-  tariff-scant h = too_short s b (charged_with l d q b) h
+  tariff-scant h e f = let G = too_short s b (charged_with l d q b) h in record { number = e ∙ G.number; size = f ∙ G.size; buffer = G.buffer; scratch = G.scratch }
 
   module _ {t : Bool} (T : t ≡ is_tariff l) where
     -- 44 "after 31", before the data
@@ -45,23 +46,19 @@ module _ (l d : Bytes) (q : Lent) (s : List ℕ) (b : List ℤ) where
       unfolding with_tariff charged_with read_tariff require and_then
       behind = ap (λ (x : Bool). with_scratch scratch_words s b (and_then (require 44 x (got (tariff_in l))) (λ t. and_then (examine d q) (charged b t)))) (sym T ∙ e)
 
-      module _ {u : List ℕ} {x : Admitted} (B : AdmitPost d q s u x) where
-        pub dues-scant : x ≡ Admitted.Scant → Gives (with_tariff l d q s b) 31 0 b u
-        dues-scant h = subst (λ (o : Outcome ℤ). Gives o 31 0 b u) (sym behind) (scant-by B (charged b (tariff_in l)) b h)
+      module _ {u : List ℕ} {x : Res (Unit {0}) Reply} (B : AdmitPost d q s u x) where
+        pub dues-refused : {r : Reply} → x ≡ Err r → Gives (with_tariff l d q s b) r.number r.length b u
+        dues-refused {r} h = subst (λ (o : Outcome ℤ). Gives o r.number r.length b u) (sym behind) (refused-by B (charged b (tariff_in l)) b h)
 
-        pub dues-refused : {k : ℕ} → x ≡ Admitted.Refused k → {v : List ℕ} {r : Reply} → Replies u v k 0 r → Gives (with_tariff l d q s b) r.number r.length b v
-        dues-refused h {v} {r} R = subst (λ (o : Outcome ℤ). Gives o r.number r.length b v) (sym behind) (refused-by B (charged b (tariff_in l)) b h R)
-
-        pub dues-asked : x ≡ Admitted.Accepted → Asked d u × IsTariff l
+        pub dues-asked : {z : Unit {0}} → x ≡ Ok z → Asked d u × IsTariff l
         dues-asked h = (asked B h, tariff-is)
 
-        module _ (h : x ≡ Admitted.Accepted) {b' : List ℤ} {v : List ℕ} {y : Dues} (A : DuesPost (tariff_in l) d u b v b' y) where
+        module _ {z : Unit {0}} (h : x ≡ Ok z) {b' : List ℤ} {v : List ℕ} {y : Res ℕ Refusal} (A : DuesPost (tariff_in l) d u b v b' y) where
           pub dues-room : scratch_words ≤ length v
           dues-room = omega (arith, room-accepted B h, ap (λ (z : List ℕ). length z) A.kept)
 
-          pub dues-given : {z : Dues} → y ≡ z → {w : List ℕ} {r : Reply} → Replies v w (dues_number z) (dues_length z) r → Gives (with_tariff l d q s b) r.number r.length b' w
-          dues-given {z} p {w} {r} R =
-              let C : DuesPost (tariff_in l) d u b v b' z = subst (DuesPost (tariff_in l) d u b v b') p A in
+          pub dues-given : {w : List ℕ} {r : Reply} → Replies v w (outcome_number y) (outcome_length y) r → Gives (with_tariff l d q s b) r.number r.length b' w
+          dues-given {w} {r} R =
               subst (λ (o : Outcome ℤ). Gives o r.number r.length b' w) (sym behind)
               (settled-by B (charged b (tariff_in l)) b h (record { long = ap (λ (z : List ℕ). length z) A.kept; above = λ j k. ap (λ (z : List ℕ). get_or z j 0) A.kept })
-              (λ Y. C.is q Y.accepted Y.read Y.prepared) R)
+              (λ Y. A.is q Y.accepted Y.read Y.prepared) R)

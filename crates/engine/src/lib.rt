@@ -4,6 +4,7 @@
 ghost use Rattle.std.specs.Prelude.{◌≡◌, [], ◌≤◌, ◌<◌, length};
 ghost use Rattle.spec_calendar.specs.Dates.{on};
 ghost use Rattle.spec_hours.specs.Calls.{first_opened, day_numbered, dated};
+ghost use Rattle.base_refusals.specs.Numbers.{number_of, outcome_number, outcome_length};
 ghost use Rattle.base_dates.specs.Contract.{day_in, date_in};
 ghost use Rattle.base_hours.specs.Contract.{open_in};
 ghost use Rattle.spec_outcome.specs.Acceptance.{lent_as};
@@ -19,15 +20,11 @@ ghost use Rattle.engine.specs.Rota.{seat_of, SeatPost, TwoSeatsPost, RoundPost};
 
 use base_dates::{DateTold, DayTold};
 use base_hours::OpenTold;
+use base_refusals::Refusal;
 use base_rota::rota_fits;
 use base_scratch::WORDS;
 use base_tariff::tariff_fits;
 use exec_portions::Progress;
-use form_prepared::Answer;
-use front_end::Checked;
-use loop_dues::Dues;
-use loop_outages::Counted;
-use plan_lines::Printed;
 
 // "47, a portion of 0 or above 65,535"
 const MOST_ROWS: u64 = 65535;
@@ -40,25 +37,20 @@ pub struct Reply {
     pub length: u64,
 }
 
-// How every call begins: too little scratch, a refusal of the checks, or an accepted question.
-#[derive(Clone, Copy)]
-pub enum Admitted {
-    Scant,
-    Refused(u64),
-    Accepted,
-}
+impl From<Result<usize, Refusal>> for Reply {
+    ghost from_gives = { λ outcome reply. (reply.number ≡ outcome_number outcome) × (reply.length ≡ outcome_length outcome) };
 
-// "31: scratch under .. words. Scratch stays untouched": under 2,048 by document 02, E13. Then the checks. Scratch keeps the
-// calendars as long as the question stands in it.
-pub fn admit(tables: &[u8], calendars: &[u8], question: &[u8], scratch: &mut [u64]) -> Admitted
-    ensures { AdmitPost tables.now (lent_as calendars.now question.now) scratch.old scratch.new result }
-{
-    if scratch.len() < WORDS {
-        return Admitted::Scant;
-    }
-    match front_end::prepare(tables, calendars, question, scratch) {
-        Checked::Refused(k) => Admitted::Refused(k),
-        Checked::Accepted => Admitted::Accepted,
+    fn from(outcome: Result<usize, Refusal>) -> Reply {
+        match outcome {
+            Ok(n) => Reply {
+                number: 0,
+                length: n as u64,
+            },
+            Err(e) => Reply {
+                number: e.number(),
+                length: 0,
+            },
+        }
     }
 }
 
@@ -74,6 +66,34 @@ pub fn finish(s: &mut [u64], k: u64, n: u64) -> Reply
     }
 }
 
+// The same with an outcome.
+fn conclude(s: &mut [u64], outcome: Result<usize, Refusal>) -> Reply
+    requires { scratch_words ≤ length s.old }
+    ensures { Replies s.old s.new (outcome_number outcome) (outcome_length outcome) result }
+{
+    let reply = Reply::from(outcome);
+    finish(s, reply.number, reply.length)
+}
+
+// How every call begins: the checker's reply where that is a refusal, else an accepted question in scratch. "31: scratch under .. words.
+// Scratch stays untouched": under 2,048 by document 02, E13. Then the checks. Scratch keeps the calendars as long as the question stands in it.
+pub fn admit(
+    tables: &[u8],
+    calendars: &[u8],
+    question: &[u8],
+    scratch: &mut [u64],
+) -> Result<(), Reply>
+    ensures { AdmitPost tables.now (lent_as calendars.now question.now) scratch.old scratch.new result }
+{
+    if scratch.len() < WORDS {
+        return Err(Reply::from(Err(Refusal::ScratchTooShort)));
+    }
+    match front_end::prepare(tables, calendars, question, scratch) {
+        Ok(()) => Ok(()),
+        Err(e) => Err(conclude(scratch, Err(e))),
+    }
+}
+
 // "The checker takes no answer buffer and ends after 28."
 pub fn dislogha_check(
     tables: &[u8],
@@ -84,12 +104,8 @@ pub fn dislogha_check(
     ensures { Gives (checked tables.now (lent_as calendars.now question.now) scratch.old) result.number result.length [] scratch.new }
 {
     match admit(tables, calendars, question, scratch) {
-        Admitted::Scant => Reply {
-            number: base_refusals::SCRATCH_TOO_SHORT,
-            length: 0,
-        },
-        Admitted::Refused(k) => finish(scratch, k, 0),
-        Admitted::Accepted => finish(scratch, 0, 0),
+        Err(reply) => reply,
+        Ok(()) => conclude(scratch, Ok(0)),
     }
 }
 
@@ -104,15 +120,11 @@ pub fn dislogha_answer_by_loops(
     ensures { Gives (by_loops tables.now (lent_as calendars.now question.now) scratch.old answer.old) result.number result.length answer.new scratch.new }
 {
     match admit(tables, calendars, question, scratch) {
-        Admitted::Scant => Reply {
-            number: base_refusals::SCRATCH_TOO_SHORT,
-            length: 0,
-        },
-        Admitted::Refused(k) => finish(scratch, k, 0),
-        Admitted::Accepted => match loop_answer::answer(scratch, tables, answer) {
-            Answer::Short => finish(scratch, base_refusals::ANSWER_TOO_SHORT, 0),
-            Answer::Length(n) => finish(scratch, 0, n as u64),
-        },
+        Err(reply) => reply,
+        Ok(()) => {
+            let outcome = loop_answer::answer(scratch, tables, answer);
+            conclude(scratch, outcome)
+        }
     }
 }
 
@@ -128,15 +140,11 @@ pub fn dislogha_count_outages(
     ensures { Gives (count_outages tables.now (lent_as calendars.now question.now) table scratch.old answer.old) result.number result.length answer.new scratch.new }
 {
     match admit(tables, calendars, question, scratch) {
-        Admitted::Scant => Reply {
-            number: base_refusals::SCRATCH_TOO_SHORT,
-            length: 0,
-        },
-        Admitted::Refused(k) => finish(scratch, k, 0),
-        Admitted::Accepted => match loop_outages::count(scratch, tables, table as usize, answer) {
-            Counted::Refused(k) => finish(scratch, k, 0),
-            Counted::Written => finish(scratch, 0, loop_outages::ANSWER_WORDS as u64),
-        },
+        Err(reply) => reply,
+        Ok(()) => {
+            let outcome = loop_outages::count(scratch, tables, table as usize, answer);
+            conclude(scratch, outcome)
+        }
     }
 }
 
@@ -151,15 +159,11 @@ pub fn dislogha_answer_by_plan(
     ensures { Gives (by_plan tables.now (lent_as calendars.now question.now) scratch.old answer.old) result.number result.length answer.new scratch.new }
 {
     match admit(tables, calendars, question, scratch) {
-        Admitted::Scant => Reply {
-            number: base_refusals::SCRATCH_TOO_SHORT,
-            length: 0,
-        },
-        Admitted::Refused(k) => finish(scratch, k, 0),
-        Admitted::Accepted => match exec_answer::answer(scratch, tables, answer) {
-            Answer::Short => finish(scratch, base_refusals::ANSWER_TOO_SHORT, 0),
-            Answer::Length(n) => finish(scratch, 0, n as u64),
-        },
+        Err(reply) => reply,
+        Ok(()) => {
+            let outcome = exec_answer::answer(scratch, tables, answer);
+            conclude(scratch, outcome)
+        }
     }
 }
 
@@ -174,15 +178,11 @@ pub fn dislogha_plan_lines(
     ensures { Gives (plan_lines tables.now (lent_as calendars.now question.now) scratch.old text.old) result.number result.length text.new scratch.new }
 {
     match admit(tables, calendars, question, scratch) {
-        Admitted::Scant => Reply {
-            number: base_refusals::SCRATCH_TOO_SHORT,
-            length: 0,
-        },
-        Admitted::Refused(k) => finish(scratch, k, 0),
-        Admitted::Accepted => match plan_lines::plan_lines(scratch, text) {
-            Printed::Short => finish(scratch, base_refusals::LINES_TOO_SHORT, 0),
-            Printed::Length(n) => finish(scratch, 0, n as u64),
-        },
+        Err(reply) => reply,
+        Ok(()) => {
+            let outcome = plan_lines::plan_lines(scratch, text);
+            conclude(scratch, outcome)
+        }
     }
 }
 
@@ -207,39 +207,44 @@ pub fn dislogha_begin(
     ensures { BeginPost scratch_words tables.now (lent_as calendars.now question.now) scratch.old scratch.new result }
 {
     match admit(tables, calendars, question, scratch) {
-        Admitted::Scant => Reply {
-            number: base_refusals::SCRATCH_TOO_SHORT,
-            length: 0,
-        },
-        Admitted::Refused(k) => finish(scratch, k, 0),
-        Admitted::Accepted => {
+        Err(reply) => reply,
+        Ok(()) => {
             exec_portions::begin(scratch);
-            Reply {
-                number: 0,
-                length: 0,
-            }
+            Reply::from(Ok(0))
         }
     }
 }
 
-// A refused portion: no row is offered.
-fn declined(k: u64) -> Portioned
-    ensures { Says result 0 0 k 0 }
+// What is told of a seat that is not visited.
+fn idle() -> Portioned
+    ensures { Says result 0 0 0 0 }
 {
     Portioned {
         finished: 0,
         offered: 0,
-        number: k,
+        number: 0,
+        length: 0,
+    }
+}
+
+// A refused portion: no row is offered.
+fn declined(e: Refusal) -> Portioned
+    ensures { Says result 0 0 (number_of e) 0 }
+{
+    Portioned {
+        finished: 0,
+        offered: 0,
+        number: e.number(),
         length: 0,
     }
 }
 
 // The last portion of a question.
-fn ended(s: &mut [u64], rows: u64, k: u64, n: u64) -> Portioned
+fn ended(s: &mut [u64], rows: u64, outcome: Result<usize, Refusal>) -> Portioned
     requires { scratch_words ≤ length s.old }
-    ensures { EndedPost s.old s.new rows k n result }
+    ensures { EndedPost s.old s.new rows (outcome_number outcome) (outcome_length outcome) result }
 {
-    let x = finish(s, k, n);
+    let x = conclude(s, outcome);
     Portioned {
         finished: 1,
         offered: rows,
@@ -260,24 +265,24 @@ pub fn dislogha_portion(
     ensures { PortionPost scratch_words tables.now rows scratch.old answer.old scratch.new answer.new result }
 {
     if rows == 0 {
-        return declined(base_refusals::ROWS_OUT_OF_RANGE);
+        return declined(Refusal::RowsOutOfRange);
     }
     if MOST_ROWS < rows {
-        return declined(base_refusals::ROWS_OUT_OF_RANGE);
+        return declined(Refusal::RowsOutOfRange);
     }
     if scratch.len() < WORDS {
-        return declined(base_refusals::SCRATCH_TOO_SHORT);
+        return declined(Refusal::ScratchTooShort);
     }
     match exec_portions::advance(scratch, tables, answer, rows as usize) {
-        Progress::Nothing => declined(base_refusals::NOTHING_UNFINISHED),
+        Progress::Nothing => declined(Refusal::NothingUnfinished),
         Progress::Unfinished => Portioned {
             finished: 0,
             offered: rows,
             number: 0,
             length: 0,
         },
-        Progress::Short(k) => ended(scratch, k as u64, base_refusals::ANSWER_TOO_SHORT, 0),
-        Progress::Length(k, n) => ended(scratch, k as u64, 0, n as u64),
+        Progress::Short(k) => ended(scratch, k as u64, Err(Refusal::AnswerTooShort)),
+        Progress::Length(k, n) => ended(scratch, k as u64, Ok(n)),
     }
 }
 
@@ -293,7 +298,7 @@ fn seat(
     ensures { SeatPost scratch_words tables.now quotas.now i (seat_of s.old o.old) (seat_of s.new o.new) result }
 {
     if quotas.len() <= i {
-        return declined(0);
+        return idle();
     }
     let q = quotas[i];
     dislogha_portion(tables, calendars, s, o, q)
@@ -354,13 +359,13 @@ pub fn dislogha_round(
 {
     let fits = rota_fits(quotas);
     if !fits {
-        let idle = declined(0);
+        let nothing = idle();
         return Round {
-            number: base_refusals::ROTA_OUT_OF_RANGE,
-            first: idle,
-            second: idle,
-            third: idle,
-            fourth: idle,
+            number: Refusal::RotaOutOfRange.number(),
+            first: nothing,
+            second: nothing,
+            third: nothing,
+            fourth: nothing,
         };
     }
     let a = two_seats(
@@ -386,22 +391,14 @@ pub fn dislogha_round(
 pub fn dislogha_table_to_columns(source: &[u8], target: &mut [u8]) -> Reply
     ensures { Fills (table_to_columns source.now target.old) result.number result.length target.new }
 {
-    let t = base_columns::to_columns(source, target);
-    Reply {
-        number: t.number,
-        length: t.length as u64,
-    }
+    Reply::from(base_columns::to_columns(source, target))
 }
 
 // And of kind 23 as kind 20: "each undoes the other".
 pub fn dislogha_table_to_rows(source: &[u8], target: &mut [u8]) -> Reply
     ensures { Fills (table_to_rows source.now target.old) result.number result.length target.new }
 {
-    let t = base_columns::to_rows(source, target);
-    Reply {
-        number: t.number,
-        length: t.length as u64,
-    }
+    Reply::from(base_columns::to_rows(source, target))
 }
 
 // "Ship's log against quay log": the pairs and singles of two tables as three records, one behind the other.
@@ -414,11 +411,7 @@ pub fn dislogha_pair_logs(
 ) -> Reply
     ensures { Fills (pair_logs tables.now first second tolerance target.old) result.number result.length target.new }
 {
-    let p = base_logs::pair_logs(tables, first, second, tolerance, target);
-    Reply {
-        number: p.number,
-        length: p.length as u64,
-    }
+    Reply::from(base_logs::pair_logs(tables, first, second, tolerance, target))
 }
 
 // "Answering with a tariff": the value of the question as typed, a bag of ships with their draughts, as the bag of their dues. "44 .., after 31", before the
@@ -434,27 +427,18 @@ pub fn dislogha_answer_with_tariff(
     ensures { Gives (with_tariff tariff.now tables.now (lent_as calendars.now question.now) scratch.old answer.old) result.number result.length answer.new scratch.new }
 {
     if scratch.len() < WORDS {
-        return Reply {
-            number: base_refusals::SCRATCH_TOO_SHORT,
-            length: 0,
-        };
+        return Reply::from(Err(Refusal::ScratchTooShort));
     }
     let fits = tariff_fits(tariff);
     if !fits {
-        return finish(scratch, base_refusals::TARIFF_OUT_OF_RANGE, 0);
+        return conclude(scratch, Err(Refusal::TariffOutOfRange));
     }
     match admit(tables, calendars, question, scratch) {
-        Admitted::Scant => Reply {
-            number: base_refusals::SCRATCH_TOO_SHORT,
-            length: 0,
-        },
-        Admitted::Refused(k) => finish(scratch, k, 0),
-        Admitted::Accepted => match loop_dues::answer(scratch, tables, tariff, answer) {
-            Dues::Unfit => finish(scratch, base_refusals::NOT_SHIPS_AND_DRAUGHTS, 0),
-            Dues::Short => finish(scratch, base_refusals::ANSWER_TOO_SHORT, 0),
-            Dues::Beyond => finish(scratch, base_refusals::DRAUGHT_OUT_OF_RANGE, 0),
-            Dues::Length(n) => finish(scratch, 0, n as u64),
-        },
+        Err(reply) => reply,
+        Ok(()) => {
+            let outcome = loop_dues::answer(scratch, tables, tariff, answer);
+            conclude(scratch, outcome)
+        }
     }
 }
 

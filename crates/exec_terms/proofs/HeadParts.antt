@@ -5,10 +5,8 @@ use Prim.Native.Nat.{ℕ, zero, suc, pred, ◌+◌, ◌≤◌, ◌<◌}
 use native.Mathlib.Omega.{arith}
 use borrow.Author.Tests.{le-leb, lt-leb}
 use Rattle.spec_calculus.specs.Lists.{pick}
-use Rattle.spec_calculus.specs.Syntax.{Monoid}
 use Rattle.spec_normal_form.specs.Form.{Form, Forms, num, truth, row, cell, rec, bin, negate, app, comp, fnil, fcons}
 use Rattle.spec_plan.specs.Plan.{PTerm, prec, pbin, pnegate, papp, pnil, pcons}
-use Rattle.spec_plan.specs.Operators.{Row}
 use Rattle.form_words.specs.declared.FormNode.{FormNode}
 use Rattle.form_words.specs.NodeWord.{next, node_at}
 use Rattle.form_words.specs.FormTree.{op_in, left}

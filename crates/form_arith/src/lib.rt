@@ -4,12 +4,12 @@
 ghost use Rattle.std.specs.Prelude.{◌≡◌, ◌≤◌, ◌^◌, nat_abs};
 ghost use Rattle.base_syntax.specs.MonoidWord.{monoid_of};
 ghost use Rattle.base_syntax.specs.Numbers.{bin_of};
-ghost use Rattle.form_arith.specs.WordSorts.{code_of, is_same, read_word, sort_of, operand_sort, result_sort, truth_word, negate_word, operate_word, operate_bound};
+ghost use Rattle.form_arith.specs.WordSorts.{read_word, sort_of, operand_sort, result_sort, truth_word, negate_word, operate_word, operate_bound};
 
 use base_syntax::{BinOp, Monoid};
 
 // How a value is read as a word: as a number, as a truth, as what it is of the two, or not at all.
-#[derive(Clone, Copy)]
+#[derive(Clone, Copy, PartialEq, Eq)]
 pub enum Sort {
     Number,
     Truth,
@@ -17,34 +17,14 @@ pub enum Sort {
     Either,
 }
 
-const EITHER: u64 = 3;
-
-fn code(k: Sort) -> u64
-    ensures { result ≡ code_of k }
-{
-    match k {
-        Sort::Number => 0,
-        Sort::Truth => 1,
-        Sort::Other => 2,
-        Sort::Either => EITHER,
-    }
-}
-
-pub fn same(k: Sort, l: Sort) -> bool
-    ensures { result ≡ is_same k l }
-{
-    code(k) == code(l)
-}
-
 // The word x of a value of one sort, read as another.
 pub fn read_as(want: Sort, have: Sort, x: i64) -> i64
     ensures { result ≡ read_word want have x }
 {
-    let c = code(want);
-    if c == code(have) {
+    if want == have {
         return x;
     }
-    if c == EITHER { x } else { 0 }
+    if want == Sort::Either { x } else { 0 }
 }
 
 // The sort of a monoid's heads, and of its value.
@@ -94,7 +74,7 @@ pub fn result(o: BinOp) -> Sort
 pub fn truth_word(b: bool) -> i64
     ensures { result ≡ truth_word b }
 {
-    if b { 1 } else { 0 }
+    i64::from(b)
 }
 
 pub fn negated(a: i64) -> i64

@@ -35,6 +35,7 @@ fn product_fits(x: u64, y: u64) -> bool
     x <= NUMBER_LIMIT / y
 }
 
+#[tactic(auto, unfolding(spec_normal_form::specs::Bound::bin_bound))]
 fn bounded(o: BinOp, x: u64, y: u64) -> bool
     ensures { result ≡ leb (operate_bound (bin_of o) x y) (2 ^ 62) }
 {

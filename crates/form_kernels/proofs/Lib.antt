@@ -4,4 +4,3 @@ pub mod LookPlaces
 pub mod Fuel
 pub mod PlainForms
 pub mod ReaderExits
-pub mod Turning

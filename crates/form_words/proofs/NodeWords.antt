@@ -23,7 +23,7 @@ use Rattle.form_words.specs.declared.FormNode.{FormNode}
 use Rattle.form_words.specs.declared.FormNode.TheVariants.{Number, Truth, Row, Cell, Record, Binary, Negation, Operator, Comprehension, Generator, Condition, Nothing}
 use Rattle.form_words.specs.declared.Leaf.{Leaf}
 use Rattle.form_words.specs.declared.Leaf.TheVariants as Le
-use Rattle.form_words.specs.declared.MonoidRead.TheVariants as Mr
+use Rattle.std.specs.declared.option.Option.TheVariants as Opt
 use Rattle.form_words.specs.declared.Clause.{Clause}
 use Rattle.form_words.specs.declared.Clause.TheVariants as Cl
 use Rattle.form_words.specs.NodeWord.{word_at, form_kind_of, below_of, arg_of, pack, next, kinds, node_of, node_at}
@@ -57,15 +57,6 @@ module _ (s : List ℕ) (i : ℕ) where
   pub next-out : form_words ≤ i → form_words ≡ next s i
   unfolding next
   next-out p = omega arith
-
-  module _ {w n : ℕ} (e : w ≡ word_at s i) (b : (n ≡ below_of w) × (n < 1024)) where
-    pub next-in : i + 1 + n < form_words → i + 1 + n ≡ next s i
-    unfolding next
-    next-in p = omega (arith, b.0, ap below_of e)
-
-    pub next-cut : form_words ≤ i + 1 + n → form_words ≡ next s i
-    unfolding next
-    next-cut p = omega (arith, b.0, ap below_of e)
 
 -- ---- arguments
 distance : (a : ℕ) → pos a -ℤ pos 0x80000000 ≡ constant_of a
@@ -225,15 +216,15 @@ pub leaf-recast : {s : List ℕ} {i : ℕ} {r n : Leaf} → LeafAtPost s i r →
 leaf-recast {s} {i} H e = record { is = subst (LeafIs (node_at s i)) (sym H.is ∙ e) (leaf-node (node_at s i)) }
 
 -- ---- the monoid of a comprehension
-pub monoid-out : {s : List ℕ} {i : ℕ} → form_words ≤ i → MonoidOfPost s i Mr.Other
+pub monoid-out : {s : List ℕ} {i : ℕ} → form_words ≤ i → MonoidOfPost s i Opt.None
 monoid-out p = record { is = ap monoid_in (look-out p).is }
 
-pub monoid-is : {s : List ℕ} {i w a k : ℕ} {m : Monoid} → i < form_words → w ≡ word_at s i → (a ≡ arg_of w) × (a < 2 ^ 50) → k ≡ form_kind_of w → k ≡ 8 → m ≡ monoid_at (a % 8) → MonoidOfPost s i (Mr.Is m)
+pub monoid-is : {s : List ℕ} {i w a k : ℕ} {m : Monoid} → i < form_words → w ≡ word_at s i → (a ≡ arg_of w) × (a < 2 ^ 50) → k ≡ form_kind_of w → k ≡ 8 → m ≡ monoid_at (a % 8) → MonoidOfPost s i (Opt.Some m)
 monoid-is p e A K l q = record { is = ap monoid_in (look-comprehension p e A K l q).is }
 
-pub monoid-rest : {s : List ℕ} {i w k : ℕ} → w ≡ word_at s i → k ≡ form_kind_of w → (k ≡ 8 → ⊥) → MonoidOfPost s i Mr.Other
+pub monoid-rest : {s : List ℕ} {i w k : ℕ} → w ≡ word_at s i → k ≡ form_kind_of w → (k ≡ 8 → ⊥) → MonoidOfPost s i Opt.None
 monoid-rest {s} {i} e K n8 = record {
-  is = node_by (λ n. Mr.Other ≡ monoid_in n) s i e refl (λ q. refl) (λ q. refl) (λ q. refl) (λ q. refl) (λ q. refl) (λ q. refl) (λ q. refl) (λ q. absurd (n8 (K ∙ q))) (λ q. refl) (λ q. refl) (λ q. refl);
+  is = node_by (λ n. Opt.None ≡ monoid_in n) s i e refl (λ q. refl) (λ q. refl) (λ q. refl) (λ q. refl) (λ q. refl) (λ q. refl) (λ q. refl) (λ q. absurd (n8 (K ∙ q))) (λ q. refl) (λ q. refl) (λ q. refl);
 }
 
 -- ---- clauses

@@ -1,12 +1,11 @@
 -- What `look`, `leaf_at`, `monoid_of` and `look_clause` answer: the node, leaf, monoid or clause at a place. The places in a node or clause lie behind
 -- it and within the words, and its numbers are small.
-use Rattle.std.specs.Prelude.{◌≡◌, List, ℕ, ◌^◌, ◌<◌, ◌≤◌, nat_abs}
+use Rattle.std.specs.Prelude.{◌≡◌, List, Option, Some, None, ℕ, ◌^◌, ◌<◌, ◌≤◌, nat_abs}
+use Rattle.base_syntax.specs.declared.Monoid.{Monoid}
 use Rattle.form_words.specs.declared.FormNode.{FormNode}
 use Rattle.form_words.specs.declared.FormNode.TheVariants.{Number, Truth, Row, Cell, Record, Binary, Negation, Operator, Comprehension, Generator, Condition, Nothing}
 use Rattle.form_words.specs.declared.Leaf.{Leaf}
 use Rattle.form_words.specs.declared.Leaf.TheVariants as Le
-use Rattle.form_words.specs.declared.MonoidRead.{MonoidRead}
-use Rattle.form_words.specs.declared.MonoidRead.TheVariants as Mr
 use Rattle.form_words.specs.declared.Clause.{Clause}
 use Rattle.form_words.specs.declared.Clause.TheVariants as Cl
 use Rattle.base_scratch.specs.Map.{form_words}
@@ -49,22 +48,22 @@ leaf_of Nothing = Le.Other
 pub record LeafAtPost (s : List ℕ) (i : ℕ) (r : Leaf) : Type 0 where
   pub is : r ≡ leaf_of (node_at s i)
 
--- the monoid of a comprehension: every other node is some other
-abbrev pub monoid_in : FormNode → MonoidRead
-monoid_in (Number z) = Mr.Other
-monoid_in (Truth b) = Mr.Other
-monoid_in (Row g) = Mr.Other
-monoid_in (Cell c g) = Mr.Other
-monoid_in (Record e) = Mr.Other
-monoid_in (Binary o j) = Mr.Other
-monoid_in Negation = Mr.Other
-monoid_in (Operator f e) = Mr.Other
-monoid_in (Comprehension m) = Mr.Is m
-monoid_in (Generator g k) = Mr.Other
-monoid_in (Condition j) = Mr.Other
-monoid_in Nothing = Mr.Other
+-- the monoid of a comprehension: no other node has one
+abbrev pub monoid_in : FormNode → Option Monoid
+monoid_in (Number z) = None
+monoid_in (Truth b) = None
+monoid_in (Row g) = None
+monoid_in (Cell c g) = None
+monoid_in (Record e) = None
+monoid_in (Binary o j) = None
+monoid_in Negation = None
+monoid_in (Operator f e) = None
+monoid_in (Comprehension m) = Some m
+monoid_in (Generator g k) = None
+monoid_in (Condition j) = None
+monoid_in Nothing = None
 
-pub record MonoidOfPost (s : List ℕ) (i : ℕ) (r : MonoidRead) : Type 0 where
+pub record MonoidOfPost (s : List ℕ) (i : ℕ) (r : Option Monoid) : Type 0 where
   pub is : r ≡ monoid_in (node_at s i)
 
 abbrev pub InsideC : ℕ → Clause → Type 0

@@ -68,13 +68,6 @@ pub enum Leaf {
     Other,
 }
 
-// The monoid of a comprehension, or some other node.
-#[derive(Clone, Copy)]
-pub enum MonoidRead {
-    Is(Monoid),
-    Other,
-}
-
 // A node that stands among the clauses of a comprehension: all but generators and conditions are its head.
 #[derive(Clone, Copy)]
 pub enum Clause {
@@ -118,6 +111,7 @@ pub fn put_word(s: &mut [u64], i: usize, k: u64, below: u64, a: u64)
 }
 
 // The place behind the subtree at i.
+#[tactic(auto, unfolding(crate::specs::NodeWord::next))]
 pub fn next(s: &[u64], i: usize) -> usize
     ensures { result ≡ next s.now i }
 {
@@ -125,8 +119,7 @@ pub fn next(s: &[u64], i: usize) -> usize
         return FORM_WORDS;
     }
     let n = below(word(s, i));
-    let e = i + 1 + n as usize;
-    if e < FORM_WORDS { e } else { FORM_WORDS }
+    (i + 1 + n as usize).min(FORM_WORDS)
 }
 
 // The place i where it lies before e; behind all words, where nothing stands, if it does not.
@@ -203,16 +196,16 @@ pub fn leaf_at(s: &[u64], i: usize) -> Leaf
 }
 
 // The same for the monoid of a comprehension.
-pub fn monoid_of(s: &[u64], i: usize) -> MonoidRead
+pub fn monoid_of(s: &[u64], i: usize) -> Option<Monoid>
     ensures { MonoidOfPost s.now i result }
 {
     if FORM_WORDS <= i {
-        return MonoidRead::Other;
+        return None;
     }
     let w = word(s, i);
     match kind(w) {
-        COMPREHENSION => MonoidRead::Is(Monoid::from_bits(arg(w))),
-        _ => MonoidRead::Other,
+        COMPREHENSION => Some(Monoid::from_bits(arg(w))),
+        _ => None,
     }
 }
 

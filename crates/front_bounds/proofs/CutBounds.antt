@@ -2,15 +2,15 @@
 -- and the size of a form by its node.
 use mathlib.Core.Path.{◌≡◌, refl, sym, ap, ap₂, subst, ◌∙◌}
 use mathlib.Core.Bool.{Bool, true, ◌&&◌, and-true, and_assoc}
+use mathlib.Core.Logic.{◌⊎◌, inl, inr}
 use mathlib.Core.List.{List, [], ◌∷◌}
-use Prim.Native.Nat.{ℕ, zero, suc, ◌+◌, ◌-◌, ◌*◌, ◌/◌, ◌^◌, ◌≤◌, ◌<◌}
-use native.Mathlib.Nat.{mul-le-mul_left, mul-le-mul, mul_assoc, mul_comm, pow-suc, zero-mul}
-use native.Mathlib.Omega.{arith, div_fact, mod_fact}
+use Prim.Native.Nat.{ℕ, zero, suc, ◌+◌, ◌*◌, ◌^◌, ◌≤◌, ◌<◌}
+use native.Mathlib.Nat.{mul-le-mul, mul_assoc, mul_comm, pow-suc}
+use native.Mathlib.Omega.{arith}
 use borrow.Author.Tests.{leb-true, leb-false, le-leb, lt-leb}
 use lib.Dec.{T, leb}
 use lib.ListN.{length, get_or}
 use lib.IntN.{ℤ, nat_abs}
-use mir.Val.{Fits}
 use Rattle.spec_calendar.specs.Hours.{Calendar}
 use Rattle.spec_calculus.specs.Lists.{pick}
 use Rattle.spec_calculus.specs.Syntax.{of, sum, max, some, all, Bin, plus, minus, times, equal, less, and, or, choice, is_open}
@@ -45,25 +45,6 @@ use Rattle.front_bounds.specs.CutBounds.{cut, per_head, per_generator, per_gener
 -- ---- cut bounds
 abbrev top : ℕ
 top = 2 ^ 62 + 1
-
--- products
-pub mul_in : (a b : ℕ) → (a ≡ 0 → ⊥) → b ≤ top / a → a * b ≤ top
-mul_in zero b n p = absurd (n refl)
-mul_in (suc k) b n p = omega (arith, mul-le-mul_left (suc k) p, div_fact top k)
-
-mul-over : (a b : ℕ) → (a ≡ 0 → ⊥) → top / a < b → top < a * b
-mul-over zero b n p = absurd (n refl)
-mul-over (suc k) b n p = omega (arith, mul-le-mul_left {m = suc (top / suc k)} {n = b} (suc k) p, div_fact top k, mod_fact top k)
-
-module _ (a b : ℕ) where
-  pub product-none : a ≡ 0 → 0 ≡ cut (a * b)
-  product-none e = rw e (omega (arith, zero-mul b))
-
-  pub product-in : (a ≡ 0 → ⊥) → b ≤ top / a → a * b ≡ cut (a * b)
-  product-in n p = omega (arith, mul_in a b n p)
-
-  pub product-over : (a ≡ 0 → ⊥) → top / a < b → top ≡ cut (a * b)
-  product-over n p = omega (arith, mul-over a b n p)
 
 cut_left : (a b : ℕ) → cut (cut a * b) ≡ cut (a * b)
 cut_left a zero = omega arith
@@ -132,16 +113,16 @@ generator-bound all g a = refl
 pub record Repeating (m : Sy.Monoid) (n a k b : ℕ) : Type 0 where
   pub is : per_generators m k b ≡ per_generators m n a
 
-pub repeating-first : {m : Sy.Monoid} {n a : ℕ} → Repeating m n a n a
-repeating-first = record { is = refl }
+pub repeating-first : {m : Sy.Monoid} {n k a : ℕ} → k ≡ n → Repeating m n a k a
+repeating-first {m} {a = a} e = record { is = ap (λ (x : ℕ). per_generators m x a) e }
 
 generators-more : (m : Sy.Monoid) (k n a : ℕ) → k ≡ suc n → per_generators m k a ≡ per_generators m n (per_generator m a)
 unfolding per_generators
 generators-more m k n a e = ap (λ (x : ℕ). per_generators m x a) e
 
 module _ {m : Sy.Monoid} {n a k b : ℕ} (I : Repeating m n a k b) where
-  pub repeating-again : {r : ℕ} → 0 < k → r ≡ per_generator m b → Repeating m n a (k - 1) r
-  repeating-again h p = record { is = ap (per_generators m (k - 1)) p ∙ sym (generators-more m k (k - 1) b (omega arith)) ∙ I.is }
+  pub repeating-again : {r l : ℕ} → k ≡ suc l → r ≡ per_generator m b → Repeating m n a l r
+  repeating-again {l = l} h p = record { is = ap (per_generators m l) p ∙ sym (generators-more m k l b h) ∙ I.is }
 
   pub repeating-last : k ≤ 0 → b ≡ per_generators m n a
   unfolding per_generators
@@ -174,25 +155,33 @@ module _ {D : Declared} {s : List ℕ} {i : ℕ} {r : Size} where
 
   -- what is no number, and holds none
   module _ (U : UnboundedPost true r) where
-    pub size-truth : {b : Bool} → Looks s i (Truth b) → FormSizePost D s i r
+    size-truth : {b : Bool} → Looks s i (Truth b) → FormSizePost D s i r
     unfolding bound within
     size-truth H = sized H (λ f l. record { bound_is = U.bound_is; fits_is = U.fits_is })
 
-    pub size-row : {g : ℕ} → Looks s i (Row g) → FormSizePost D s i r
+    size-row : {g : ℕ} → Looks s i (Row g) → FormSizePost D s i r
     unfolding bound within
     size-row H = sized H (λ f l. record { bound_is = U.bound_is; fits_is = U.fits_is })
 
-    pub size-generator : {g k : ℕ} → Looks s i (Generator g k) → FormSizePost D s i r
+    size-generator : {g k : ℕ} → Looks s i (Generator g k) → FormSizePost D s i r
     unfolding bound within
     size-generator H = sized H (λ f l. record { bound_is = U.bound_is; fits_is = U.fits_is })
 
-    pub size-condition : {j : ℕ} → Looks s i (Condition j) → FormSizePost D s i r
+    size-condition : {j : ℕ} → Looks s i (Condition j) → FormSizePost D s i r
     unfolding bound within
     size-condition H = sized H (λ f l. record { bound_is = U.bound_is; fits_is = U.fits_is })
 
-    pub size-nothing : Looks s i Nothing → FormSizePost D s i r
+    size-nothing : Looks s i Nothing → FormSizePost D s i r
     unfolding bound within
     size-nothing H = sized H (λ f l. record { bound_is = U.bound_is; fits_is = U.fits_is })
+
+    pub size-none : {n : FormNode} → Looks s i n
+        → ((b : Bool) × (n ≡ Truth b)) ⊎ (((g : ℕ) × (n ≡ Row g)) ⊎ (((g : ℕ) × (k : ℕ) × (n ≡ Generator g k)) ⊎ (((j : ℕ) × (n ≡ Condition j)) ⊎ (n ≡ Nothing)))) → FormSizePost D s i r
+    size-none H (inl p) = size-truth (subst (Looks s i) p.1 H)
+    size-none H (inr (inl p)) = size-row (subst (Looks s i) p.1 H)
+    size-none H (inr (inr (inl p))) = size-generator (subst (Looks s i) p.2 H)
+    size-none H (inr (inr (inr (inl p)))) = size-condition (subst (Looks s i) p.1 H)
+    size-none H (inr (inr (inr (inr e)))) = size-nothing (subst (Looks s i) e H)
 
   pub size-cell : {c g b : ℕ} → Looks s i (Cell c g) → b ≡ D g c → b < 2 ^ 32 → CheckedPost b true r → FormSizePost D s i r
   unfolding bound within
@@ -377,9 +366,9 @@ unfolding app_bound
 bound-lent K Choice bs = refl
 bound-lent K (Open n) bs = refl
 
-module _ (o : Fun) {D : Declared} {s : List ℕ} {i e j k n w : ℕ} {a b c x : Size} {r t u v : Bool} (h : e ≤ form_words) (A : TermSizePost D s i e a) (pj : j ≡ next s i) (B : TermSizePost D s j e b) (pk : k ≡ next s j)
-    (C : TermSizePost D s k e c) (pn : n ≡ next s k) (R : RecordFitsPost D s n e r) (pw : w ≡ app_bound (fun_of o) (a.bound ∷ b.bound ∷ c.bound ∷ [])) (pt : t ≡ (c.fits && r)) (pu : u ≡ (b.fits && t))
-    (pv : v ≡ (a.fits && u)) (X : CheckedPost w v x) where
+module _ (o : Fun) {D : Declared} {s : List ℕ} {i e j k n w : ℕ} {a b c x : Size} {r v : Bool} (h : e ≤ form_words) (A : TermSizePost D s i e a) (pj : j ≡ next s i) (B : TermSizePost D s j e b) (pk : k ≡ next s j)
+    (C : TermSizePost D s k e c) (pn : n ≡ next s k) (R : RecordFitsPost D s n e r) (pw : w ≡ app_bound (fun_of o) (a.bound ∷ b.bound ∷ c.bound ∷ [])) (pv : v ≡ (((a.fits && b.fits) && c.fits) && r))
+    (X : CheckedPost w v x) where
   -- the terms from the first, the second, the third on, and those behind it
   module _ (g : ℕ) (lj : left j + 1 < suc (suc g)) (li : left i + 1 < suc (suc (suc g))) (lk : left k + 1 < suc g) (ln : left n + 1 < g) where
     abbrev given : Forms
@@ -407,7 +396,8 @@ module _ (o : Fun) {D : Declared} {s : List ℕ} {i e j k n w : ℕ} {a b c x : 
 
     all-within : v ≡ within_f D given
     all-within =
-        pv ∙ ap (λ y. a.fits && y) (pu ∙ ap (λ y. b.fits && y) (pt ∙ ap (λ y. c.fits && y) (R.is g ln ∙ sym (ap (within_f D) behind)) ∙ first-within D (rest (rest given)) c at-third) ∙ first-within D (rest given) b at_second)
+        pv ∙ and_assoc (a.fits && b.fits) c.fits r ∙ and_assoc a.fits b.fits (c.fits && r) ∙
+        ap (λ y. a.fits && y) (ap (λ y. b.fits && y) (ap (λ y. c.fits && y) (R.is g ln ∙ sym (ap (within_f D) behind)) ∙ first-within D (rest (rest given)) c at-third) ∙ first-within D (rest given) b at_second)
         ∙ first-within D given a (A.is (suc (suc (suc g))) li)
 
     three-terms : SizeOf D (app (op_in s o) given) x

@@ -28,76 +28,56 @@ pub struct Size {
 fn add(a: u64, b: u64) -> u64
     ensures { result ≡ cut (a + b) }
 {
-    if b <= OVER {
-        if a <= OVER - b {
-            return a + b;
-        }
-    }
-    OVER
+    a.saturating_add(b).min(OVER)
 }
 
 fn mul(a: u64, b: u64) -> u64
     ensures { result ≡ cut (a * b) }
 {
-    if a == 0 {
-        return 0;
-    }
-    if b <= OVER / a { a * b } else { OVER }
+    a.saturating_mul(b).min(OVER)
 }
 
+#[tactic(auto, unfolding(spec_normal_form::specs::Bound::bin_bound))]
 fn binary_bound(o: BinOp, a: u64, b: u64) -> u64
     ensures { result ≡ cut (bin_bound (bin_of o) a b) }
 {
     match o {
-        BinOp::Plus => add(a, b),
-        BinOp::Minus => add(a, b),
+        BinOp::Plus | BinOp::Minus => add(a, b),
         BinOp::Times => mul(a, b),
-        BinOp::Equal => 0,
-        BinOp::Less => 0,
-        BinOp::And => 0,
-        BinOp::Or => 0,
+        BinOp::Equal | BinOp::Less | BinOp::And | BinOp::Or => 0,
     }
 }
 
 // Of an operator's first three terms: "Its bound is the larger one." (document 02, E2) A truth has none.
+#[tactic(auto, unfolding(spec_normal_form::specs::Bound::app_bound, spec_normal_form::specs::Bound::larger, spec_calculus::specs::Lists::pick))]
 fn operator_bound(f: Fun, a: u64, b: u64, c: u64) -> u64
     ensures { result ≡ app_bound (fun_of f) (a ∷ b ∷ c ∷ []) }
 {
     match f {
-        Fun::Choice => { if b <= c { c } else { b } }
-        Fun::Open(n) => 0,
+        Fun::Choice => b.max(c),
+        Fun::Open(_) => 0,
     }
 }
 
 // A comprehension's bound with one generator more.
+#[tactic(auto, unfolding(crate::specs::CutBounds::per_generator))]
 fn per_generator(m: Monoid, a: u64) -> u64
     ensures { result ≡ per_generator (monoid_of m) a }
 {
     match m {
-        Monoid::List => a,
-        Monoid::Bag => a,
-        Monoid::Set => a,
         Monoid::Sum => mul(a, 1024),
-        Monoid::Max => a,
-        Monoid::Some => a,
-        Monoid::All => a,
-        Monoid::Min => a,
+        _ => a,
     }
 }
 
 // A comprehension's bound with no generator.
+#[tactic(auto, unfolding(crate::specs::CutBounds::per_head))]
 fn per_head(m: Monoid, a: u64) -> u64
     ensures { result ≡ per_head (monoid_of m) a }
 {
     match m {
-        Monoid::List => 0,
-        Monoid::Bag => 0,
-        Monoid::Set => 0,
-        Monoid::Sum => a,
-        Monoid::Max => a,
-        Monoid::Some => 0,
-        Monoid::All => 0,
-        Monoid::Min => a,
+        Monoid::Sum | Monoid::Max | Monoid::Min => a,
+        _ => 0,
     }
 }
 
@@ -105,19 +85,11 @@ fn per_head(m: Monoid, a: u64) -> u64
 fn generators_bound(m: Monoid, n: usize, a: u64) -> u64
     ensures { result ≡ per_generators (monoid_of m) n a }
 {
-    let mut k = n;
     let mut b = a;
-    while 0 < k {
+    for _ in 0..n {
         b = per_generator(m, b);
-        k -= 1;
     }
     b
-}
-
-fn both(a: bool, b: bool) -> bool
-    ensures { result ≡ (a && b) }
-{
-    if a { b } else { false }
 }
 
 // A number with this bound; `inside` says whether the numbers in it fit.
@@ -126,7 +98,7 @@ fn checked(bound: u64, inside: bool) -> Size
 {
     Size {
         bound: bound,
-        fits: both(bound <= NUMBER_LIMIT, inside),
+        fits: bound <= NUMBER_LIMIT && inside,
     }
 }
 
@@ -147,14 +119,12 @@ pub fn form_size(s: &[u64], data: &[u8], i: usize) -> Size
 {
     match look(s, i) {
         FormNode::Number(z) => checked(magnitude(z), true),
-        FormNode::Truth(b) => unbounded(true),
-        FormNode::Row(g) => unbounded(true),
         FormNode::Cell(c, g) => checked(declared(s, data, g, c), true),
         FormNode::Record(e) => unbounded(record_fits(s, data, i + 1, e)),
         FormNode::Binary(o, j) => {
             let a = form_size(s, data, i + 1);
             let b = form_size(s, data, j);
-            checked(binary_bound(o, a.bound, b.bound), both(a.fits, b.fits))
+            checked(binary_bound(o, a.bound, b.bound), a.fits & b.fits)
         }
         FormNode::Negation => {
             let a = form_size(s, data, i + 1);
@@ -165,9 +135,11 @@ pub fn form_size(s: &[u64], data: &[u8], i: usize) -> Size
             checked(a.bound, a.fits)
         }
         FormNode::Operator(f, e) => operator_size(s, data, i + 1, e, f),
-        FormNode::Generator(g, k) => unbounded(true),
-        FormNode::Condition(j) => unbounded(true),
-        FormNode::Nothing => unbounded(true),
+        FormNode::Truth(_)
+        | FormNode::Row(_)
+        | FormNode::Generator(_, _)
+        | FormNode::Condition(_)
+        | FormNode::Nothing => unbounded(true),
     }
 }
 
@@ -187,14 +159,14 @@ fn clauses_size(s: &[u64], data: &[u8], i: usize, m: Monoid) -> Size
             }
             Clause::Condition(e) => {
                 let t = form_size(s, data, j + 1);
-                fits = both(fits, t.fits);
+                fits &= t.fits;
                 j = e;
             }
             Clause::Head => {
                 let a = form_size(s, data, j);
                 return Size {
                     bound: generators_bound(m, n, per_head(m, a.bound)),
-                    fits: both(fits, a.fits),
+                    fits: fits & a.fits,
                 };
             }
         }
@@ -212,10 +184,10 @@ fn operator_size(s: &[u64], data: &[u8], i: usize, e: usize, f: Fun) -> Size
     let b = term_size(s, data, j, e);
     let k = next(s, j);
     let c = term_size(s, data, k, e);
-    let rest = both(c.fits, record_fits(s, data, next(s, k), e));
+    let rest = record_fits(s, data, next(s, k), e);
     checked(
         operator_bound(f, a.bound, b.bound, c.bound),
-        both(a.fits, both(b.fits, rest)),
+        a.fits & b.fits & c.fits & rest,
     )
 }
 
@@ -240,7 +212,7 @@ fn record_fits(s: &[u64], data: &[u8], i: usize, e: usize) -> bool
     let mut fits = true;
     while j < e {
         let a = form_size(s, data, j);
-        fits = both(fits, a.fits);
+        fits &= a.fits;
         j = next(s, j);
     }
     fits
@@ -249,6 +221,5 @@ fn record_fits(s: &[u64], data: &[u8], i: usize, e: usize) -> bool
 pub fn bound_fits(s: &[u64], data: &[u8]) -> bool
     ensures { BoundFitsPost (declared_in «data».now s.now) s.now result }
 {
-    let whole = form_size(s, data, 0);
-    whole.fits
+    form_size(s, data, 0).fits
 }

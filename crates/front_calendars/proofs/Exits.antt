@@ -1,10 +1,10 @@
 -- One law for each way out of the functions that look at the nodes one by one.
-use mathlib.Core.Path.{◌≡◌, refl, sym, ap, ◌∙◌}
+use mathlib.Core.Path.{◌≡◌, sym, ap, ◌∙◌}
 use mathlib.Core.List.{List}
 use mathlib.Core.Bool.{Bool, true, false, ◌&&◌}
-use Prim.Native.Nat.{ℕ, zero, suc, ◌+◌, ◌-◌, ◌≤◌, ◌<◌}
+use Prim.Native.Nat.{ℕ, suc, ◌+◌, ◌-◌, ◌≤◌, ◌<◌}
 use native.Mathlib.Omega.{arith}
-use lib.Dec.{eqb, ltb}
+use lib.Dec.{ltb}
 use borrow.Author.Tests.{eq-eqb, ne_eqb}
 use Rattle.spec_calculus.specs.Lists.{pick}
 use Rattle.front_words.specs.NodeWord.{node_kind_of, arg_of, node_word}
@@ -26,11 +26,10 @@ module _ (k : ℕ) (s : List ℕ) (i : ℕ) {w x : ℕ} (ew : w ≡ node_word s 
 -- ---- those from the loop's on decide, as long as all before it pass
 module _ (k : ℕ) (s : List ℕ) (n : ℕ) where
   pub record Passing (i : ℕ) : Type 0 where
-    pub most : i ≤ n
     pub rest : lent_from k s 0 n ≡ lent_from k s i (n - i)
 
   pub pass-first : Passing 0
-  pass-first = record { most = omega arith; rest = ap (lent_from k s 0) (omega arith) }
+  pass-first = record { rest = ap (lent_from k s 0) (omega arith) }
 
   module _ {i : ℕ} (P : Passing i) where
     module _ (l : i < n) {b : Bool} (e : b ≡ lent_at k s i) where
@@ -42,7 +41,7 @@ module _ (k : ℕ) (s : List ℕ) (n : ℕ) where
       pass-stops h = sym (step ∙ ap (λ (c : Bool). c && lent_from k s (i + 1) (n - (i + 1))) h)
 
       pub pass-again : b ≡ true → Passing (i + 1)
-      pass-again h = record { most = omega arith; rest = step ∙ ap (λ (c : Bool). c && lent_from k s (i + 1) (n - (i + 1))) h }
+      pass-again h = record { rest = step ∙ ap (λ (c : Bool). c && lent_from k s (i + 1) (n - (i + 1))) h }
 
     pub pass-last : n ≤ i → true ≡ lent_from k s 0 n
     unfolding lent_from

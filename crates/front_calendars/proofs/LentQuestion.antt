@@ -10,11 +10,11 @@ use borrow.Author.Tests.{eqb-true, eq-eqb}
 use Rattle.spec_calculus.specs.Lists.{pick}
 use Rattle.spec_calculus.specs.Syntax.{Fun, choice, is_open, Term, Terms, Quals, num, truth, name, field, rec, bin, negate, app, comp, table, tnil, tcons, qnil, gen, bind, cond, Question, as_term}
 use Rattle.spec_checks.specs.Calendars.{named_lent_op, named_lent_t, named_lent_ts, named_lent_q, calendars_lent}
-use Rattle.spec_encoding.specs.Reader.{Kind, kinds, unknown, open_k, two_terms}
+use Rattle.spec_encoding.specs.Reader.{Kind, kinds, unknown, open_k}
 use Rattle.base_signed.proofs.SignedWords.{by-test}
 use Rattle.front_words.specs.NodeWord.{node_kind_of, node_word}
-use Rattle.front_words.specs.NodeTree.{kind_at, arg_at}
-use Rattle.front_words.specs.LaidTree.{nodes, nodes_l, nodes_q, operator, argued, AsRead, LaidNode, Laid, LaidL, LaidQ}
+use Rattle.front_words.specs.NodeTree.{arg_at}
+use Rattle.front_words.specs.LaidTree.{nodes, nodes_l, nodes_q, operator, argued, LaidNode, Laid, LaidL, LaidQ}
 use Rattle.front_scope.proofs.KindNumbers.{code, code_is, two-code}
 use Rattle.front_calendars.specs.LentNodes.{lent_at, lent_from}
 

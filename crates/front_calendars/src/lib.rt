@@ -23,13 +23,10 @@ fn node_lent(s: &[u64], calendars: &[u8], i: usize) -> bool
 pub fn calendars_lent(s: &[u64], calendars: &[u8], n: usize) -> bool
     ensures { result ≡ lent_from (length (calendars_of calendars.now)) s.now 0 n }
 {
-    let mut i = 0;
-    while i < n {
-        let a = node_lent(s, calendars, i);
-        if !a {
+    for i in 0..n {
+        if !node_lent(s, calendars, i) {
             return false;
         }
-        i += 1;
     }
     true
 }

@@ -19,7 +19,6 @@ use Rattle.base_syntax.specs.declared.Monoid.TheVariants as Mo
 use Rattle.base_syntax.specs.MonoidWord.{monoid_of}
 use Rattle.front_nodes.specs.NodeTable.{nodes_of, qualifiers_of}
 use Rattle.base_syntax.specs.declared.BinOp.{BinOp}
-use Rattle.base_syntax.specs.declared.BinOp.TheVariants as BinOp
 use Rattle.front_resolve.specs.Resolved.{Resolved, env_of, Heads}
 use Rattle.front_resolve.specs.declared.Form.{Form}
 use Rattle.front_resolve.specs.declared.Form.TheVariants.{Number, Truth, Row, Cell, Record, Two, Not, Comp, Table, Operator, Bad}

@@ -5,7 +5,7 @@ use Prim.Native.Nat.{ℕ, ◌+◌, ◌<◌, ◌≤◌}
 use native.Mathlib.Omega.{arith}
 use lib.ListN.{length, get_or, set}
 use lib.Seq.{get_or-set_other, set_comm}
-use Rattle.front_theory.specs.FormWords.{Word, words}
+use Rattle.front_theory.specs.FormWords.{Word}
 use Rattle.front_theory.specs.Writer.{Writer, state, puts}
 use Rattle.base_scratch.specs.Map.{form_at}
 use Rattle.front_emit.specs.WriterResult.{packed, Buffer, buffer, put}

@@ -10,7 +10,7 @@ use lib.Dec.{ltb}
 use borrow.Author.Tests.{ltb-true, ltb-false}
 use lib.IntN.{ℤ, pos, negsuc}
 use Rattle.spec_calculus.specs.Lists.{pick}
-use Rattle.spec_normal_form.specs.Normal.{nothing, quote, condition}
+use Rattle.spec_normal_form.specs.Normal.{nothing, quote}
 use Rattle.spec_encoding.specs.Reader as Re
 use Rattle.front_theory.specs.NodeTable.{Node, nnum, ntruth, nname, nfield, nrec, nbin, nnegate, napp, ncomp, ntable, ngen, nbind, ncond, nbad}
 use Rattle.front_theory.specs.CappedOffsets.{limit}
@@ -28,8 +28,7 @@ use Rattle.front_resolve.specs.declared.Form.{Form}
 use Rattle.front_resolve.specs.declared.Form.TheVariants.{Number, Truth, Row, Cell, Record, Two, Not, Comp, Table, Operator, Bad}
 use Rattle.front_resolve.specs.contracts.Form as form
 use Rattle.front_emit.specs.declared.WriterState.{WriterState}
-use Rattle.front_emit.specs.declared.Heading.{Heading}
-use Rattle.front_emit.specs.declared.Heading.TheVariants.{Terms, Other}
+use Rattle.std.proofs.Common.{Option, Some, None}
 use Rattle.front_emit.specs.WriterResult.{LeafPost, Emitted}
 use Rattle.front_emit.specs.WriterStart.{place_s, table_s, simple_s, FormRoom, TermOf, SimplePre, Headed, a_record, an_operator, Termed, HeadingIs, HeadingOfPost}
 use Rattle.front_emit.proofs.WriterExits.{leaf-num, leaf-truth, leaf-row, leaf-cell, leaf-arg}
@@ -99,20 +98,20 @@ untermed w a_record = miss termless 4 tt w
 untermed w (an_operator o) = miss termless 9 tt w
 
 module _ {f : Form} where
-  pub terms-record : f ≡ Record → HeadingOfPost f (Terms 5 0)
+  pub terms-record : f ≡ Record → HeadingOfPost f (Some (5, 0))
   terms-record e = record { is = headed-record e }
 
-  pub terms-operator : {o : Fun} {a : ℕ} → f ≡ Operator o → a ≡ fun_arg (fun_of o) → HeadingOfPost f (Terms 11 a)
+  pub terms-operator : {o : Fun} {a : ℕ} → f ≡ Operator o → a ≡ fun_arg (fun_of o) → HeadingOfPost f (Some (11, a))
   terms-operator e p = record { is = headed-operator e p }
 
-  pub no-terms : OneOf termless (tag_of form.the_type f) → HeadingOfPost f Other
+  pub no-terms : OneOf termless (tag_of form.the_type f) → HeadingOfPost f None
   no-terms w = record { is = λ h. untermed w h.2 }
 
-  module _ {r : Heading} (H : HeadingOfPost f r) where
-    pub heading-terms : {k a : ℕ} → r ≡ Terms k a → Headed f k a
+  module _ {r : Option (ℕ × ℕ)} (H : HeadingOfPost f r) where
+    pub heading-terms : {k a : ℕ} → r ≡ Some (k, a) → Headed f k a
     heading-terms e = subst (HeadingIs f) e H.is
 
-    pub heading-other : r ≡ Other → Termed f → ⊥
+    pub heading-other : r ≡ None → Termed f → ⊥
     heading-other e = subst (HeadingIs f) e H.is
 
 -- ---- forms with no nodes below them

@@ -31,7 +31,7 @@ use Rattle.front_nodes.proofs.ReaderExits.{looked-inside}
 use Rattle.front_nodes.proofs.QualifierChain.{chain-none, chain_more}
 use Rattle.front_nodes.specs.contracts.QueryNode as node
 use Rattle.front_resolve.specs.Resolved.{Resolved, env_of}
-use Rattle.front_resolve.specs.declared.Form.TheVariants.{Number, Truth, Record, Two, Not, Comp, Table, Bad}
+use Rattle.front_resolve.specs.declared.Form.TheVariants.{Comp}
 use Rattle.front_resolve.proofs.Exits.{one_more}
 use Rattle.front_emit.specs.declared.WriterState.{WriterState}
 use Rattle.front_emit.specs.ConditionShape.{IsComp}

@@ -21,7 +21,7 @@ use Rattle.front_nodes.specs.Levels.{AllAt, Level}
 use Rattle.base_syntax.specs.declared.Fun.{Fun}
 use Rattle.base_syntax.specs.declared.Fun.TheVariants.{Choice, Open}
 use Rattle.base_syntax.specs.declared.BinOp.{BinOp}
-use Rattle.front_nodes.specs.declared.Found.TheVariants as Fd
+use Rattle.std.specs.declared.option.Option.TheVariants as Opt
 use Rattle.front_nodes.proofs.PostOrder.{post-order}
 use Rattle.front_resolve.specs.Resolved.{Resolved, env_of, form_sem, FormAt, Heads}
 use Rattle.front_resolve.specs.declared.Form.{Form}
@@ -236,20 +236,20 @@ module _ {s : List ℕ} {h : Resolved} {st : WriterState} (S : TermOf s h st) wh
   record-done H p E C = terms-done H p E C
 
 -- the terms from k on: none, or one and those behind it
-no-term : (k : ℕ) (cs : List ℕ) → nth k cs ≡ Fd.Nothing → drop k cs ≡ []
+no-term : (k : ℕ) (cs : List ℕ) → nth k cs ≡ Opt.None → drop k cs ≡ []
 unfolding nth
 no-term zero [] e = refl
 no-term (suc k) [] e = refl
 no-term zero (c ∷ cs) e = let z : ◌≡◌ {A = ℕ} 0 1 = cc in absurd (omega arith)
 no-term (suc k) (c ∷ cs) e = no-term k cs e
 
-some-term : (k c : ℕ) (cs : List ℕ) → nth k cs ≡ Fd.At c → drop k cs ≡ c ∷ drop (suc k) cs
+some-term : (k c : ℕ) (cs : List ℕ) → nth k cs ≡ Opt.Some c → drop k cs ≡ c ∷ drop (suc k) cs
 unfolding nth
 some-term k c [] e = let z : ◌≡◌ {A = ℕ} 0 1 = cc in absurd (omega arith)
 some-term zero c (d ∷ cs) e = let z : d ≡ c = cc in ap (λ x. x ∷ cs) z
 some-term (suc k) c (d ∷ cs) e = some-term k c cs e
 
-term-level : (dep : ℕ → ℕ) (D k c : ℕ) (cs : List ℕ) → AllAt dep D cs → nth k cs ≡ Fd.At c → dep c ≡ D
+term-level : (dep : ℕ → ℕ) (D k c : ℕ) (cs : List ℕ) → AllAt dep D cs → nth k cs ≡ Opt.Some c → dep c ≡ D
 unfolding nth AllAt
 term-level dep D k c [] a e = let z : ◌≡◌ {A = ℕ} 0 1 = cc in absurd (omega arith)
 term-level dep D zero c (d ∷ cs) a e = let z : c ≡ d = cc in ap dep z ∙ a.0
@@ -271,11 +271,11 @@ some_word (Nf.comp m q u) = omega arith
 abbrev rest_s : List ℕ → Resolved → List ℕ → Sems
 rest_s s h cs = sems_of (sem_s s) cs h.depth (env_of h.env)
 
-pub no_fields : {s : List ℕ} {h : Resolved} {st : WriterState} {k n : ℕ} → StartsAt s h st n → ChildPost s h.node k Fd.Nothing → FieldsPost (fields_s s h k) s st s st
+pub no_fields : {s : List ℕ} {h : Resolved} {st : WriterState} {k n : ℕ} → StartsAt s h st n → ChildPost s h.node k Opt.None → FieldsPost (fields_s s h k) s st s st
 unfolding sems_of
 no_fields {s} {h} {st} {k} S P = subst (λ (l : List ℕ). FieldsPost (rest_s s h l) s st s st) (sym (no-term k (children_of s h.node) (sym P.is))) fields-none
 
-module _ {s : List ℕ} {h : Resolved} {st : WriterState} {k c : ℕ} (S : FieldsPre s h k st) (T : Termed h.form) (P : ChildPost s h.node k (Fd.At c)) where
+module _ {s : List ℕ} {h : Resolved} {st : WriterState} {k c : ℕ} (S : FieldsPre s h k st) (T : Termed h.form) (P : ChildPost s h.node k (Opt.Some c)) where
   these : fields_s s h k ≡ scons (child_s s h c) (rest_s s h (drop (suc k) (children_of s h.node)))
   unfolding sems_of
   these = ap (rest_s s h) (some-term k c (children_of s h.node) (sym P.is))
@@ -316,10 +316,10 @@ pub left-all : {s : List ℕ} {h : Resolved} {st : WriterState} → FieldsPre s 
 left-all S = record { starts = S; few = omega arith; rest = λ s' r E. E }
 
 module _ {s₀ : List ℕ} {h : Resolved} {st : WriterState} {s : List ℕ} {k : ℕ} {q : WriterState} (L : FieldsLeft s₀ h st s k q) where
-  pub left-none : ChildPost s h.node k Fd.Nothing → FieldsPost (fields_s s₀ h 0) s₀ st s q
+  pub left-none : ChildPost s h.node k Opt.None → FieldsPost (fields_s s₀ h 0) s₀ st s q
   left-none P = L.rest s q (no_fields L.starts P)
 
-  pub left_less : {c : ℕ} {s₁ : List ℕ} {x : WriterState} → Termed h.form → ChildPost s h.node k (Fd.At c) → Emitted (child_s s h c) s q s₁ x → FieldsLeft s₀ h st s₁ (k + 1) x
+  pub left_less : {c : ℕ} {s₁ : List ℕ} {x : WriterState} → Termed h.form → ChildPost s h.node k (Opt.Some c) → Emitted (child_s s h c) s q s₁ x → FieldsLeft s₀ h st s₁ (k + 1) x
   left_less T P E =
       let n = field_next L.starts T P E L.few in
       record { starts = n.0; few = n.1; rest = λ s' r F. L.rest s' r (field-done L.starts T P E F) }

@@ -5,7 +5,6 @@ use Rattle.base_syntax.specs.MonoidWord.{monoid_of}
 use Rattle.base_syntax.specs.declared.Monoid.{Monoid}
 use Rattle.base_syntax.specs.declared.Monoid.TheVariants as Mo
 use Rattle.base_syntax.specs.declared.BinOp.{BinOp}
-use Rattle.base_syntax.specs.declared.BinOp.TheVariants as BinOp
 use Rattle.front_resolve.specs.declared.Form.{Form}
 use Rattle.front_resolve.specs.declared.Form.TheVariants.{Number, Truth, Row, Cell, Record, Two, Not, Comp, Table, Operator, Bad}
 use Rattle.front_emit.specs.declared.Split.{Split}

@@ -1,5 +1,5 @@
 -- What a writer starts from: what the scratch says of the question, and room for what is written.
-use Rattle.std.specs.Prelude.{◌≡◌, Bool, true, false, ◌||◌, List, ℕ, suc, ◌+◌, ◌<◌, ◌≤◌, length, drop}
+use Rattle.std.specs.Prelude.{Option, Some, None, ◌≡◌, Bool, true, false, ◌||◌, List, ℕ, suc, ◌+◌, ◌<◌, ◌≤◌, length, drop}
 use Rattle.form_words.specs.Kinds.{record_kind, operator_kind}
 use Rattle.spec_calculus.specs.Syntax.{Collection, of}
 use Rattle.spec_encoding.specs.Data.{collection_of}
@@ -22,8 +22,6 @@ use Rattle.front_resolve.specs.Resolved.{Resolved, env_of, sem_n, place_sem, For
 use Rattle.front_resolve.specs.declared.Form.{Form}
 use Rattle.front_resolve.specs.declared.Form.TheVariants.{Number, Truth, Row, Cell, Record, Two, Not, Comp, Table, Operator, Bad}
 use Rattle.front_emit.specs.declared.WriterState.{WriterState}
-use Rattle.front_emit.specs.declared.Heading.{Heading}
-use Rattle.front_emit.specs.declared.Heading.TheVariants.{Terms, Other}
 
 -- the collection of each table by its description; a list where there is no such table
 unfoldable pub collections : List ℕ → ℕ → Collection
@@ -147,11 +145,11 @@ pub data Headed : Form → ℕ → ℕ → Type 0 where
 abbrev pub Termed : Form → Type 0
 Termed f = (k : ℕ) × (a : ℕ) × Headed f k a
 
-abbrev pub HeadingIs : Form → Heading → Type 0
-HeadingIs f (Terms k a) = Headed f k a
-HeadingIs f Other = Termed f → ⊥
+abbrev pub HeadingIs : Form → Option (ℕ × ℕ) → Type 0
+HeadingIs f (Some (k, a)) = Headed f k a
+HeadingIs f None = Termed f → ⊥
 
-pub record HeadingOfPost (f : Form) (r : Heading) : Type 0 where
+pub record HeadingOfPost (f : Form) (r : Option (ℕ × ℕ)) : Type 0 where
   pub is : HeadingIs f r
 
 -- a place as a term, its terms from term k on, as a condition, as a generator's term, as one condition, its qualifiers in

@@ -20,7 +20,7 @@ ghost use Rattle.front_emit.specs.WholeForm.{Writable, WriteFormPost};
 ghost use Rattle.base_syntax.specs.Numbers.{bin_of, op_arg, monoid_arg};
 
 use base_syntax::{BinOp, Monoid};
-use front_nodes::{Found, QueryNode};
+use front_nodes::QueryNode;
 use front_resolve::{Form, Head, LEVELS};
 
 // The next place among the words of the normal form, and the next generator number.
@@ -49,10 +49,11 @@ fn collection_number(s: &[u64], k: usize) -> u64
     }
 }
 
+#[tactic(auto, unfolding(spec_calculus::specs::Lists::pick))]
 fn truth_number(b: bool) -> u64
     ensures { (result ≡ pick b 1 0) × (result < 2) }
 {
-    if b { 1 } else { 0 }
+    b as u64
 }
 
 // Behind a word.
@@ -62,7 +63,7 @@ fn below(st: WriterState) -> WriterState
 {
     WriterState {
         place: st.place + 1,
-        next: st.next,
+        ..st
     }
 }
 
@@ -149,23 +150,13 @@ fn simple(s: &mut [u64], f: Form, i: usize, st: WriterState) -> WriterState
     }
 }
 
+#[tactic(auto, unfolding(spec_normal_form::specs::Normal::gives_way))]
 fn split_of(f: Form, v: bool) -> Split
     ensures { SplitOfPost f v result }
 {
     match f {
-        Form::Two(o, a, b) => match o {
-            BinOp::And => Split::And(a, b),
-            _ => Split::One,
-        },
-        Form::Comp(m, k) => match m {
-            Monoid::Some => {
-                if v {
-                    return Split::Some(k);
-                }
-                Split::One
-            }
-            _ => Split::One,
-        },
+        Form::Two(BinOp::And, a, b) => Split::And(a, b),
+        Form::Comp(Monoid::Some, k) if v => Split::Some(k),
         _ => Split::One,
     }
 }
@@ -190,19 +181,13 @@ fn emit(s: &mut [u64], i: usize, depth: usize, env: &[u16; LEVELS], st: WriterSt
 }
 
 // Kind and argument of the word over the terms of a record or an operator.
-#[derive(Clone, Copy)]
-enum Heading {
-    Terms(u64, u64),
-    Other,
-}
-
-fn heading_of(f: Form) -> Heading
+fn heading_of(f: Form) -> Option<(u64, u64)>
     ensures { HeadingOfPost f result }
 {
     match f {
-        Form::Record => Heading::Terms(form_words::RECORD, 0),
-        Form::Operator(o) => Heading::Terms(form_words::OPERATOR, o.number()),
-        _ => Heading::Other,
+        Form::Record => Some((form_words::RECORD, 0)),
+        Form::Operator(o) => Some((form_words::OPERATOR, o.number())),
+        _ => None,
     }
 }
 
@@ -211,14 +196,13 @@ fn placed(s: &mut [u64], h: Head, env: &mut [u16; LEVELS], st: WriterState) -> W
     requires { TermOf s.old (under env.old h) st }
     ensures { Emitted (place_s s.old (under env.old h)) s.old st s.new result }
 {
-    let f = h.form;
-    match heading_of(f) {
-        Heading::Terms(k, a) => recorded(s, h, k, a, env, st),
-        Heading::Other => match f {
+    match heading_of(h.form) {
+        Some((k, a)) => recorded(s, h, k, a, env, st),
+        None => match h.form {
             Form::Two(o, a, b) => binary(s, h, o, a, b, env, st),
             Form::Not(c) => negated(s, h, c, env, st),
             Form::Comp(m, k) => comprehension(s, h, m, k, env, st),
-            _ => simple(s, f, h.node, st),
+            _ => simple(s, h.form, h.node, st),
         },
     }
 }
@@ -249,18 +233,13 @@ fn fields(s: &mut [u64], h: Head, env: &[u16; LEVELS], st: WriterState) -> Write
     ensures { FieldsPost (fields_s s.old (under env.now h) 0) s.old st s.new result }
 {
     let mut r = st;
+    // By hand: a range is no plainer here, for the first term that is missing ends the loop.
     let mut k = 0;
-    loop {
-        match front_nodes::child(s, h.node, k) {
-            Found::Nothing => {
-                return r;
-            }
-            Found::At(c) => {
-                r = emit(s, c, h.depth, env, r);
-                k += 1;
-            }
-        }
+    while let Some(c) = front_nodes::child(s, h.node, k) {
+        r = emit(s, c, h.depth, env, r);
+        k += 1;
     }
+    r
 }
 
 #[cycle(binary_clause_comprehension_copied_emit_fields_negated_placed_qualifier_qualifiers_recorded_single_source)]
@@ -369,8 +348,7 @@ fn qualifier(
     requires { QualifierPre s.old x depth env.now v st × (length env.now ≡ levels) }
     ensures { QualifierPost (sem_s s.old) (nodes_of s.old x) depth (env_of env.now) v s.old st s.new result }
 {
-    let n = front_sizes::condition_count(s, x, v);
-    if n.size == 0 {
+    if front_sizes::condition_count(s, x, v).size == 0 {
         return st;
     }
     match front_nodes::look(s, x) {
@@ -404,8 +382,7 @@ fn clause(
         if ranging {
             return source(s, h, v, &mut e, r);
         }
-        let f = h.form;
-        match split_of(f, v) {
+        match split_of(h.form, v) {
             Split::And(a, b) => {
                 r = clause(s, a, h.depth, &e, v, false, r);
                 j = b;
@@ -429,8 +406,7 @@ fn source(s: &mut [u64], h: Head, v: bool, env: &mut [u16; LEVELS], st: WriterSt
     requires { SourcePre s.old (under env.old h) v st }
     ensures { SourcePost (place_s s.old (under env.old h)) v s.old st s.new result }
 {
-    let f = h.form;
-    match f {
+    match h.form {
         Form::Comp(m, k) => copied(s, h, m, v, env, st),
         Form::Table(k) => generator(s, k, st),
         _ => never(s, st),

@@ -1,7 +1,6 @@
 -- The checks on a question with calendars lent to it, by what they find of the question as it was read.
 use mathlib.Core.Path.{◌≡◌, ap, ◌∙◌}
 use mathlib.Core.Bool.{Bool, true, false}
-use Prim.Native.Nat.{ℕ}
 use lib.ListN.{length}
 use Rattle.spec_calendar.specs.Hours.{Calendars, calendar_of}
 use Rattle.spec_calculus.specs.Syntax.{Question}
@@ -18,7 +17,7 @@ use Rattle.spec_normal_form.specs.Normal.{normal}
 use Rattle.spec_normal_form.specs.Size.{size_fits}
 use Rattle.spec_normal_form.specs.Bound.{numbers_fit}
 use Rattle.spec_normal_form.proofs.Lending.{lend_n, normal-lent, size-lent}
-use Rattle.spec_outcome.specs.Acceptance.{Accepted, judge}
+use Rattle.spec_outcome.specs.Acceptance.{judge}
 use Rattle.spec_outcome.proofs.CheckOrder as Ck
 
 -- ---- the calendars

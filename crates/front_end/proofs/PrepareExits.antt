@@ -6,6 +6,8 @@ use mathlib.Core.Logic.{inl, inr}
 use Prim.Native.Nat.{ℕ, ◌+◌, ◌-◌, ◌≤◌, ◌<◌}
 use native.Mathlib.Omega.{arith}
 use lib.ListN.{length, get_or}
+use Rattle.std.proofs.Common.{Ok, Err}
+use Rattle.std.specs.Bool.{⊤}
 use Rattle.spec_calendar.specs.Hours.{Calendar, Calendars, calendar_of}
 use Rattle.spec_calculus.specs.Syntax.{Question}
 use Rattle.spec_hours.specs.CalendarBytes.{most_calendars, calendars_of}
@@ -21,6 +23,9 @@ use Rattle.spec_normal_form.proofs.GeneratorNumbers.{Numbered, normal-numbered}
 use Rattle.spec_normal_form.proofs.GeneratorTables as Ge
 use Rattle.spec_outcome.specs.Acceptance.{Lent, lent_as, read_lent, Accepted, judge, examine}
 use Rattle.spec_outcome.proofs.CheckOrder.{judged-as, question-read}
+use Rattle.base_refusals.specs.declared.Refusal.{Refusal}
+use Rattle.base_refusals.specs.declared.Refusal.TheVariants.{NumberOutOfBounds}
+use Rattle.front_parser.specs.RecordFront.{Outcome}
 use Rattle.base_scratch.specs.ZeroedWords.{WipePost}
 use Rattle.base_tables.specs.DataReader.{Stored}
 use Rattle.base_tables.proofs.TableWords.{stored_same}
@@ -45,10 +50,6 @@ use Rattle.form_prepared.specs.PreparedQuestion.{Prepared}
 use Rattle.front_end.specs.LoadedQuestion.{BehindKept}
 use Rattle.front_end.specs.PartContracts.{Fine, FrontBy, FrontEndPost}
 use Rattle.front_end.specs.PrepareContract.{PreparePost, FormedPost}
-use Rattle.front_end.specs.declared.FrontResult.{FrontResult}
-use Rattle.front_end.specs.declared.FrontResult.TheVariants as FrontResult
-use Rattle.front_end.specs.declared.Checked.{Checked}
-use Rattle.front_end.specs.declared.Checked.TheVariants as Checked
 use Rattle.front_end.proofs.PassChain.{apart-then}
 use Rattle.front_end.proofs.AcceptedRanges.{read-ranges}
 use Rattle.front_end.proofs.LentChecks.{calendars-read, lent, form, form-is, names as lent-names, size as lent-size, numbers-decide, passes}
@@ -178,7 +179,7 @@ module _ {d : Bytes} {l : Lent} {s s₁ s₀ s₄ s₂ s₃ : List ℕ} {n k : �
   judged : examine d l ≡ judge T (length C) (lent T C q)
   judged = judged-as d l F.passed.ready.loaded.tables read
 
-  too-great : a ≡ false → PreparePost d l s s₃ (Checked.Refused 28)
+  too-great : a ≡ false → PreparePost d l s s₃ (Err NumberOutOfBounds)
   too-great e = record {
     is = judged ∙ numbers-decide T C q F.passed.ready.names F.passed.types F.passed.calendars F.passed.generators F.passed.size (sym said ∙ e);
     away = away;
@@ -208,7 +209,7 @@ module _ {d : Bytes} {l : Lent} {s s₁ s₀ s₄ s₂ s₃ : List ℕ} {n k : �
       long = omega (arith, named.long, room);
     }
 
-    accepts : PreparePost d l s s₃ Checked.Accepted
+    accepts : PreparePost d l s s₃ (Ok tt)
     accepts = record {
       is = record { accepted = whole; read = read; is = judged ∙ passes-all; prepared = prepared };
       away = away;
@@ -217,24 +218,24 @@ module _ {d : Bytes} {l : Lent} {s s₁ s₀ s₄ s₂ s₃ : List ℕ} {n k : �
 -- ---- the ways out
 module _ {d c : Bytes} {s s₁ s₀ s₄ s₂ s₃ : List ℕ} {n k : ℕ} {a : Bool} (W : WriteFormPost s (n - 1) s₁ k) (long : length s₁ ≡ length s) (Z : WipePost 16 form_at s₁ s₀)
     (M : CheckpointTablesPost d s₀ s₄) (E : s₂ ≡ kept_in (calendar_of (calendars_of c)) s₄) (N : NameTablesPost s₂ s₃) (B : BoundFitsPost (declared_in d s₃) s₃ a) where
-  pub bound-over : a ≡ false → FormedPost d c s s₃ n (Checked.Refused 28)
+  pub bound-over : a ≡ false → FormedPost d c s s₃ n (Err NumberOutOfBounds)
   bound-over e = record { is = λ l F. too-great F W long Z M E N B e }
 
-  pub all_pass : a ≡ true → FormedPost d c s s₃ n Checked.Accepted
+  pub all_pass : a ≡ true → FormedPost d c s s₃ n (Ok tt)
   all_pass e = record { is = λ l F. accepts F W long Z M E N B e }
 
-module _ {d c q : Bytes} {s t : List ℕ} {x : FrontResult} (P : FrontEndPost d (lent_as c q) s t x) where
+module _ {d c q : Bytes} {s t : List ℕ} {x : Outcome ℕ} (P : FrontEndPost d (lent_as c q) s t x) where
   abbrev l : Lent
   l = lent_as c q
 
-  pub refused-before : {k : ℕ} → x ≡ FrontResult.Refused k → PreparePost d l s t (Checked.Refused k)
+  pub refused-before : {k : Refusal} → x ≡ Err k → PreparePost d l s t (Err k)
   refused-before e = record { is = (subst (FrontBy d l t) e P.is).0; away = P.away }
 
-  pub fine : {n : ℕ} → x ≡ FrontResult.Nodes n → Fine d l t n
+  pub fine : {n : ℕ} → x ≡ Ok n → Fine d l t n
   fine e = subst (FrontBy d l t) e P.is
 
-  pub root-may : {n : ℕ} → x ≡ FrontResult.Nodes n → (1 ≤ n) × Writable t (n - 1)
+  pub root-may : {n : ℕ} → x ≡ Ok n → (1 ≤ n) × Writable t (n - 1)
   root-may e = ((fine e).passed.ready.loaded.some, (fine e).passed.writable)
 
-  pub then-formed : {n : ℕ} → x ≡ FrontResult.Nodes n → {u : List ℕ} {r : Checked} → FormedPost d c t u n r → PreparePost d l s u r
+  pub then-formed : {n : ℕ} → x ≡ Ok n → {u : List ℕ} {r : Outcome ⊤} → FormedPost d c t u n r → PreparePost d l s u r
   then-formed e G = let Q = G.is q (fine e) in record { is = Q.is; away = apart-then P.away Q.away }

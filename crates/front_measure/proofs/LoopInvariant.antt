@@ -62,10 +62,6 @@ module _ (s : List ℕ) (i : ℕ) (w : Weight) (S : SmallWeight w) (room : place
   one : List ℕ
   one = set s (place i 0) (pack w.term w.condition.stays w.condition.yields)
 
-  two : List ℕ
-  unfolding one
-  two = set one (place i 1) (pack w.splice.stays w.splice.yields (offsets_of w.before))
-
   first_word : word_at (storing s i w) i 0 ≡ word_at one i 0
   unfolding one
   first_word = put_word one i 1 (pack w.splice.stays w.splice.yields (offsets_of w.before)) i 0 (omega arith) (omega arith) (λ p q. omega arith)

@@ -1,6 +1,7 @@
 -- One law for each way out of `weigh`: where the nodes before node i are kept right, what is answered is right for node i.
 use mathlib.Core.Path.{◌≡◌, refl, sym, ap, ap₂, subst, ◌∙◌}
 use mathlib.Core.List.{List, [], ◌∷◌, ◌++◌}
+use mathlib.Core.Logic.{◌⊎◌, inl, inr}
 use mathlib.Core.Bool.{Bool, true, false, ◌&&◌, ◌||◌}
 use Prim.Native.Nat.{ℕ, zero, suc, ◌+◌, ◌-◌, ◌<◌, ◌≤◌}
 use native.Mathlib.Omega.{arith}
@@ -451,3 +452,7 @@ module _ {s : List ℕ} {i : ℕ} {n : QueryNode} {w : Weight} (H : LookPost s i
 
   pub weigh-field : {k c : ℕ} → n ≡ Field k c → WeighPost s i w
   weigh-field e = followed-weighs (ap follows (named H e)) (ap qualifies (named H e)) C
+
+  pub weigh-followed : ((x : ℕ) × (d : ℕ) × (n ≡ Name x d)) ⊎ ((k : ℕ) × (c : ℕ) × (n ≡ Field k c)) → WeighPost s i w
+  weigh-followed (inl p) = weigh-name p.2
+  weigh-followed (inr p) = weigh-field p.2

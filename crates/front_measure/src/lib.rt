@@ -16,7 +16,7 @@ ghost use Rattle.front_measure.specs.PartContracts.{joins, both_ways, condition_
 ghost use Rattle.base_syntax.specs.Numbers.{bin_of};
 
 use base_syntax::{BinOp, Monoid};
-use front_nodes::{Found, QueryNode};
+use front_nodes::QueryNode;
 use front_resolve::{Form, LEVELS};
 use front_sizes::{FormSize, TOO_MANY};
 
@@ -41,14 +41,7 @@ pub struct Weight {
 fn sum(a: u64, b: u64) -> u64
     ensures { result ≡ min (a + b) limit }
 {
-    if TOO_MANY <= a {
-        return TOO_MANY;
-    }
-    if TOO_MANY <= b {
-        return TOO_MANY;
-    }
-    let c = a + b;
-    if c < TOO_MANY { c } else { TOO_MANY }
+    a.saturating_add(b).min(TOO_MANY)
 }
 
 fn side(a: FormSize, b: FormSize) -> FormSize
@@ -73,13 +66,9 @@ fn raise(a: FormSize) -> FormSize
 fn both(a: Ways, b: Ways) -> Ways
     ensures { result ≡ both_ways a b }
 {
-    let c = a.stays;
-    let d = b.stays;
-    let e = a.yields;
-    let f = b.yields;
     Ways {
-        stays: side(c, d),
-        yields: side(e, f),
+        stays: side(a.stays, b.stays),
+        yields: side(a.yields, b.yields),
     }
 }
 
@@ -102,6 +91,7 @@ fn conditions(s: &[u64], i: usize) -> Ways
     }
 }
 
+// As `conditions`, for another reader: one function for both would take a closure, which is no plainer.
 fn splices(s: &[u64], i: usize) -> Ways
     ensures { result ≡ splice_ways s.now i }
 {
@@ -144,17 +134,10 @@ fn scalar(t: FormSize) -> Weight
 fn is_and(o: BinOp) -> bool
     ensures { result ≡ joins (bin_of o) }
 {
-    match o {
-        BinOp::Plus => false,
-        BinOp::Minus => false,
-        BinOp::Times => false,
-        BinOp::Equal => false,
-        BinOp::Less => false,
-        BinOp::And => true,
-        BinOp::Or => false,
-    }
+    matches!(o, BinOp::And)
 }
 
+#[tactic(auto, unfolding(spec_calculus::specs::Lists::pick))]
 fn two(s: &[u64], o: BinOp, a: usize, b: usize) -> Weight
     ensures { result ≡ two_weight s.now (bin_of o) a b }
 {
@@ -170,31 +153,27 @@ fn terms(s: &[u64], i: usize) -> FormSize
     ensures { result ≡ total (term_count s.now) none (children_of s.now i) }
 {
     let mut t = FormSize { size: 0, gens: 0 };
+    // By hand: a range is no plainer here, for the first term that is missing ends the loop.
     let mut k: usize = 0;
-    loop {
-        match front_nodes::child(s, i, k) {
-            Found::At(c) => {
-                t = side(t, front_sizes::term_count(s, c));
-                k += 1;
-            }
-            Found::Nothing => return t,
-        }
+    while let Some(c) = front_nodes::child(s, i, k) {
+        t = side(t, front_sizes::term_count(s, c));
+        k += 1;
     }
+    t
 }
 
 fn is_qualifier(s: &[u64], i: usize) -> bool
     ensures { result ≡ qualifies (nodes_of s.now i) }
 {
-    match front_nodes::look(s, i) {
-        QueryNode::Gen(c) => true,
-        QueryNode::Bind(c) => true,
-        QueryNode::Cond(c) => true,
-        _ => false,
-    }
+    matches!(
+        front_nodes::look(s, i),
+        QueryNode::Gen(_) | QueryNode::Bind(_) | QueryNode::Cond(_)
+    )
 }
 
 // What is stored for the qualifier of depth d that ends at e: once it is measured, what the qualifiers of its comprehension
 // write up to it. Nothing where none ends there.
+#[tactic(auto, unfolding(crate::specs::MeasurableNodes::ends, spec_calculus::specs::Lists::pick))]
 fn row(s: &[u64], d: usize, e: usize) -> Ways
     ensures { result ≡ row_ways s.now d e }
 {
@@ -202,41 +181,34 @@ fn row(s: &[u64], d: usize, e: usize) -> Ways
         return nothing();
     }
     let c = e - 1;
-    if front_nodes::depth_at(s, c) != d {
-        return nothing();
+    if front_nodes::depth_at(s, c) == d && is_qualifier(s, c) {
+        splices(s, c)
+    } else {
+        nothing()
     }
-    if is_qualifier(s, c) {
-        return splices(s, c);
-    }
-    nothing()
 }
 
+#[tactic(auto, unfolding(spec_normal_form::specs::Normal::gives_way))]
 fn gives_way(m: Monoid) -> bool
     ensures { result ≡ gives_way (monoid_of m) true }
 {
-    match m {
-        Monoid::List => false,
-        Monoid::Bag => false,
-        Monoid::Set => false,
-        Monoid::Sum => false,
-        Monoid::Max => false,
-        Monoid::Some => true,
-        Monoid::All => false,
-        Monoid::Min => false,
-    }
+    matches!(m, Monoid::Some)
 }
 
 // What is written where a comprehension of m is not spliced.
+#[tactic(auto, unfolding(crate::specs::PartContracts::way))]
 fn own(m: Monoid, a: Ways) -> FormSize
     ensures { result ≡ way a (idempotent (monoid_of m)) }
 {
     if front_resolve::joined(false, m) {
-        return a.yields;
+        a.yields
+    } else {
+        a.stays
     }
-    a.stays
 }
 
 // A comprehension of m as a condition, where "some" gives way: its qualifiers write a, its head h; else c.
+#[tactic(auto, unfolding(spec_calculus::specs::Lists::pick))]
 fn test(s: &[u64], m: Monoid, a: FormSize, h: usize, c: FormSize) -> FormSize
     ensures { result ≡ pick (gives_way (monoid_of m) true) (beside a (condition_count s.now h true)) c }
 {
@@ -247,6 +219,7 @@ fn test(s: &[u64], m: Monoid, a: FormSize, h: usize, c: FormSize) -> FormSize
 }
 
 // A comprehension of m with head h. "A 33rd level" is refused (23).
+#[tactic(auto, unfolding(spec_calculus::specs::Lists::pick))]
 fn comp(s: &[u64], i: usize, m: Monoid, h: usize) -> Weight
     ensures { result ≡ comp_at s.now i (monoid_of m) h }
 {
@@ -321,17 +294,9 @@ fn form(s: &[u64], j: usize, f: Form) -> Weight
     ensures { result ≡ form_weight s.now j f }
 {
     match f {
-        Form::Number(z) => copy(s, j),
-        Form::Truth(b) => copy(s, j),
-        Form::Row(g) => scalar(FormSize { size: 1, gens: 0 }),
-        Form::Cell(k, g) => scalar(FormSize { size: 2, gens: 0 }),
-        Form::Record => copy(s, j),
-        Form::Two(o, a, b) => copy(s, j),
-        Form::Not(c) => copy(s, j),
-        Form::Comp(m, h) => copy(s, j),
-        Form::Table(k) => copy(s, j),
-        Form::Operator(o) => copy(s, j),
-        Form::Bad => scalar(FormSize { size: 1, gens: 0 }),
+        Form::Row(_) | Form::Bad => scalar(FormSize { size: 1, gens: 0 }),
+        Form::Cell(_, _) => scalar(FormSize { size: 2, gens: 0 }),
+        _ => copy(s, j),
     }
 }
 
@@ -341,8 +306,7 @@ fn followed(s: &[u64], i: usize) -> Weight
 {
     let mut env: [u16; LEVELS] = [0; LEVELS];
     let r = front_resolve::resolve(s, i, front_nodes::depth_at(s, i), &mut env);
-    let f = r.form;
-    form(s, r.node, f)
+    form(s, r.node, r.form)
 }
 
 // Node i, from the nodes before it.
@@ -350,20 +314,18 @@ fn weigh(s: &[u64], i: usize) -> Weight
     ensures { WeighPost s.now i result }
 {
     match front_nodes::look(s, i) {
-        QueryNode::Number(z) => scalar(FormSize { size: 1, gens: 0 }),
-        QueryNode::Truth(b) => scalar(FormSize { size: 1, gens: 0 }),
-        QueryNode::Name(x, d) => followed(s, i),
-        QueryNode::Field(k, c) => followed(s, i),
-        QueryNode::Record => scalar(raise(terms(s, i))),
+        QueryNode::Number(_) | QueryNode::Truth(_) | QueryNode::Bad => {
+            scalar(FormSize { size: 1, gens: 0 })
+        }
+        QueryNode::Name(_, _) | QueryNode::Field(_, _) => followed(s, i),
+        QueryNode::Record | QueryNode::Operator(_) => scalar(raise(terms(s, i))),
         QueryNode::Two(o, a, b) => two(s, o, a, b),
         QueryNode::Not(c) => scalar(raise(front_sizes::term_count(s, c))),
         QueryNode::Comp(m, h) => comp(s, i, m, h),
-        QueryNode::Table(k) => table(),
+        QueryNode::Table(_) => table(),
         QueryNode::Gen(c) => qualifier(s, i, splices(s, c)),
-        QueryNode::Bind(c) => qualifier(s, i, nothing()),
+        QueryNode::Bind(_) => qualifier(s, i, nothing()),
         QueryNode::Cond(c) => qualifier(s, i, conditions(s, c)),
-        QueryNode::Operator(f) => scalar(raise(terms(s, i))),
-        QueryNode::Bad => scalar(FormSize { size: 1, gens: 0 }),
     }
 }
 
@@ -372,33 +334,21 @@ fn store(s: &mut [u64], i: usize, w: Weight)
     requires { SmallWeight w }
     ensures { s.new ≡ storing s.old i w }
 {
-    let c = w.condition;
-    let p = w.splice;
-    let b = w.before;
-    let x = b.stays;
-    let y = b.yields;
-    front_sizes::put_first(s, i, w.term, c.stays, c.yields);
-    front_sizes::put_second(
-        s,
-        i,
-        p.stays,
-        p.yields,
-        FormSize {
-            size: x.gens,
-            gens: y.gens,
-        },
-    );
+    let offsets = FormSize {
+        size: w.before.stays.gens,
+        gens: w.before.yields.gens,
+    };
+    front_sizes::put_first(s, i, w.term, w.condition.stays, w.condition.yields);
+    front_sizes::put_second(s, i, w.splice.stays, w.splice.yields, offsets);
 }
 
 // Every node below n, from the first on.
 pub fn measure(s: &mut [u64], n: usize)
     ensures { MeasurePost s.old n s.new }
 {
-    let mut i: usize = 0;
-    while i < n {
+    for i in 0..n {
         let w = weigh(s, i);
         store(s, i, w);
-        i += 1;
     }
 }
 
@@ -407,6 +357,5 @@ pub fn measure(s: &mut [u64], n: usize)
 pub fn size(s: &[u64], n: usize) -> u64
     ensures { result ≡ (term_count s.now (n - 1)).size }
 {
-    let c = front_sizes::term_count(s, front_nodes::prior(n));
-    c.size
+    front_sizes::term_count(s, front_nodes::prior(n)).size
 }

@@ -34,7 +34,7 @@ use Rattle.base_syntax.specs.declared.Fun.TheVariants.{Choice, Open}
 use Rattle.front_nodes.specs.declared.Kind.{Kind}
 use Rattle.front_nodes.specs.declared.QueryNode.{QueryNode}
 use Rattle.front_nodes.specs.declared.QueryNode.TheVariants.{Number, Truth, Name, Field, Record, Two, Not, Comp, Table, Gen, Bind, Cond, Operator, Bad}
-use Rattle.front_nodes.specs.declared.Found.TheVariants.{At, Nothing}
+use Rattle.std.proofs.Common.{Some, None}
 use Rattle.front_nodes.specs.declared.Binder.TheVariants as Bi
 use Rattle.front_nodes.specs.NodeTable.{children_of, depth_at, count_of, count_at, siblings, qualifiers_of, above, name_by, node_by, nodes_of}
 use Rattle.front_nodes.specs.Look.{kind_named, node_named, SmallNode, LookPost, NamedPost, RaisedPost, nth, ChildPost, Unbinding, BoundByPost}
@@ -244,7 +244,7 @@ nth-behind s (suc n) e cs j =
     let q : suc n + j ≡ n + suc j = omega arith in
     ap (λ (k : ℕ). nth k l) q ∙ nth-behind s n (start_at s (e - 1)) ((e - 1) ∷ cs) (suc j)
 
-nth-siblings : (s : List ℕ) (n e : ℕ) (cs : List ℕ) (k : ℕ) → k < n → nth k (siblings s n e cs) ≡ At (back s (n - 1 - k) e - 1)
+nth-siblings : (s : List ℕ) (n e : ℕ) (cs : List ℕ) (k : ℕ) → k < n → nth k (siblings s n e cs) ≡ Some (back s (n - 1 - k) e - 1)
 unfolding siblings nth back
 nth-siblings s zero e cs k h = absurd (omega arith)
 nth-siblings s (suc n) e cs k h =
@@ -252,11 +252,11 @@ nth-siblings s (suc n) e cs k h =
     by-test (ltb k n)
     (λ t. let l = ltb-true k n t in
     let q : suc (n - 1 - k) ≡ suc n - 1 - k = omega arith in
-    nth-siblings s n (start_at s (e - 1)) ((e - 1) ∷ cs) k (omega arith) ∙ ap (λ (j : ℕ). At (back s j e - 1)) q)
+    nth-siblings s n (start_at s (e - 1)) ((e - 1) ∷ cs) k (omega arith) ∙ ap (λ (j : ℕ). Some (back s j e - 1)) q)
     (λ t. let m = ltb-false k n t in
     let p : k ≡ n + 0 = omega arith in
     let q : 0 ≡ suc n - 1 - k = omega arith in
-    ap (λ (j : ℕ). nth j l) p ∙ nth-behind s n (start_at s (e - 1)) ((e - 1) ∷ cs) 0 ∙ ap (λ (j : ℕ). At (back s j e - 1)) q)
+    ap (λ (j : ℕ). nth j l) p ∙ nth-behind s n (start_at s (e - 1)) ((e - 1) ∷ cs) 0 ∙ ap (λ (j : ℕ). Some (back s j e - 1)) q)
 
 back-least : (s : List ℕ) (n e i : ℕ) → e ≤ i → back s n e ≤ i
 unfolding back
@@ -264,37 +264,40 @@ back-least s zero e i h = h
 back-least s (suc n) e i h = back-least s n (start_at s (e - 1)) i (omega arith)
 
 module _ {s : List ℕ} {i k : ℕ} where
-  pub child-first : i ≡ 0 → ChildPost s i k Nothing
+  pub child-first : i ≡ 0 → ChildPost s i k None
   unfolding pick nth
   child-first e = record { is = rw e; before = tt }
 
-  pub child-past : {n : ℕ} → n ≡ count_at s i → n ≤ k → ChildPost s i k Nothing
+  pub child-past : {n : ℕ} → n ≡ count_at s i → n ≤ k → ChildPost s i k None
   unfolding pick nth
-  child-past {n} e h = record { is = sym (by-pick (λ (l : List ℕ). nth k l ≡ Nothing) (ltb 0 i) (siblings s (count_at s i) i []) [] (λ t. past) (λ t. refl)); before = tt }
+  child-past {n} e h = record { is = sym (by-pick (λ (l : List ℕ). nth k l ≡ None) (ltb 0 i) (siblings s (count_at s i) i []) [] (λ t. past) (λ t. refl)); before = tt }
     where
-      past : nth k (siblings s (count_at s i) i []) ≡ Nothing
+      past : nth k (siblings s (count_at s i) i []) ≡ None
       past = let q : k ≡ count_at s i + (k - count_at s i) = omega arith in
           ap (λ (j : ℕ). nth j (siblings s (count_at s i) i [])) q ∙ nth-behind s (count_at s i) i [] (k - count_at s i)
 
--- the walk from i, of m steps, is at e with so many left
-pub record Walks (s : List ℕ) (i m left e : ℕ) : Type 0 where
-  pub is : back s left e ≡ back s m i
+-- the walk from i, of m steps, is at e when g of them are done
+pub record Walks (s : List ℕ) (i m g e : ℕ) : Type 0 where
+  pub is : back s (m - g) e ≡ back s m i
 
 module _ {s : List ℕ} {i m : ℕ} where
-  pub walk-on : {left e b a : ℕ} → Walks s i m left e → 0 < left → b ≡ e - 1 → a ≡ start_at s b → Walks s i m (left - 1) a
-  unfolding back
-  walk-on {left} {e} {b} {a} W h p q =
-      let l : left ≡ suc (left - 1) = omega arith in
-      record { is = ap (back s (left - 1)) (q ∙ ap (start_at s) p) ∙ ap (λ (j : ℕ). back s j e) (sym l) ∙ W.is }
+  pub walk-begins : Walks s i m 0 i
+  walk-begins = record { is = ap (λ (j : ℕ). back s j i) (omega arith) }
 
-pub child-at : {s : List ℕ} {i k n left e c : ℕ} → (i ≡ 0 → ⊥) → n ≡ count_at s i → k < n → Walks s i (n - 1 - k) left e → left ≤ 0 → c ≡ e - 1 → ChildPost s i k (At c)
+  pub walk-on : {g e b a : ℕ} → Walks s i m g e → g < m → b ≡ e - 1 → a ≡ start_at s b → Walks s i m (g + 1) a
+  unfolding back
+  walk-on {g} {e} {b} {a} W h p q =
+      let l : m - g ≡ suc (m - (g + 1)) = omega arith in
+      record { is = ap (back s (m - (g + 1))) (q ∙ ap (start_at s) p) ∙ ap (λ (j : ℕ). back s j e) (sym l) ∙ W.is }
+
+pub child-at : {s : List ℕ} {i k n g e c : ℕ} → (i ≡ 0 → ⊥) → n ≡ count_at s i → k < n → Walks s i (n - 1 - k) g e → n - 1 - k ≤ g → c ≡ e - 1 → ChildPost s i k (Some c)
 unfolding pick back
-child-at {s} {i} {k} {n} {left} {e} {c} y p h W z q =
-    let zl : left ≡ 0 = omega arith in
+child-at {s} {i} {k} {n} {g} {e} {c} y p h W z q =
+    let zl : n - 1 - k - g ≡ 0 = omega arith in
     let w : e ≡ back s (n - 1 - k) i = ap (λ (j : ℕ). back s j e) (sym zl) ∙ W.is in
-    let g : nth k (siblings s n i []) ≡ At (back s (n - 1 - k) i - 1) = nth-siblings s n i [] k h in
+    let d : nth k (siblings s n i []) ≡ Some (back s (n - 1 - k) i - 1) = nth-siblings s n i [] k h in
     record {
-      is = rw (is_some i y) (ap At (q ∙ ap (λ (x : ℕ). x - 1) w) ∙ sym g ∙ ap (λ (x : ℕ). nth k (siblings s x i [])) p);
+      is = rw (is_some i y) (ap Some (q ∙ ap (λ (x : ℕ). x - 1) w) ∙ sym d ∙ ap (λ (x : ℕ). nth k (siblings s x i [])) p);
       before = omega (arith, back-least s (n - 1 - k) i i (omega arith));
     }
 
@@ -339,8 +342,8 @@ pub bound-other : {s : List ℕ} {x : ℕ} {n : QueryNode} → LookPost s x n �
 bound-other {s} {x} {n} H h = record { is = subst Unbinding (sym H.is) (other-node s x n h) }
 
 -- the children of a record one by one
-pub nth-at : (k : ℕ) (cs : List ℕ) {c : ℕ} → At c ≡ nth k cs → drop k cs ≡ c ∷ drop (suc k) cs
-unfolding nth drop
+pub nth-at : (k : ℕ) (cs : List ℕ) {c : ℕ} → Some c ≡ nth k cs → drop k cs ≡ c ∷ drop (suc k) cs
+unfolding nth
 nth-at zero [] e = let z : ◌≡◌ {A = ℕ} 0 1 = cc in absurd (omega arith)
 nth-at (suc k) [] e = let z : ◌≡◌ {A = ℕ} 0 1 = cc in absurd (omega arith)
 nth-at zero (c ∷ cs) e = cc

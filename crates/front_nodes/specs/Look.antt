@@ -1,5 +1,5 @@
 -- What reading a node answers: the node of the table, its lists of children left out.
-use Rattle.std.specs.Prelude.{◌≡◌, List, [], ◌∷◌, ℕ, zero, suc, ◌^◌, ◌<◌, ltb}
+use Rattle.std.specs.Prelude.{◌≡◌, Option, Some, None, List, [], ◌∷◌, ℕ, zero, suc, ◌^◌, ◌<◌, ltb}
 use Rattle.std.specs.Int.Signed.{mag}
 use Rattle.spec_calculus.specs.Lists.{pick}
 use Rattle.spec_encoding.specs.Reader as Re
@@ -10,8 +10,6 @@ use Rattle.front_nodes.specs.declared.Kind.{Kind}
 use Rattle.front_nodes.specs.declared.Kind.TheVariants as Ki
 use Rattle.front_nodes.specs.declared.QueryNode.{QueryNode}
 use Rattle.front_nodes.specs.declared.QueryNode.TheVariants.{Number, Truth, Name, Field, Record, Two, Not, Comp, Table, Gen, Bind, Cond, Operator, Bad}
-use Rattle.front_nodes.specs.declared.Found.{Found}
-use Rattle.front_nodes.specs.declared.Found.TheVariants.{At, Nothing}
 use Rattle.front_nodes.specs.declared.Binder.{Binder}
 use Rattle.front_nodes.specs.declared.Binder.TheVariants as Bi
 use Rattle.front_nodes.specs.NodeTable.{children_of, qualifiers_of, name_by, nodes_of}
@@ -82,17 +80,17 @@ pub record RaisedPost (i : ℕ) (n r : QueryNode) : Type 0 where
   pub is : r ≡ pick (ltb 0 i) n Bad
 
 -- element k
-unfoldable pub nth : ℕ → List ℕ → Found
-nth k [] = Nothing
-nth zero (c ∷ cs) = At c
+unfoldable pub nth : ℕ → List ℕ → Option ℕ
+nth k [] = None
+nth zero (c ∷ cs) = Some c
 nth (suc k) (c ∷ cs) = nth k cs
 
-abbrev pub Before : ℕ → Found → Type 0
-Before i (At c) = c < i
-Before i Nothing = Unit {0}
+abbrev pub Before : ℕ → Option ℕ → Type 0
+Before i (Some c) = c < i
+Before i None = Unit {0}
 
 -- term k of the record or operator at node i
-pub record ChildPost (s : List ℕ) (i k : ℕ) (r : Found) : Type 0 where
+pub record ChildPost (s : List ℕ) (i k : ℕ) (r : Option ℕ) : Type 0 where
   pub is : r ≡ nth k (children_of s i)
   pub before : Before i r
 

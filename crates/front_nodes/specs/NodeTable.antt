@@ -1,7 +1,7 @@
 -- The node table that the words in scratch stand for. Nodes stand in post-order: a node's last child is the node before it,
 -- and the child before a child c ends where c's subtree begins. Every scratch is read as some table, and in every one each
 -- node refers to nodes before it alone (proofs/PostOrder). `e` is the place behind a node.
-use Rattle.std.specs.Prelude.{List, [], ◌∷◌, ◌++◌, ℕ, zero, suc, ◌+◌, ◌-◌, leb, ltb, eqb}
+use Rattle.std.specs.Prelude.{List, [], ◌∷◌, ◌++◌, ℕ, zero, suc, ◌-◌, leb, ltb, eqb}
 use Rattle.spec_calculus.specs.Lists.{pick}
 use Rattle.spec_calculus.specs.Syntax.{choice}
 use Rattle.spec_calculus.specs.Lending.{unlent}

@@ -52,12 +52,6 @@ pub enum QueryNode {
 }
 
 #[derive(Clone, Copy)]
-pub enum Found {
-    At(usize),
-    Nothing,
-}
-
-#[derive(Clone, Copy)]
 pub enum Binder {
     Gen(usize),
     Bind(usize),
@@ -103,7 +97,7 @@ fn number(a: u64) -> i64
 pub fn prior(e: usize) -> usize
     ensures { result ≡ e - 1 }
 {
-    if e == 0 { 0 } else { e - 1 }
+    e.saturating_sub(1)
 }
 
 pub fn depth_at(s: &[u64], i: usize) -> usize
@@ -179,23 +173,21 @@ pub fn term_count(w: u64) -> u64
 }
 
 // Term k of the record or operator at node i, by walking back from its last one.
-pub fn child(s: &[u64], i: usize, k: usize) -> Found
+pub fn child(s: &[u64], i: usize, k: usize) -> Option<usize>
     ensures { ChildPost s.now i k result }
 {
     let n = term_count(front_words::node_word(s, i)) as usize;
     if i == 0 {
-        return Found::Nothing;
+        return None;
     }
     if n <= k {
-        return Found::Nothing;
+        return None;
     }
-    let mut left = n - 1 - k;
     let mut e = i;
-    while 0 < left {
+    for _ in 0..n - 1 - k {
         e = start_at(s, prior(e));
-        left -= 1;
     }
-    Found::At(prior(e))
+    Some(prior(e))
 }
 
 // What node x binds a name to.

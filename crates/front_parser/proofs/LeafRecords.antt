@@ -1,72 +1,85 @@
 -- Laws of the records' headers, of the kinds, and of the records without records inside: one for each way out.
 use mathlib.Core.Path.{◌≡◌, refl, sym, ap, ap₂, subst, ◌∙◌}
 use mathlib.Core.List.{List, [], ◌∷◌}
-use mathlib.Core.Bool.{Bool, true, false, ◌&&◌}
+use mathlib.Core.Bool.{Bool, true, false}
 use Prim.Native.Nat.{ℕ, zero, suc, ◌+◌, ◌-◌, ◌*◌, ◌≤◌, ◌<◌}
 use native.Mathlib.Omega.{arith}
 use lib.ListN.{length, get_or, set, length-set, get_or-eq_default}
 use lib.Seq.{get_or-set_other}
 use lib.Dec.{eqb, leb, ltb}
 use lib.IntN.{ℤ, pos, negsuc}
+use Rattle.std.specs.Option.{ok_or}
+use Rattle.std.specs.Result.{IsErrAnd}
+use Rattle.std.proofs.Common.{Option, Some, None, Ok, Err}
+use Rattle.std.proofs.lemmas.Result.{err_from_is_err_and}
 use borrow.Author.Tests.{eq-eqb, ne_eqb, lt-ltb, le-ltb, le-leb, lt-leb, eqb-true, eqb-false, leb-true, leb-false}
 use Rattle.spec_calculus.specs.Lists.{pick}
 use Rattle.spec_calculus.specs.Syntax.{plus, minus, times, equal, less, and, or, Term, num, truth, name, table}
 use Rattle.spec_encoding.specs.Record.{Bytes, Result, refused, require, byte, two, four, signed, length_of, is_whole}
 use Rattle.spec_encoding.specs.Reader.{Kind, kinds, unknown, number, truth_k, name_k, table_k, Reader, term, yields, no_more, content, at_record, read_part}
 use Rattle.base_scratch.specs.Map.{nodes_at}
+use Rattle.base_refusals.specs.declared.Refusal.{Refusal}
+use Rattle.base_refusals.specs.declared.Refusal.TheVariants.{BrokenRecord}
 use Rattle.front_words.specs.NodeWord.{pack}
 use Rattle.front_words.specs.NodeTree.{arg_at}
 use Rattle.base_syntax.specs.Numbers.{constant_of}
 use Rattle.front_words.specs.LaidTree.{nodes, LaidNode, Laid}
 use Rattle.front_words.proofs.NodeWords.{put_is, put-arg}
 use Rattle.front_parser.specs.ReaderScratch.{NodesKept, FinishPre, FinishPost}
-use Rattle.front_parser.specs.RecordFront.{BytePost, TwoPost, RecordFront, ReadHeaderPost, HeadedBy, Stops, none, deep, many, cut, BeginPost}
-use Rattle.front_parser.specs.RecordKinds.{LeafKind, number_kind, truth_kind, is_name, table_kind, HasTerms, of_two, ShapeOfPost, LookAheadPost, Fixed, LeafRecord, a_number, a_truth, a_name, a_table, ValueIs, ValuedBy, Valued}
+use Rattle.front_parser.specs.RecordFront.{Outcome, RecordFront, ReadHeaderPost, HeadedBy, Stops, none, deep, many, cut}
+use Rattle.front_parser.specs.RecordKinds.{LeafKind, number_kind, truth_kind, is_name, HasTerms, of_two, ShapeOfPost, LookAheadPost, Fixed, LeafRecord, a_number, a_truth, a_name, a_table, ValueIs, ValuedBy, Valued}
 use Rattle.front_parser.specs.ReaderContracts.{ContentRead}
 use Rattle.front_parser.specs.declared.ParseState.{ParseState}
-use Rattle.front_parser.specs.declared.Filled.{Filled}
-use Rattle.front_parser.specs.declared.Filled.TheVariants as Filled
-use Rattle.front_parser.specs.declared.bytes.RecordHeader.{RecordHeader}
-use Rattle.front_parser.specs.declared.bytes.RecordHeader.TheVariants as RecordHeader
-use Rattle.front_parser.specs.declared.bytes.RecordStart.TheVariants as Begun
+use Rattle.front_parser.specs.declared.Arity.{Arity}
 use Rattle.front_parser.specs.declared.value.ContentKind.{ContentKind}
-use Rattle.front_parser.specs.declared.value.ContentKind.TheVariants as ContentKind
-use Rattle.front_parser.specs.declared.value.Ahead.{Ahead}
-use Rattle.front_parser.specs.declared.value.Ahead.TheVariants as Ahead
-use Rattle.front_parser.specs.declared.value.ArgumentRead.{ArgumentRead}
-use Rattle.front_parser.specs.declared.value.ArgumentRead.TheVariants as ArgumentRead
 
 pub differ : true ≡ false → ⊥
 differ e = let z : ◌≡◌ {A = ℕ} 0 1 = cc in omega arith
 
--- ---- bytes and headers
-pub no_byte : {l : Bytes} {i : ℕ} → length l ≤ i → BytePost l i 0
-no_byte {l} h = record { is = sym (get_or-eq_default l 0 h); small = omega arith }
+-- ---- `?` passes a refusal on
+pub passed_on : {A : Type 0} {e : Refusal} (r : Outcome A) → IsErrAnd r (λ x. x ≡ e) → r ≡ Err e
+passed_on r h = let p = err_from_is_err_and r h in p.1 ∙ ap Err p.2
 
-pub headed-short : {l : Bytes} → length l < 4 → ReadHeaderPost l RecordHeader.Short
+pub absent : {A : Type 0} {w : Outcome A} {x : Refusal} (o : Option A) → w ≡ ok_or o BrokenRecord → w ≡ Err x → (o ≡ None) × (x ≡ BrokenRecord)
+absent None h e = (refl, grind arith)
+absent (Some a) h e = absurd (grind arith)
+
+pub present : {A : Type 0} {w : Outcome A} {a : A} (o : Option A) → w ≡ ok_or o BrokenRecord → w ≡ Ok a → o ≡ Some a
+present None h e = absurd (grind arith)
+present (Some b) h e = grind arith
+
+-- ---- bytes and headers
+-- what reading a byte, or two, gives
+abbrev pub IsByte : Bytes → ℕ → ℕ → Type 0
+IsByte l i r = (r ≡ byte l i) × (r < 256)
+
+abbrev pub IsTwo : Bytes → ℕ → ℕ → Type 0
+IsTwo l i r = (r ≡ two l i) × (r < 65536)
+
+pub headed-short : {l : Bytes} → length l < 4 → ReadHeaderPost l None
 unfolding is_whole pick
 headed-short {l} h = record { is = rw (lt-leb 4 (length l) h) }
 
-pub headed-cut : {l : Bytes} {n : ℕ} → 4 ≤ length l → TwoPost l 0 n → length l - 4 < n → ReadHeaderPost l RecordHeader.Short
+pub headed-cut : {l : Bytes} {n : ℕ} → 4 ≤ length l → IsTwo l 0 n → length l - 4 < n → ReadHeaderPost l None
 unfolding is_whole pick
-headed-cut {l} h t c = record { is = rw (le-leb 4 (length l) h, lt-leb (4 + length_of l) (length l) (omega (arith, t.is))) }
+headed-cut {l} h t c = record { is = rw (le-leb 4 (length l) h, lt-leb (4 + length_of l) (length l) (omega (arith, t.0))) }
 
-pub headed-whole : {l : Bytes} {n k : ℕ} → 4 ≤ length l → TwoPost l 0 n → n ≤ length l - 4 → TwoPost l 2 k → ReadHeaderPost l (RecordHeader.Record k (4 + n))
+pub headed-whole : {l : Bytes} {n k : ℕ} → 4 ≤ length l → IsTwo l 0 n → n ≤ length l - 4 → IsTwo l 2 k → ReadHeaderPost l (Some (k, 4 + n))
 unfolding is_whole pick
 headed-whole {l} h t c u =
     record {
       is = record {
-        whole = rw (le-leb 4 (length l) h, le-leb (4 + length_of l) (length l) (omega (arith, t.is)));
-        kind = u.is;
-        end = ap (λ (n : ℕ). 4 + n) t.is;
+        whole = rw (le-leb 4 (length l) h, le-leb (4 + length_of l) (length l) (omega (arith, t.0)));
+        kind = u.0;
+        end = ap (λ (n : ℕ). 4 + n) t.0;
         within = omega arith;
       };
     }
 
-pub headed : {l : Bytes} {h : RecordHeader} → ReadHeaderPost l h → {k e : ℕ} → h ≡ RecordHeader.Record k e → RecordFront l k e
+pub headed : {l : Bytes} {h : Option (ℕ × ℕ)} → ReadHeaderPost l h → {k e : ℕ} → h ≡ Some (k, e) → RecordFront l k e
 headed {l} H e = subst (HeadedBy l) e H.is
 
-pub not-headed : {l : Bytes} {h : RecordHeader} → ReadHeaderPost l h → h ≡ RecordHeader.Short → is_whole l ≡ false
+pub not-headed : {l : Bytes} {h : Option (ℕ × ℕ)} → ReadHeaderPost l h → h ≡ None → is_whole l ≡ false
 not-headed {l} H e = subst (HeadedBy l) e H.is
 
 -- ---- whether a record may begin
@@ -107,11 +120,6 @@ stops-refuses {l} {p} (deep h e) q = part-deep p.levels q l p.left h e
 stops-refuses {l} {p} (many h e) q = part-many p.levels q l p.left h e
 stops-refuses {l} {p} (cut h i w) q = part_cut p.levels q l p.left h i w
 
-pub begin-record : {l : Bytes} {p b : ParseState} {k e : ℕ} → (p.levels ≡ 0 → ⊥) → (p.left ≡ 0 → ⊥) → RecordFront l k e →
-    b.levels ≡ p.levels - 1 → b.left ≡ p.left - 1 → b.node ≡ p.node → b.depth ≡ p.depth → BeginPost l p (Begun.Record k e b)
-begin-record h i w bv bl bn bd =
-    record { is = record { header = w; levels = omega arith; left = omega arith; node = bn; depth = bd } }
-
 -- ---- the scratch words
 pub kept_refl : {a : ℕ} {s : List ℕ} → NodesKept a s s
 kept_refl = record { long = refl; below = λ i h. refl; above = λ i h. refl }
@@ -129,9 +137,9 @@ kept_put {s} i w h =
     }
 
 pub finished : {s s' : List ℕ} {k a left i : ℕ} {p : ParseState} → FinishPre s k a p i → s' ≡ set s (nodes_at + i) (pack k a p.node p.depth) →
-    FinishPost s k a p left i s' (Filled.Read left (i + 1))
+    FinishPost s k a p left i s' (left, i + 1)
 finished {s} {s'} {k} {a} {left} {i} {p} F e =
-    subst (λ (t : List ℕ). FinishPost s k a p left i t (Filled.Read left (i + 1))) (sym e)
+    subst (λ (t : List ℕ). FinishPost s k a p left i t (left, i + 1)) (sym e)
     (record {
       is = refl;
       put = refl;
@@ -139,39 +147,6 @@ finished {s} {s'} {k} {a} {left} {i} {p} F e =
       arg = put-arg s i k a p.node p.depth F.kind F.arg (omega arith) (omega arith) (omega arith);
       kept = kept_put i (pack k a p.node p.depth) F.below;
     })
-
--- ---- the bytes before a record's terms
-pub index-broken : {c : Bytes} → length c < 1 → Fixed 1 c ArgumentRead.Broken
-index-broken {c} h = record { is = lt-leb 1 (length c) h }
-
-pub index_is : {c : Bytes} {a : ℕ} → 1 ≤ length c → BytePost c 0 a → Fixed 1 c (ArgumentRead.Is a)
-index_is {c} h b = record { is = record { fits = le-leb 1 (length c) h; is = b.is; small = b.small; within = h } }
-
-pub short_cut : {c : Bytes} → length c < 2 → Fixed 2 c ArgumentRead.Broken
-short_cut {c} h = record { is = rw (lt-leb 2 (length c) h) }
-
-pub short-over : {c : Bytes} {a : ℕ} → 2 ≤ length c → TwoPost c 0 a → 255 < a → Fixed 2 c ArgumentRead.Broken
-short-over {c} h t o = record { is = rw (le-leb 2 (length c) h, lt-leb (two c 0) 255 (omega (arith, t.is))) }
-
-pub short-is : {c : Bytes} {a : ℕ} → 2 ≤ length c → TwoPost c 0 a → a ≤ 255 → Fixed 2 c (ArgumentRead.Is a)
-short-is {c} h t o =
-    record {
-      is = record {
-        fits = rw (le-leb 2 (length c) h, le-leb (two c 0) 255 (omega (arith, t.is)));
-        is = t.is;
-        small = omega arith;
-        within = h;
-      };
-    }
-
-pub fixed-none : {c : Bytes} → Fixed 0 c (ArgumentRead.Is 0)
-fixed-none = record { is = record { fits = refl; is = refl; small = omega arith; within = omega arith } }
-
-pub fixed-other : {skip : ℕ} {c : Bytes} → (skip ≡ 0 → ⊥) → (skip ≡ 1 → ⊥) → (skip ≡ 2 → ⊥) → Fixed skip c ArgumentRead.Broken
-fixed-other {skip} {c} h i j = record { is = get_or-eq_default (true ∷ leb 1 (length c) ∷ (leb 2 (length c) && leb (two c 0) 255) ∷ []) false {n = skip} (omega arith) }
-
-pub fixed-at : {skip n : ℕ} {c : Bytes} {r : ArgumentRead} → skip ≡ n → Fixed n c r → Fixed skip c r
-fixed-at {c = c} {r} e F = subst (λ (n : ℕ). Fixed n c r) (sym e) F
 
 -- ---- records without records inside
 signed_by : (x : ℕ) → signed x ≡ pick (ltb x 2147483648) (pos x) (negsuc (4294967295 - x))
@@ -202,11 +177,11 @@ large-number x h k =
     signed_by x ∙ ap (λ (b : Bool). pick b (pos x) (negsuc (4294967295 - x))) (le-ltb x 2147483648 h) ∙ ap negsuc (omega arith) ∙
     sym (number_by (x - 2147483648) ∙ ap (λ (b : Bool). pick b (negsuc (2147483647 - (x - 2147483648))) (pos (x - 2147483648 - 2147483648))) (lt-ltb (x - 2147483648) 2147483648 (omega arith)))
 
-pub number-broken : {c : Bytes} → (length c ≡ 4 → ⊥) → Valued number c ArgumentRead.Broken
+pub number-broken : {c : Bytes} → (length c ≡ 4 → ⊥) → Valued number c None
 unfolding content require
 number-broken {c} h = record { is = λ R q n. rw (ne_eqb (length c) 4 h) }
 
-number_is : {c : Bytes} {a : ℕ} → length c ≡ 4 → signed (four c 0) ≡ constant_of a → a < 8589934592 → Valued number c (ArgumentRead.Is a)
+number_is : {c : Bytes} {a : ℕ} → length c ≡ 4 → signed (four c 0) ≡ constant_of a → a < 8589934592 → Valued number c (Some a)
 unfolding content require
 number_is {c} {a} h e b =
     record {
@@ -218,21 +193,21 @@ number_is {c} {a} h e b =
       };
     }
 
-pub number_small : {c : Bytes} {x y : ℕ} → length c ≡ 4 → TwoPost c 0 x → TwoPost c 2 y → x + 65536 * y < 2147483648 → Valued number c (ArgumentRead.Is (x + 65536 * y + 2147483648))
+pub number_small : {c : Bytes} {x y : ℕ} → length c ≡ 4 → IsTwo c 0 x → IsTwo c 2 y → x + 65536 * y < 2147483648 → Valued number c (Some (x + 65536 * y + 2147483648))
 number_small {c} {x} {y} h t u l =
-    number_is h (ap signed (ap₂ (λ (a b : ℕ). a + 65536 * b) (sym t.is) (sym u.is)) ∙ small-number (x + 65536 * y) l) (omega arith)
+    number_is h (ap signed (ap₂ (λ (a b : ℕ). a + 65536 * b) (sym t.0) (sym u.0)) ∙ small-number (x + 65536 * y) l) (omega arith)
 
-pub number-large : {c : Bytes} {x y : ℕ} → length c ≡ 4 → TwoPost c 0 x → TwoPost c 2 y → 2147483648 ≤ x + 65536 * y → Valued number c (ArgumentRead.Is (x + 65536 * y - 2147483648))
+pub number-large : {c : Bytes} {x y : ℕ} → length c ≡ 4 → IsTwo c 0 x → IsTwo c 2 y → 2147483648 ≤ x + 65536 * y → Valued number c (Some (x + 65536 * y - 2147483648))
 number-large {c} {x} {y} h t u l =
-    number_is h (ap signed (ap₂ (λ (a b : ℕ). a + 65536 * b) (sym t.is) (sym u.is)) ∙ large-number (x + 65536 * y) l (omega arith)) (omega arith)
+    number_is h (ap signed (ap₂ (λ (a b : ℕ). a + 65536 * b) (sym t.0) (sym u.0)) ∙ large-number (x + 65536 * y) l (omega arith)) (omega arith)
 
-pub truth-broken : {c : Bytes} → (length c ≡ 1 → ⊥) → Valued truth_k c ArgumentRead.Broken
+pub truth-broken : {c : Bytes} → (length c ≡ 1 → ⊥) → Valued truth_k c None
 unfolding content require
 truth-broken {c} h = record { is = λ R q n. rw (ne_eqb (length c) 1 h) }
 
-pub truth-over : {c : Bytes} {b : ℕ} → length c ≡ 1 → BytePost c 0 b → 1 < b → Valued truth_k c ArgumentRead.Broken
+pub truth-over : {c : Bytes} {b : ℕ} → length c ≡ 1 → IsByte c 0 b → 1 < b → Valued truth_k c None
 unfolding content require
-truth-over {c} h t o = record { is = λ R q n. rw (eq-eqb (length c) 1 h, lt-leb (byte c 0) 1 (omega (arith, t.is))) }
+truth-over {c} h t o = record { is = λ R q n. rw (eq-eqb (length c) 1 h, lt-leb (byte c 0) 1 (omega (arith, t.0))) }
 
 bit : (b : ℕ) → b ≤ 1 → pick (eqb b 1) 1 0 ≡ b
 unfolding pick
@@ -240,25 +215,25 @@ bit zero h = refl
 bit (suc zero) h = refl
 bit (suc (suc b)) h = absurd (omega arith)
 
-pub truth-is : {c : Bytes} {b : ℕ} → length c ≡ 1 → BytePost c 0 b → b ≤ 1 → Valued truth_k c (ArgumentRead.Is b)
+pub truth-is : {c : Bytes} {b : ℕ} → length c ≡ 1 → IsByte c 0 b → b ≤ 1 → Valued truth_k c (Some b)
 unfolding content require
 truth-is {c} {b} h t o =
     record {
       is = record {
         tree = truth (eqb b 1);
         leaf = subst (λ (x : ℕ). LeafRecord truth_k x (truth (eqb b 1))) (bit b o) (a_truth (eqb b 1));
-        is = λ R q n. rw (eq-eqb (length c) 1 h, le-leb (byte c 0) 1 (omega (arith, t.is))) (ap (λ (x : ℕ). yields (term (truth (eqb x 1))) [] n) (sym t.is));
+        is = λ R q n. rw (eq-eqb (length c) 1 h, le-leb (byte c 0) 1 (omega (arith, t.0))) (ap (λ (x : ℕ). yields (term (truth (eqb x 1))) [] n) (sym t.0));
         small = omega arith;
       };
     }
 
-pub name-broken : {c : Bytes} → (length c ≡ 2 → ⊥) → Valued name_k c ArgumentRead.Broken
+pub name-broken : {c : Bytes} → (length c ≡ 2 → ⊥) → Valued name_k c None
 unfolding content require
 name-broken {c} h = record { is = λ R q n. rw (ne_eqb (length c) 2 h) }
 
-pub name-is : {c : Bytes} (r : ArgumentRead) → length c ≡ 2 → Fixed 2 c r → Valued name_k c r
+pub name-is : {c : Bytes} (r : Option ℕ) → length c ≡ 2 → Fixed 2 c r → Valued name_k c r
 unfolding content require
-name-is {c} (ArgumentRead.Is a) h F =
+name-is {c} (Some a) h F =
     record {
       is = record {
         tree = name a;
@@ -267,15 +242,15 @@ name-is {c} (ArgumentRead.Is a) h F =
         small = omega (arith, F.is.small);
       };
     }
-name-is {c} ArgumentRead.Broken h F = record { is = λ R q n. rw (eq-eqb (length c) 2 h, rw (le-leb 2 (length c) (omega arith)) at F.is) }
+name-is {c} None h F = record { is = λ R q n. rw (eq-eqb (length c) 2 h, rw (le-leb 2 (length c) (omega arith)) at F.is) }
 
-pub table-broken : {c : Bytes} → (length c ≡ 1 → ⊥) → Valued table_k c ArgumentRead.Broken
+pub table-broken : {c : Bytes} → (length c ≡ 1 → ⊥) → Valued table_k c None
 unfolding content require
 table-broken {c} h = record { is = λ R q n. rw (ne_eqb (length c) 1 h) }
 
-pub table_is : {c : Bytes} (r : ArgumentRead) → length c ≡ 1 → Fixed 1 c r → Valued table_k c r
+pub table_is : {c : Bytes} (r : Option ℕ) → length c ≡ 1 → Fixed 1 c r → Valued table_k c r
 unfolding content require
-table_is {c} (ArgumentRead.Is a) h F =
+table_is {c} (Some a) h F =
     record {
       is = record {
         tree = table a;
@@ -284,22 +259,7 @@ table_is {c} (ArgumentRead.Is a) h F =
         small = omega (arith, F.is.small);
       };
     }
-table_is {c} ArgumentRead.Broken h F = absurd (let z : ◌≡◌ {A = Bool} true false = sym (le-leb 1 (length c) (omega arith)) ∙ F.is in differ z)
-
-pub valued-at : {k n : ℕ} {c : Bytes} {r : ArgumentRead} → k ≡ n → Valued (get_or kinds n unknown) c r → Valued (get_or kinds k unknown) c r
-valued-at {c = c} {r} e W = subst (λ (n : ℕ). Valued (get_or kinds n unknown) c r) (sym e) W
-
-pub table-left : {k : ℕ} → LeafKind k → (k ≡ 1 → ⊥) → (k ≡ 2 → ⊥) → (k ≡ 3 → ⊥) → k ≡ 15
-table-left number_kind a b c = absurd (a refl)
-table-left truth_kind a b c = absurd (b refl)
-table-left is_name a b c = absurd (c refl)
-table-left table_kind a b c = refl
-
-pub leaf-small : {k : ℕ} → LeafKind k → k < 32
-leaf-small number_kind = omega arith
-leaf-small truth_kind = omega arith
-leaf-small is_name = omega arith
-leaf-small table_kind = omega arith
+table_is {c} None h F = absurd (let z : ◌≡◌ {A = Bool} true false = sym (le-leb 1 (length c) (omega arith)) ∙ F.is in differ z)
 
 leaf-one : {K : Kind} {a : ℕ} {t : Term} → LeafRecord K a t → nodes t ≡ 1
 unfolding nodes
@@ -314,18 +274,18 @@ leaf-laid (a_truth b) N e = (N, e)
 leaf-laid (a_name a) N e = (N, e)
 leaf-laid (a_table a) N e = (N, e)
 
-pub value-is : {K : Kind} {c : Bytes} {v : ArgumentRead} → Valued K c v → {a : ℕ} → v ≡ ArgumentRead.Is a → ValueIs K c a
+pub value-is : {K : Kind} {c : Bytes} {v : Option ℕ} → Valued K c v → {a : ℕ} → v ≡ Some a → ValueIs K c a
 value-is {K} {c} W e = subst (ValuedBy K c) e W.is
 
-pub leaf-broken : {k : ℕ} {c : Bytes} {v : ArgumentRead} {s : List ℕ} {p : ParseState} → Valued (get_or kinds k unknown) c v → v ≡ ArgumentRead.Broken → ContentRead k c s p s (Filled.Refused 22)
+pub leaf-broken : {k : ℕ} {c : Bytes} {v : Option ℕ} {s : List ℕ} {p : ParseState} → Valued (get_or kinds k unknown) c v → v ≡ None → ContentRead k c s p s (Err BrokenRecord)
 leaf-broken {k} {c} {p = p} W e =
     record { is = (subst (ValuedBy (get_or kinds k unknown) c) e W.is) (read_part p.levels) false p.left; kept = kept_refl }
 
-pub leaf-read : {k a : ℕ} {c : Bytes} {v : ArgumentRead} {s s' : List ℕ} {p : ParseState} {r : Filled} → Valued (get_or kinds k unknown) c v → v ≡ ArgumentRead.Is a →
-    FinishPost s k a p p.left p.node s' r → ContentRead k c s p s' r
+pub leaf-read : {k a : ℕ} {c : Bytes} {v : Option ℕ} {s s' : List ℕ} {p : ParseState} {r : ℕ × ℕ} → Valued (get_or kinds k unknown) c v → v ≡ Some a →
+    FinishPost s k a p p.left p.node s' r → ContentRead k c s p s' (Ok r)
 leaf-read {k} {a} {c} {s = s} {s'} {p} W e F =
     let v = value-is W e in
-    subst (ContentRead k c s p s') (sym F.is)
+    subst (λ (r : ℕ × ℕ). ContentRead k c s p s' (Ok r)) (sym F.is)
     (record {
       is = record {
         part = term v.tree;
@@ -354,7 +314,7 @@ from_at P i (suc n) A k h l = here (eqb k i) refl (λ (m : suc i ≤ k). from_at
 pub shaped-at : {k n : ℕ} {r : ContentKind} → k ≡ n → ShapeOfPost n r → ShapeOfPost k r
 shaped-at {r = r} e S = subst (λ (n : ℕ). ShapeOfPost n r) (sym e) S
 
-pub looks-at : {k n : ℕ} {r : Ahead} → k ≡ n → LookAheadPost n r → LookAheadPost k r
+pub looks-at : {k n : ℕ} {r : Option Arity} → k ≡ n → LookAheadPost n r → LookAheadPost k r
 looks-at {r = r} e S = subst (λ (n : ℕ). LookAheadPost n r) (sym e) S
 
 pub shaped-value : {k : ℕ} → (k ≡ 0 → ⊥) → k ≤ 3 → ShapeOfPost k ContentKind.Value
@@ -393,7 +353,7 @@ shaped-over {k} h j m = record { is = go (leb k 18) refl }
 abbrev Alike : ℕ → Type 0
 Alike k = (R : Reader) (c : Bytes) (n : ℕ) → content R true (get_or kinds k unknown) c n ≡ content R false (get_or kinds k unknown) c n
 
-pub looks-term : {k : ℕ} → (k ≡ 16 → ⊥) → (k ≡ 17 → ⊥) → (k ≡ 18 → ⊥) → LookAheadPost k Ahead.Term
+pub looks-term : {k : ℕ} → (k ≡ 16 → ⊥) → (k ≡ 17 → ⊥) → (k ≡ 18 → ⊥) → LookAheadPost k None
 unfolding content
 looks-term {k} h i j = record { is = go (leb k 15) refl }
   where

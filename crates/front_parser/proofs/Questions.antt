@@ -7,28 +7,24 @@ use native.Mathlib.Omega.{arith}
 use native.Mathlib.Nat.{add-zero, add_assoc}
 use lib.ListN.{length, get_or, drop, length-drop, drop_of_length-le, get_or-eq_default}
 use lib.Dec.{eqb}
+use Rattle.std.proofs.Common.{Ok, Err}
 use borrow.Author.Tests.{eq-eqb, ne_eqb, le-leb, lt-leb}
 use Rattle.spec_calculus.specs.Syntax.{Monoid, Quals, qnil, gen, bind, cond, Question, as_term}
 use Rattle.spec_encoding.specs.Record.{Bytes, Result, refused, got, and_then, require, byte, length_of, kind_of, behind, is_whole}
 use Rattle.spec_encoding.specs.Reader as E
 use Rattle.spec_encoding.specs.Reader.{Part, term, generates, binds, holds, Reader, yields, no_more, filled, in_front, on_part, monoids, comprehends, at_record, read_part, read_question}
 use Rattle.front_words.specs.NodeWord.{arg_of}
+use Rattle.base_refusals.specs.declared.Refusal.{Refusal}
+use Rattle.base_refusals.specs.declared.Refusal.TheVariants.{BrokenRecord, QuestionTooLong}
 use Rattle.front_words.specs.NodeTree.{monoid_at, tree_at}
 use Rattle.front_words.specs.LaidTree.{nodes, nodes_q, Laid, LaidQ}
 use Rattle.front_words.proofs.NodeWords.{some-nodes, node-same, laid-tree}
 use Rattle.front_parser.specs.ReaderScratch.{NodesKept, NodeRoom, FinishPre, FinishPost}
-use Rattle.front_parser.specs.RecordFront.{RecordFront, Began, BytePost}
+use Rattle.front_parser.specs.RecordFront.{Outcome, RecordFront}
 use Rattle.front_parser.specs.ReaderContracts.{behind_of, qualifies, nodes_p, LaidP, rounds, FrontFound, TermsPost, ItemBy, QualifierPost, PartsFound, PartsBy, PartsPost, ComprehensionFound, ComprehensionBy, ComprehensionPost, ReadQuestionPost}
 use Rattle.front_parser.specs.declared.ParseState.{ParseState}
-use Rattle.front_parser.specs.declared.Filled.{Filled}
-use Rattle.front_parser.specs.declared.Filled.TheVariants as Filled
-use Rattle.front_parser.specs.declared.Several.{Several}
-use Rattle.front_parser.specs.declared.Several.TheVariants as Several
 use Rattle.front_parser.specs.declared.Item.{Item}
-use Rattle.front_parser.specs.declared.Item.TheVariants as Item
-use Rattle.front_parser.specs.declared.Read.{Read}
-use Rattle.front_parser.specs.declared.Read.TheVariants as Answer
-use Rattle.front_parser.proofs.LeafRecords.{differ, kept_refl, kept_trans, from_at}
+use Rattle.front_parser.proofs.LeafRecords.{IsByte, differ, kept_refl, kept_trans, from_at}
 use Rattle.front_parser.proofs.Records.{after, after_is, after-after, length-after, inner, inner-is, laid_kept, nodes-kept, quals-kept}
 use Rattle.front_parser.proofs.TermSequences.{TreeFound, arg-at, count-nodes, node_at_lem, room-behind, terms-found, tree-found}
 
@@ -100,17 +96,17 @@ unfolding filled
 filled-over a [] n h = absurd (h refl)
 filled-over a (b ∷ l) n h = refl
 
-module _ {l : Bytes} {s s' : List ℕ} {p : ParseState} {i : Item} (I : QualifierPost l s p s' i) where
-  parts-refused : {x : ℕ} → i ≡ Item.Refused x → PartsPost l s p s' (Filled.Refused x)
+module _ {l : Bytes} {s s' : List ℕ} {p : ParseState} {i : Outcome Item} (I : QualifierPost l s p s' i) where
+  parts-refused : {x : Refusal} → i ≡ Err x → PartsPost l s p s' (Err x)
   parts-refused e = record { is = refused-rounds p.levels l p.left (subst (ItemBy (read_part p.levels true l p.left) l s' p) e I.is); kept = I.kept }
 
-  qualifier-found : {used left j : ℕ} → i ≡ Item.Qualifier used left j → FrontFound true (read_part p.levels true l p.left) l s' p used left j
+  qualifier-found : {used left j : ℕ} → i ≡ Ok (Item.Qualifier used left j) → FrontFound true (read_part p.levels true l p.left) l s' p used left j
   qualifier-found e = subst (ItemBy (read_part p.levels true l p.left) l s' p) e I.is
 
-  head-found : {used left j : ℕ} → i ≡ Item.Head used left j → FrontFound false (read_part p.levels true l p.left) l s' p used left j
+  head-found : {used left j : ℕ} → i ≡ Ok (Item.Head used left j) → FrontFound false (read_part p.levels true l p.left) l s' p used left j
   head-found e = subst (ItemBy (read_part p.levels true l p.left) l s' p) e I.is
 
-  module _ {used left j : ℕ} (e : i ≡ Item.Qualifier used left j) where
+  module _ {used left j : ℕ} (e : i ≡ Ok (Item.Qualifier used left j)) where
     next-rounds : {x : Monoid → E.Read Question} → rounds (behind_of p left j) (after l used) x → rounds p l (λ m. in_front (in_front_of (qualifier-found e).found.part) (x m))
     next-rounds {x} h =
         let F = (qualifier-found e).found in
@@ -118,10 +114,10 @@ module _ {l : Bytes} {s s' : List ℕ} {p : ParseState} {i : Item} (I : Qualifie
         (λ m k q. on-qualifier F.part F.sort m (drop used l) left (λ r j. E.parts (read_part p.levels) m k r j) ∙
         ap (in_front (in_front_of F.part)) (ap (λ (r : Bytes). E.parts (read_part p.levels) m k r left) (sym (after_is l used)) ∙ h m k (omega (arith, F.spent, some-part F.part))))
 
-    next-by : {s'' : List ℕ} (r : Filled) → NodesKept j s' s'' → PartsBy (after l used) s'' (behind_of p left j) r → PartsBy l s'' p r
+    next-by : {s'' : List ℕ} (r : Outcome (ℕ × ℕ)) → NodesKept j s' s'' → PartsBy (after l used) s'' (behind_of p left j) r → PartsBy l s'' p r
     unfolding in_front and_then
-    next-by (Filled.Refused x) K P = next-rounds P
-    next-by {s''} (Filled.Read rest end) K P =
+    next-by (Err x) K P = next-rounds P
+    next-by {s''} (Ok (rest, end)) K P =
         let F = (qualifier-found e).found in
         let n = nodes-front F.part F.sort P.quals in
         record {
@@ -135,14 +131,14 @@ module _ {l : Bytes} {s s' : List ℕ} {p : ParseState} {i : Item} (I : Qualifie
           spent = omega (arith, P.spent, F.spent);
         }
 
-    parts_next : {s'' : List ℕ} {r : Filled} → PartsPost (after l used) s' (behind_of p left j) s'' r → PartsPost l s p s'' r
+    parts_next : {s'' : List ℕ} {r : Outcome (ℕ × ℕ)} → PartsPost (after l used) s' (behind_of p left j) s'' r → PartsPost l s p s'' r
     parts_next {r = r} P = record { is = next-by r P.kept P.is; kept = kept_trans (omega (arith, (qualifier-found e).found.end)) I.kept P.kept }
 
-  module _ {used left j : ℕ} (e : i ≡ Item.Head used left j) where
+  module _ {used left j : ℕ} (e : i ≡ Ok (Item.Head used left j)) where
     head-tree : TreeFound (read_part p.levels true l p.left) (drop used l) s' p.depth p.node p.left left j
     head-tree = tree-found (head-found e).found
 
-    parts-over : used < length l → PartsPost l s p s' (Filled.Refused 22)
+    parts-over : used < length l → PartsPost l s p s' (Err BrokenRecord)
     unfolding on_part
     parts-over h =
         let F = head-tree in
@@ -151,7 +147,7 @@ module _ {l : Bytes} {s s' : List ℕ} {p : ParseState} {i : Item} (I : Qualifie
           kept = I.kept;
         }
 
-    parts-head : length l ≤ used → PartsPost l s p s' (Filled.Read left j)
+    parts-head : length l ≤ used → PartsPost l s p s' (Ok (left, j))
     unfolding on_part filled nodes_q
     parts-head h =
         let F = head-tree in
@@ -174,16 +170,16 @@ pub record PartsUpto (l : Bytes) (s₀ : List ℕ) (p : ParseState) (s : List �
   pub within : a ≤ length l
   pub long : length s ≡ length s₀
   pub room : NodeRoom 0 s q
-  pub back : (s' : List ℕ) (r : Filled) → PartsPost (after l a) s q s' r → PartsPost l s₀ p s' r
+  pub back : (s' : List ℕ) (r : Outcome (ℕ × ℕ)) → PartsPost (after l a) s q s' r → PartsPost l s₀ p s' r
 
 pub parts_first : {l : Bytes} {s : List ℕ} {p : ParseState} → NodeRoom 0 s p → PartsUpto l s p s 0 p
 parts_first {l} {s} {p} M = record { within = omega arith; long = refl; room = M; back = λ s' r P. subst (λ (b : Bytes). PartsPost b s p s' r) (after_is l 0) P }
 
-module _ {l : Bytes} {s₀ s s' : List ℕ} {p q : ParseState} {a : ℕ} {i : Item} (U : PartsUpto l s₀ p s a q) (Q : QualifierPost (after l a) s q s' i) where
-  pub parts-last-refused : {x : ℕ} → i ≡ Item.Refused x → PartsPost l s₀ p s' (Filled.Refused x)
+module _ {l : Bytes} {s₀ s s' : List ℕ} {p q : ParseState} {a : ℕ} {i : Outcome Item} (U : PartsUpto l s₀ p s a q) (Q : QualifierPost (after l a) s q s' i) where
+  pub parts-last-refused : {x : Refusal} → i ≡ Err x → PartsPost l s₀ p s' (Err x)
   parts-last-refused e = U.back s' _ (parts-refused Q e)
 
-  module _ {used left j : ℕ} (e : i ≡ Item.Qualifier used left j) where
+  module _ {used left j : ℕ} (e : i ≡ Ok (Item.Qualifier used left j)) where
     pub front-qualifier : FrontFound true (read_part q.levels true (after l a) q.left) (after l a) s' q used left j
     front-qualifier = qualifier-found Q e
 
@@ -198,11 +194,11 @@ module _ {l : Bytes} {s₀ s s' : List ℕ} {p q : ParseState} {a : ℕ} {i : It
       back = λ s'' r P. U.back s'' r (parts_next Q e (subst (λ (b : Bytes). PartsPost b s' (behind_of q left j) s'' r) (sym (after-after l a used)) P));
     })
 
-  module _ {used left j : ℕ} (e : i ≡ Item.Head used left j) where
-    pub parts-last-over : used < length l - a → PartsPost l s₀ p s' (Filled.Refused 22)
+  module _ {used left j : ℕ} (e : i ≡ Ok (Item.Head used left j)) where
+    pub parts-last-over : used < length l - a → PartsPost l s₀ p s' (Err BrokenRecord)
     parts-last-over h = U.back s' _ (parts-over Q e (omega (arith, length-after l a)))
 
-    pub parts_last : length l - a ≤ used → PartsPost l s₀ p s' (Filled.Read left j)
+    pub parts_last : length l - a ≤ used → PartsPost l s₀ p s' (Ok (left, j))
     parts_last h = U.back s' _ (parts-head Q e (omega (arith, length-after l a)))
 
 -- ---- the content of kind 14
@@ -229,46 +225,46 @@ module _ (R : Reader) (c : Bytes) (n : ℕ) where
       go [] h = absurd (h refl)
       go (b ∷ l) h = refl
 
-pub comprehension-none : {c : Bytes} {s : List ℕ} {p : ParseState} → length c ≡ 0 → ComprehensionPost c s p s (Filled.Refused 22)
+pub comprehension-none : {c : Bytes} {s : List ℕ} {p : ParseState} → length c ≡ 0 → ComprehensionPost c s p s (Err BrokenRecord)
 comprehension-none {c} {p = p} h = record { is = no-monoid (read_part p.levels) c p.left h; kept = kept_refl }
 
-module _ {c : Bytes} {s : List ℕ} {p : ParseState} {b : ℕ} (some : length c ≡ 0 → ⊥) (M : BytePost c 0 b) where
-  pub comprehension-zero : b ≡ 0 → ComprehensionPost c s p s (Filled.Refused 22)
+module _ {c : Bytes} {s : List ℕ} {p : ParseState} {b : ℕ} (some : length c ≡ 0 → ⊥) (M : IsByte c 0 b) where
+  pub comprehension-zero : b ≡ 0 → ComprehensionPost c s p s (Err BrokenRecord)
   unfolding and_then
   comprehension-zero e =
-      let z : byte c 0 ≡ 0 = sym M.is ∙ e in
+      let z : byte c 0 ≡ 0 = sym M.0 ∙ e in
       record { is = with-monoid (read_part p.levels) c p.left some ∙ ap (λ (b : ℕ). and_then (get_or monoids b (refused 22)) (λ m. E.parts (read_part p.levels) m p.left (drop 1 c) p.left)) z; kept = kept_refl }
 
-  pub comprehension-over : 8 < b → ComprehensionPost c s p s (Filled.Refused 22)
+  pub comprehension-over : 8 < b → ComprehensionPost c s p s (Err BrokenRecord)
   unfolding and_then
   comprehension-over h =
-      let z : get_or monoids (byte c 0) (refused 22) ≡ refused 22 = get_or-eq_default monoids (refused 22) {n = byte c 0} (omega (arith, M.is)) in
+      let z : get_or monoids (byte c 0) (refused 22) ≡ refused 22 = get_or-eq_default monoids (refused 22) {n = byte c 0} (omega (arith, M.0)) in
       record { is = with-monoid (read_part p.levels) c p.left some ∙ ap (λ (x : Result Monoid). and_then x (λ m. E.parts (read_part p.levels) m p.left (drop 1 c) p.left)) z; kept = kept_refl }
 
 -- where the parts of a comprehension stand
 abbrev pub inside_of : ParseState → ParseState
 inside_of p = record { levels = p.levels; left = p.left; node = p.node; depth = p.depth + 1 }
 
-module _ (p : ParseState) {c : Bytes} {s s' : List ℕ} {b : ℕ} {r : Filled} (some : length c ≡ 0 → ⊥) (M : BytePost c 0 b) (l : b ≡ 0 → ⊥) (h : b ≤ 8) (P : PartsPost (after c 1) s (inside_of p) s' r) where
+module _ (p : ParseState) (c : Bytes) {s s' : List ℕ} {b : ℕ} {r : Outcome (ℕ × ℕ)} (some : length c ≡ 0 → ⊥) (M : IsByte c 0 b) (l : b ≡ 0 → ⊥) (h : b ≤ 8) (P : PartsPost (after c 1) s (inside_of p) s' r) where
   comprehension-by : {x : Monoid → E.Read Question} → rounds (inside_of p) (after c 1) x → comprehends (read_part p.levels) c p.left ≡ x (monoid_at b)
   unfolding and_then
   comprehension-by {x} f =
-      let z : get_or monoids (byte c 0) (refused 22) ≡ got (monoid_at b) = ap (λ (n : ℕ). get_or monoids n (refused 22)) (sym M.is) ∙ monoid-is b l h in
+      let z : get_or monoids (byte c 0) (refused 22) ≡ got (monoid_at b) = ap (λ (n : ℕ). get_or monoids n (refused 22)) (sym M.0) ∙ monoid-is b l h in
       with-monoid (read_part p.levels) c p.left some ∙ ap (λ (x : Result Monoid). and_then x (λ m. E.parts (read_part p.levels) m p.left (drop 1 c) p.left)) z ∙
       ap (λ (r : Bytes). E.parts (read_part p.levels) (monoid_at b) p.left r p.left) (sym (after_is c 1)) ∙ f (monoid_at b) p.left (omega arith)
 
-  pub comprehension-refused : {x : ℕ} → r ≡ Filled.Refused x → ComprehensionPost c s p s' (Filled.Refused x)
+  pub comprehension-refused : {x : Refusal} → r ≡ Err x → ComprehensionPost c s p s' (Err x)
   comprehension-refused e = record { is = comprehension-by (subst (PartsBy (after c 1) s' (inside_of p)) e P.is); kept = P.kept }
 
-  pub parts-found : {left i : ℕ} → r ≡ Filled.Read left i → PartsFound (after c 1) s' (inside_of p) left i
+  pub parts-found : {left i : ℕ} → r ≡ Ok (left, i) → PartsFound (after c 1) s' (inside_of p) left i
   parts-found e = subst (PartsBy (after c 1) s' (inside_of p)) e P.is
 
-  pub comprehension-read : {left i : ℕ} {s'' : List ℕ} {t : Filled} → r ≡ Filled.Read left i → FinishPost s' 14 b p left i s'' t → ComprehensionPost c s p s'' t
+  pub comprehension-read : {left i : ℕ} {s'' : List ℕ} {t : ℕ × ℕ} → r ≡ Ok (left, i) → FinishPost s' 14 b p left i s'' t → ComprehensionPost c s p s'' (Ok t)
   unfolding nodes
   comprehension-read {left} {i} {s''} e D =
       let F = parts-found e in
       let n = F.end in
-      subst (ComprehensionPost c s p s'') (sym D.is)
+      subst (λ (t : ℕ × ℕ). ComprehensionPost c s p s'' (Ok t)) (sym D.is)
       (record {
         is = record {
           question = record { monoid = monoid_at b; quals = F.quals; head = F.head };
@@ -288,16 +284,16 @@ module _ (p : ParseState) {c : Bytes} {s s' : List ℕ} {b : ℕ} {r : Filled} (
       })
 
 -- ---- the question
-pub question-long : {l : Bytes} {s : List ℕ} → 4096 < length l → ReadQuestionPost l s s (Answer.Refused 21)
+pub question-long : {l : Bytes} {s : List ℕ} → 4096 < length l → ReadQuestionPost l s s (Err QuestionTooLong)
 unfolding read_question require
 question-long {l} h = record { is = rw (lt-leb (length l) 4096 h); kept = kept_refl }
 
 module _ {l : Bytes} {s : List ℕ} (h : length l ≤ 4096) where
-  pub question-cut : is_whole l ≡ false → ReadQuestionPost l s s (Answer.Refused 22)
+  pub question-cut : is_whole l ≡ false → ReadQuestionPost l s s (Err BrokenRecord)
   unfolding read_question require
   question-cut w = record { is = rw (le-leb (length l) 4096 h, w); kept = kept_refl }
 
-  pub question-kind : {k e : ℕ} → RecordFront l k e → (k ≡ 14 → ⊥) → ReadQuestionPost l s s (Answer.Refused 22)
+  pub question-kind : {k e : ℕ} → RecordFront l k e → (k ≡ 14 → ⊥) → ReadQuestionPost l s s (Err BrokenRecord)
   unfolding read_question require
   question-kind W n = record { is = rw (le-leb (length l) 4096 h, W.whole, ne_eqb (kind_of l) 14 (λ e. n (W.kind ∙ e))); kept = kept_refl }
 
@@ -305,7 +301,7 @@ module _ {l : Bytes} {s : List ℕ} (h : length l ≤ 4096) where
 abbrev pub first : ParseState
 first = record { levels = 31; left = 255; node = 0; depth = 0 }
 
-module _ {l : Bytes} {s s' : List ℕ} {k e : ℕ} {r : Filled} (h : length l ≤ 4096) (W : RecordFront l k e) (ke : k ≡ 14) (C : ComprehensionPost (inner l e) s first s' r) where
+module _ {l : Bytes} {s s' : List ℕ} {k e : ℕ} {r : Outcome (ℕ × ℕ)} (h : length l ≤ 4096) (W : RecordFront l k e) (ke : k ≡ 14) (C : ComprehensionPost (inner l e) s first s' r) where
   question-by : {x : E.Read Question} → comprehends (read_part 31) (inner l e) 255 ≡ x → read_question l ≡ and_then x (λ s. require 22 (eqb (length (behind l)) 0) (got s.is))
   unfolding read_question require
   question-by {x} p =
@@ -315,18 +311,18 @@ module _ {l : Bytes} {s s' : List ℕ} {k e : ℕ} {r : Filled} (h : length l �
   length-behind : length (behind l) ≡ length l - e
   length-behind = length-drop (4 + length_of l) l ∙ omega (arith, W.end)
 
-  pub question-refused : {x : ℕ} → r ≡ Filled.Refused x → ReadQuestionPost l s s' (Answer.Refused x)
+  pub question-refused : {x : Refusal} → r ≡ Err x → ReadQuestionPost l s s' (Err x)
   unfolding and_then
   question-refused p = record { is = question-by (subst (ComprehensionBy (comprehends (read_part 31) (inner l e) 255) s' first) p C.is); kept = C.kept }
 
-  question-found : {left n : ℕ} → r ≡ Filled.Read left n → ComprehensionFound (comprehends (read_part 31) (inner l e) 255) s' first left n
+  question-found : {left n : ℕ} → r ≡ Ok (left, n) → ComprehensionFound (comprehends (read_part 31) (inner l e) 255) s' first left n
   question-found p = subst (ComprehensionBy (comprehends (read_part 31) (inner l e) 255) s' first) p C.is
 
-  pub question-over : {left n : ℕ} → r ≡ Filled.Read left n → e < length l → ReadQuestionPost l s s' (Answer.Refused 22)
+  pub question-over : {left n : ℕ} → r ≡ Ok (left, n) → e < length l → ReadQuestionPost l s s' (Err BrokenRecord)
   unfolding and_then require
   question-over p o = record { is = question-by (question-found p).is ∙ rw (ne_eqb (length (behind l)) 0 (omega (arith, length-behind))); kept = C.kept }
 
-  pub question-read : {left n : ℕ} → r ≡ Filled.Read left n → length l ≤ e → ReadQuestionPost l s s' (Answer.Question n)
+  pub question-read : {left n : ℕ} → r ≡ Ok (left, n) → length l ≤ e → ReadQuestionPost l s s' (Ok n)
   unfolding and_then require
   question-read {n = n} p o =
       let F = question-found p in
@@ -346,27 +342,12 @@ module _ {l : Bytes} {s s' : List ℕ} {k e : ℕ} {r : Filled} (h : length l �
       }
 
 -- ---- room for what follows
-pub room-inside : {l : Bytes} {s : List ℕ} {p b : ParseState} {k e : ℕ} → NodeRoom 0 s p → Began l p k e b → NodeRoom 1 s b
-room-inside M B = record { words = M.words; nodes = omega (arith, B.node, B.left, M.nodes); deep = omega (arith, B.levels, B.depth, M.deep) }
-
-pub room-terms : {s : List ℕ} {p : ParseState} → NodeRoom 1 s p → NodeRoom 0 s p
-room-terms M = record { words = M.words; nodes = M.nodes; deep = omega (arith, M.deep) }
-
-pub room-parts : {s : List ℕ} {p : ParseState} → NodeRoom 1 s p → NodeRoom 0 s (inside_of p)
-room-parts M = record { words = M.words; nodes = M.nodes; deep = omega (arith, M.deep) }
-
-pub finishing-terms : {most : ℕ} {l : Bytes} {s s' : List ℕ} {p : ParseState} {t : Several} {count left i k x : ℕ} → NodeRoom 1 s p → TermsPost most l s p s' t → t ≡ Several.Read count left i →
+pub finishing-terms : {most : ℕ} {l : Bytes} {s s' : List ℕ} {p : ParseState} {t : Outcome (ℕ × ℕ × ℕ)} {count left i k x : ℕ} → NodeRoom 1 s p → TermsPost most l s p s' t → t ≡ Ok (count, left, i) →
     k < 32 → x < 8589934592 → FinishPre s' k x p i
 finishing-terms M T e hk hx =
     let F = (terms-found T e).0 in
     let n = F.end in
     record { words = omega (arith, T.kept.long, M.words); kind = hk; arg = hx; start = omega arith; below = omega (arith, F.spent, M.nodes); deep = omega (arith, M.deep) }
 
-pub few-terms : {most : ℕ} {l : Bytes} {s s' : List ℕ} {p : ParseState} {t : Several} {count left i : ℕ} → NodeRoom 1 s p → TermsPost most l s p s' t → t ≡ Several.Read count left i → count < 8589934592
+pub few-terms : {most : ℕ} {l : Bytes} {s s' : List ℕ} {p : ParseState} {t : Outcome (ℕ × ℕ × ℕ)} {count left i : ℕ} → NodeRoom 1 s p → TermsPost most l s p s' t → t ≡ Ok (count, left, i) → count < 8589934592
 few-terms M T e = let F = (terms-found T e).0 in omega (arith, F.many, F.spent, M.nodes, count-nodes F.trees)
-
-pub finishing-parts : (p : ParseState) {l : Bytes} {s s' : List ℕ} {r : Filled} {left i b : ℕ} → NodeRoom 1 s p → PartsPost l s (inside_of p) s' r → r ≡ Filled.Read left i → b ≤ 8 → FinishPre s' 14 b p i
-finishing-parts p {l} {s' = s'} M P e h =
-    let F = subst (PartsBy l s' (inside_of p)) e P.is in
-    let n = F.end in
-    record { words = omega (arith, P.kept.long, M.words); kind = omega arith; arg = omega arith; start = omega arith; below = omega (arith, F.spent, M.nodes); deep = omega (arith, M.deep) }

@@ -5,29 +5,25 @@ use mathlib.Core.Bool.{Bool, true, false}
 use Prim.Native.Nat.{ℕ, zero, suc, ◌+◌, ◌-◌, ◌≤◌, ◌<◌}
 use native.Mathlib.Omega.{arith}
 use lib.ListN.{length, drop}
+use Rattle.std.proofs.Common.{Option, Some, None, Ok, Err}
 use borrow.Author.Tests.{le-leb}
-use Rattle.spec_calculus.specs.Syntax.{choice, Term, Terms, field, rec, bin, negate, app, tnil, tcons, as_term}
+use Rattle.spec_calculus.specs.Syntax.{choice, Term, Terms, field, rec, bin, negate, app, tnil, tcons}
 use Rattle.spec_calculus.specs.Lending.{unlent}
 use Rattle.spec_encoding.specs.Record.{Bytes, Result, refused, got, and_then, require, byte, two}
 use Rattle.spec_encoding.specs.Reader as E
 use Rattle.spec_encoding.specs.Reader.{Kind, record', Part, term, generates, binds, holds, Step, Reader, yields, one_term, filled, named, content, read_part}
+use Rattle.base_refusals.specs.declared.Refusal.{Refusal}
+use Rattle.base_refusals.specs.declared.Refusal.TheVariants.{BrokenRecord}
+use Rattle.base_refusals.specs.Numbers.{number_of}
 use Rattle.front_words.specs.NodeTree.{arg_at}
 use Rattle.front_words.specs.LaidTree.{nodes, nodes_l, count_l, LaidNode, Laid, LaidL}
 use Rattle.front_words.proofs.NodeWords.{some-nodes}
 use Rattle.front_parser.specs.ReaderScratch.{NodesKept, NodeRoom, FinishPost}
+use Rattle.front_parser.specs.RecordFront.{Outcome}
 use Rattle.front_parser.specs.RecordKinds.{HasTerms, of_field, of_record, of_two, of_not, of_choice, of_open, of_generator, of_binding, of_condition, fixed_ok, fixed_of, FixedIs, FixedBy, Fixed}
 use Rattle.front_parser.specs.ReaderContracts.{behind_of, qualifies, nodes_p, LaidP, PartRead, CompoundPost, FrontFound, TermBy, TermPost, TermsFound, TermsBy, TermsPost}
 use Rattle.front_parser.specs.declared.ParseState.{ParseState}
 use Rattle.front_parser.specs.declared.Arity.{Arity}
-use Rattle.front_parser.specs.declared.Filled.{Filled}
-use Rattle.front_parser.specs.declared.Filled.TheVariants as Filled
-use Rattle.front_parser.specs.declared.TermFront.{TermFront}
-use Rattle.front_parser.specs.declared.TermFront.TheVariants as TermFront
-use Rattle.front_parser.specs.declared.Several.{Several}
-use Rattle.front_parser.specs.declared.Several.TheVariants as Several
-use Rattle.front_parser.specs.declared.Read.{Read}
-use Rattle.front_parser.specs.declared.value.ArgumentRead.{ArgumentRead}
-use Rattle.front_parser.specs.declared.value.ArgumentRead.TheVariants as ArgumentRead
 use Rattle.front_parser.proofs.LeafRecords.{differ, part_none, kept_refl, kept_trans}
 use Rattle.front_parser.proofs.Records.{after, after_is, after-after, length-after, laid_kept, terms-kept}
 
@@ -70,7 +66,7 @@ no-terms R zero [] n h = refl
 no-terms R (suc k) [] n h = refl
 no-terms R most (b ∷ l) n h = absurd (omega arith)
 
-terms-none : {l : Bytes} {s : List ℕ} {p : ParseState} {most : ℕ} → length l ≡ 0 → TermsPost most l s p s (Several.Read 0 p.left p.node)
+terms-none : {l : Bytes} {s : List ℕ} {p : ParseState} {most : ℕ} → length l ≡ 0 → TermsPost most l s p s (Ok (0, p.left, p.node))
 unfolding nodes_l count_l
 terms-none {l} {p = p} {most} h =
     record {
@@ -84,24 +80,24 @@ over-terms R zero [] n h e = absurd (h refl)
 over-terms R zero (b ∷ l) n h e = refl
 over-terms R (suc k) l n h e = absurd (omega arith)
 
-terms-over : {l : Bytes} {s : List ℕ} {p : ParseState} {most : ℕ} → (length l ≡ 0 → ⊥) → most ≡ 0 → TermsPost most l s p s (Several.Refused 22)
+terms-over : {l : Bytes} {s : List ℕ} {p : ParseState} {most : ℕ} → (length l ≡ 0 → ⊥) → most ≡ 0 → TermsPost most l s p s (Err BrokenRecord)
 terms-over {l} {p = p} {most} h e = record { is = over-terms (read_part p.levels) most l p.left h e; kept = kept_refl }
 
 -- with n terms more
-abbrev pub besides : ℕ → Several → Several
-besides n (Several.Read count left e) = Several.Read (count + n) left e
-besides n (Several.Refused x) = Several.Refused x
+abbrev pub besides : ℕ → Outcome (ℕ × ℕ × ℕ) → Outcome (ℕ × ℕ × ℕ)
+besides n (Ok (count, left, e)) = Ok ((count + n), left, e)
+besides n (Err x) = Err x
 
-besides-none : (r : Several) → r ≡ besides 0 r
-besides-none (Several.Read count left e) = ap (λ (k : ℕ). Several.Read k left e) {x = count} {y = count + 0} (omega arith)
-besides-none (Several.Refused x) = refl
+besides-none : (r : Outcome (ℕ × ℕ × ℕ)) → r ≡ besides 0 r
+besides-none (Ok (count, left, e)) = ap (λ (k : ℕ). Ok (k, left, e)) {x = count} {y = count + 0} (omega arith)
+besides-none (Err x) = refl
 
-besides-more : (n : ℕ) (r : Several) → besides n (besides 1 r) ≡ besides (n + 1) r
-besides-more n (Several.Read count left e) = ap (λ (k : ℕ). Several.Read k left e) {x = count + 1 + n} {y = count + (n + 1)} (omega arith)
-besides-more n (Several.Refused x) = refl
+besides-more : (n : ℕ) (r : Outcome (ℕ × ℕ × ℕ)) → besides n (besides 1 r) ≡ besides (n + 1) r
+besides-more n (Ok (count, left, e)) = ap (λ (k : ℕ). Ok (k, left, e)) {x = count + 1 + n} {y = count + (n + 1)} (omega arith)
+besides-more n (Err x) = refl
 
-module _ {l : Bytes} {s s' : List ℕ} {p : ParseState} {f : TermFront} {most : ℕ} (some : length l ≡ 0 → ⊥) (more : most ≡ 0 → ⊥) (T : TermPost l s p s' f) where
-  terms-refused : {x : ℕ} → f ≡ TermFront.Refused x → TermsPost most l s p s' (Several.Refused x)
+module _ {l : Bytes} {s s' : List ℕ} {p : ParseState} {f : Outcome (ℕ × ℕ × ℕ)} {most : ℕ} (some : length l ≡ 0 → ⊥) (more : most ≡ 0 → ⊥) (T : TermPost l s p s' f) where
+  terms-refused : {x : Refusal} → f ≡ Err x → TermsPost most l s p s' (Err x)
   terms-refused e =
       let R = read_part p.levels in
       record {
@@ -109,7 +105,7 @@ module _ {l : Bytes} {s s' : List ℕ} {p : ParseState} {f : TermFront} {most : 
         kept = T.kept;
       }
 
-  module _ {used left i : ℕ} (e : f ≡ TermFront.Read used left i) where
+  module _ {used left i : ℕ} (e : f ≡ Ok (used, left, i)) where
     first_found : FrontFound false (read_part p.levels false l p.left) l s' p used left i
     first_found = subst (TermBy (read_part p.levels false l p.left) l s' p) e T.is
 
@@ -121,20 +117,20 @@ module _ {l : Bytes} {s s' : List ℕ} {p : ParseState} {f : TermFront} {most : 
         terms-more R most (most - 1) l p.left some (omega arith) ∙ one-got R l p.left _ t.is ∙
         ap (λ (x : E.Read Terms). and_then x (λ s. yields (tcons t.tree s.is) s.rest s.left)) (ap (λ (r : Bytes). E.terms R (most - 1) r left) (sym (after_is l used)) ∙ h)
 
-    terms-last : {s'' : List ℕ} {r : Several} → TermsPost (most - 1) (after l used) s' (behind_of p left i) s'' r → NodesKept p.node s s''
+    terms-last : {s'' : List ℕ} {r : Outcome (ℕ × ℕ × ℕ)} → TermsPost (most - 1) (after l used) s' (behind_of p left i) s'' r → NodesKept p.node s s''
     terms-last S = kept_trans (omega (arith, (tree-found first_found.found).end)) T.kept S.kept
 
-    terms-rest-refused : {s'' : List ℕ} {r : Several} {x : ℕ} → TermsPost (most - 1) (after l used) s' (behind_of p left i) s'' r → r ≡ Several.Refused x →
-        TermsPost most l s p s'' (Several.Refused x)
+    terms-rest-refused : {s'' : List ℕ} {r : Outcome (ℕ × ℕ × ℕ)} {x : Refusal} → TermsPost (most - 1) (after l used) s' (behind_of p left i) s'' r → r ≡ Err x →
+        TermsPost most l s p s'' (Err x)
     unfolding and_then
     terms-rest-refused {s''} {x = x} S h =
         record {
-          is = terms-then (refused x) (subst (TermsBy (E.terms (read_part p.levels) (most - 1) (after l used) left) s'' (behind_of p left i) (most - 1)) h S.is);
+          is = terms-then (refused (number_of x)) (subst (TermsBy (E.terms (read_part p.levels) (most - 1) (after l used) left) s'' (behind_of p left i) (most - 1)) h S.is);
           kept = terms-last S;
         }
 
-    terms-read : {s'' : List ℕ} {r : Several} {count rest end : ℕ} → TermsPost (most - 1) (after l used) s' (behind_of p left i) s'' r → r ≡ Several.Read count rest end →
-        TermsPost most l s p s'' (Several.Read (count + 1) rest end)
+    terms-read : {s'' : List ℕ} {r : Outcome (ℕ × ℕ × ℕ)} {count rest end : ℕ} → TermsPost (most - 1) (after l used) s' (behind_of p left i) s'' r → r ≡ Ok (count, rest, end) →
+        TermsPost most l s p s'' (Ok ((count + 1), rest, end))
     unfolding and_then nodes_l count_l
     terms-read {s''} {count = count} {rest} {end} S h =
         let F = subst (TermsBy (E.terms (read_part p.levels) (most - 1) (after l used) left) s'' (behind_of p left i) (most - 1)) h S.is in
@@ -155,9 +151,9 @@ module _ {l : Bytes} {s s' : List ℕ} {p : ParseState} {f : TermFront} {most : 
           kept = terms-last S;
         }
 
-    terms-rest : {s'' : List ℕ} (r : Several) → TermsPost (most - 1) (after l used) s' (behind_of p left i) s'' r → TermsPost most l s p s'' (besides 1 r)
-    terms-rest (Several.Read count rest end) S = terms-read S refl
-    terms-rest (Several.Refused x) S = terms-rest-refused S refl
+    terms-rest : {s'' : List ℕ} (r : Outcome (ℕ × ℕ × ℕ)) → TermsPost (most - 1) (after l used) s' (behind_of p left i) s'' r → TermsPost most l s p s'' (besides 1 r)
+    terms-rest (Ok (count, rest, end)) S = terms-read S refl
+    terms-rest (Err x) S = terms-rest-refused S refl
 
 pub room-behind : {q : Bool} {x : E.Read Part} {l : Bytes} {s s' : List ℕ} {p : ParseState} {used left i : ℕ} → NodeRoom 0 s p → NodesKept p.node s s' → FrontFound q x l s' p used left i →
     NodeRoom 0 s' (behind_of p left i)
@@ -169,7 +165,7 @@ pub record TermsUpto (most : ℕ) (l : Bytes) (s₀ : List ℕ) (p : ParseState)
   pub within : a ≤ length l
   pub long : length s ≡ length s₀
   pub room : NodeRoom 0 s q
-  pub back : (s' : List ℕ) (r : Several) → TermsPost (most - n) (after l a) s q s' r → TermsPost most l s₀ p s' (besides n r)
+  pub back : (s' : List ℕ) (r : Outcome (ℕ × ℕ × ℕ)) → TermsPost (most - n) (after l a) s q s' r → TermsPost most l s₀ p s' (besides n r)
 
 pub upto-first : {most : ℕ} {l : Bytes} {s : List ℕ} {p : ParseState} → NodeRoom 0 s p → TermsUpto most l s p s 0 p 0
 upto-first {most} {l} {s} {p} M = record {
@@ -182,24 +178,24 @@ upto-first {most} {l} {s} {p} M = record {
 }
 
 module _ {most : ℕ} {l : Bytes} {s₀ s : List ℕ} {p q : ParseState} {a n : ℕ} (U : TermsUpto most l s₀ p s a q n) where
-  pub upto-last : length l ≤ a → TermsPost most l s₀ p s (Several.Read n q.left q.node)
-  upto-last h = subst (λ (k : ℕ). TermsPost most l s₀ p s (Several.Read k q.left q.node)) {x = 0 + n} {y = n} (omega arith) (U.back s _ (terms-none (omega (arith, length-after l a))))
+  pub upto-last : length l ≤ a → TermsPost most l s₀ p s (Ok (n, q.left, q.node))
+  upto-last h = subst (λ (k : ℕ). TermsPost most l s₀ p s (Ok (k, q.left, q.node))) {x = 0 + n} {y = n} (omega arith) (U.back s _ (terms-none (omega (arith, length-after l a))))
 
   module _ (some : a < length l) where
     some_left : length (after l a) ≡ 0 → ⊥
     some_left e = omega (arith, length-after l a)
 
-    pub upto-over : most ≤ n → TermsPost most l s₀ p s (Several.Refused 22)
+    pub upto-over : most ≤ n → TermsPost most l s₀ p s (Err BrokenRecord)
     upto-over h = U.back s _ (terms-over some_left (omega arith))
 
-    module _ {s' : List ℕ} {f : TermFront} (more : n < most) (T : TermPost (after l a) s q s' f) where
+    module _ {s' : List ℕ} {f : Outcome (ℕ × ℕ × ℕ)} (more : n < most) (T : TermPost (after l a) s q s' f) where
       more_left : most - n ≡ 0 → ⊥
       more_left e = omega arith
 
-      pub upto-refused : {x : ℕ} → f ≡ TermFront.Refused x → TermsPost most l s₀ p s' (Several.Refused x)
+      pub upto-refused : {x : Refusal} → f ≡ Err x → TermsPost most l s₀ p s' (Err x)
       upto-refused e = U.back s' _ (terms-refused some_left more_left T e)
 
-      module _ {used left i : ℕ} (e : f ≡ TermFront.Read used left i) where
+      module _ {used left i : ℕ} (e : f ≡ Ok (used, left, i)) where
         pub upto-found : FrontFound false (read_part q.levels false (after l a) q.left) (after l a) s' q used left i
         upto-found = first_found some_left more_left T e
 
@@ -444,14 +440,14 @@ module _ {s : List ℕ} {d a i : ℕ} where
       (λ t L e. let p : i ≡ a + nodes t = omega arith in
       record { part = holds t; is = refl; sort = refl; laid = (L.0, node_at_lem N p); size = omega arith }) ts lo hi L e
 
-pub fixed-is : {skip : ℕ} {c : Bytes} {v : ArgumentRead} {a : ℕ} → Fixed skip c v → v ≡ ArgumentRead.Is a → FixedIs skip c a
+pub fixed-is : {skip : ℕ} {c : Bytes} {v : Option ℕ} {a : ℕ} → Fixed skip c v → v ≡ Some a → FixedIs skip c a
 fixed-is {skip} {c} X e = subst (FixedBy skip c) e X.is
 
-pub terms-found : {most : ℕ} {l : Bytes} {s s' : List ℕ} {p : ParseState} {t : Several} {count left i : ℕ} → TermsPost most l s p s' t → t ≡ Several.Read count left i →
+pub terms-found : {most : ℕ} {l : Bytes} {s s' : List ℕ} {p : ParseState} {t : Outcome (ℕ × ℕ × ℕ)} {count left i : ℕ} → TermsPost most l s p s' t → t ≡ Ok (count, left, i) →
     TermsFound (E.terms (read_part p.levels) most l p.left) s' p count left i × (count ≤ most)
 terms-found {most} {l} {s' = s'} {p} T e = subst (TermsBy (E.terms (read_part p.levels) most l p.left) s' p most) e T.is
 
-pub compound-broken : {k : ℕ} {h : Arity} {c : Bytes} {s : List ℕ} {p : ParseState} {v : ArgumentRead} → Fixed h.skip c v → v ≡ ArgumentRead.Broken → CompoundPost k h c s p s (Filled.Refused 22)
+pub compound-broken : {k : ℕ} {h : Arity} {c : Bytes} {s : List ℕ} {p : ParseState} {v : Option ℕ} → Fixed h.skip c v → v ≡ None → CompoundPost k h c s p s (Err BrokenRecord)
 compound-broken {h = h} {c} {p = p} X e =
     record {
       is = λ q H. content-broken (read_part p.levels) (λ n. part_none p.levels false [] n refl) H c p.left (subst (FixedBy h.skip c) e X.is);
@@ -464,9 +460,9 @@ compound-by R nothing {most = most} {skip} H c n X e =
     content-by R nothing H c n X.fits ∙
     ap₂ (λ (x : E.Read Terms) (a : ℕ). and_then x (λ s. and_then (make H a s.is) (λ p. yields p [] s.left))) (ap (λ (l : Bytes). E.terms R most l n) (sym (after_is c skip)) ∙ e) (sym X.is)
 
-module _ {k : ℕ} {h : Arity} {c : Bytes} {s s' : List ℕ} {p : ParseState} {v : ArgumentRead} {a : ℕ} {t : Several} (X : Fixed h.skip c v) (ve : v ≡ ArgumentRead.Is a)
+module _ {k : ℕ} {h : Arity} {c : Bytes} {s s' : List ℕ} {p : ParseState} {v : Option ℕ} {a : ℕ} {t : Outcome (ℕ × ℕ × ℕ)} (X : Fixed h.skip c v) (ve : v ≡ Some a)
     (T : TermsPost h.most (after c h.skip) s p s' t) where
-  pub compound-refused : {x : ℕ} → t ≡ Several.Refused x → CompoundPost k h c s p s' (Filled.Refused x)
+  pub compound-refused : {x : Refusal} → t ≡ Err x → CompoundPost k h c s p s' (Err x)
   unfolding and_then
   compound-refused {x} e =
       record {
@@ -474,7 +470,7 @@ module _ {k : ℕ} {h : Arity} {c : Bytes} {s s' : List ℕ} {p : ParseState} {v
         kept = T.kept;
       }
 
-  pub compound-few : {count left i : ℕ} → t ≡ Several.Read count left i → count < h.least → CompoundPost k h c s p s' (Filled.Refused 22)
+  pub compound-few : {count left i : ℕ} → t ≡ Ok (count, left, i) → count < h.least → CompoundPost k h c s p s' (Err BrokenRecord)
   unfolding and_then
   compound-few {count} {left} e l =
       let F = terms-found T e in
@@ -483,13 +479,13 @@ module _ {k : ℕ} {h : Arity} {c : Bytes} {s s' : List ℕ} {p : ParseState} {v
         kept = T.kept;
       }
 
-  pub compound-done : {count left i x : ℕ} {s'' : List ℕ} {r : Filled} → t ≡ Several.Read count left i → h.least ≤ count → FinishPost s' k x p left i s'' r →
-      (h.skip ≡ 0 → x ≡ count) → ((h.skip ≡ 0 → ⊥) → x ≡ a) → CompoundPost k h c s p s'' r
+  pub compound-done : {count left i x : ℕ} {s'' : List ℕ} {r : ℕ × ℕ} → t ≡ Ok (count, left, i) → h.least ≤ count → FinishPost s' k x p left i s'' r →
+      (h.skip ≡ 0 → x ≡ count) → ((h.skip ≡ 0 → ⊥) → x ≡ a) → CompoundPost k h c s p s'' (Ok r)
   unfolding and_then
   compound-done {count} {left} {i} {x} {s''} e l D z f =
       let F = (terms-found T e).0 in
       let n = F.end in
-      subst (CompoundPost k h c s p s'') (sym D.is)
+      subst (λ (r : ℕ × ℕ). CompoundPost k h c s p s'' (Ok r)) (sym D.is)
       (record {
         is = λ q H.
             let M = made H a F.trees (omega (arith, F.many)) (omega (arith, F.many, (terms-found T e).1)) (terms-kept F.trees p.depth p.node D.kept (omega arith) F.laid) D.node F.end

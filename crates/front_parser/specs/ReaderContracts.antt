@@ -1,26 +1,19 @@
 -- What each reader ensures: its answer is the one that the definition gives at the same bytes, and what was read lies in
 -- scratch from the place's node on.
-use Rattle.std.specs.Prelude.{◌≡◌, List, [], Bool, true, false, ℕ, ◌+◌, ◌*◌, ◌≤◌, ◌<◌, length, get_or, drop}
+use Rattle.std.specs.Prelude.{◌≡◌, List, [], Bool, true, false, ℕ, ◌+◌, ◌*◌, ◌≤◌, ◌<◌, length, get_or, drop, Ok, Err}
 use Rattle.spec_calculus.specs.Syntax.{Monoid, Term, Terms, Quals, Question, as_term}
 use Rattle.spec_encoding.specs.Record.{Bytes, Result, refused, got}
 use Rattle.spec_encoding.specs.Reader as E
 use Rattle.spec_encoding.specs.Reader.{kinds, unknown, generator, binding, condition, Part, term, generates, binds, holds, yields, comprehends, read_part, read_question}
 use Rattle.front_words.specs.NodeTree.{arg_at, tree_at}
 use Rattle.front_words.specs.LaidTree.{nodes, nodes_l, nodes_q, count_l, LaidNode, Laid, LaidL, LaidQ}
+use Rattle.base_refusals.specs.Numbers.{number_of}
+use Rattle.front_parser.specs.RecordFront.{Outcome}
 use Rattle.front_parser.specs.ReaderScratch.{NodesKept}
 use Rattle.front_parser.specs.RecordKinds.{HasTerms}
 use Rattle.front_parser.specs.declared.ParseState.{ParseState}
 use Rattle.front_parser.specs.declared.Arity.{Arity}
-use Rattle.front_parser.specs.declared.Filled.{Filled}
-use Rattle.front_parser.specs.declared.Filled.TheVariants as Filled
-use Rattle.front_parser.specs.declared.TermFront.{TermFront}
-use Rattle.front_parser.specs.declared.TermFront.TheVariants as TermFront
-use Rattle.front_parser.specs.declared.Several.{Several}
-use Rattle.front_parser.specs.declared.Several.TheVariants as Several
 use Rattle.front_parser.specs.declared.Item.{Item}
-use Rattle.front_parser.specs.declared.Item.TheVariants as Item
-use Rattle.front_parser.specs.declared.Read.{Read}
-use Rattle.front_parser.specs.declared.Read.TheVariants as Answer
 
 -- where a reader stands behind what was read
 abbrev pub behind_of : ParseState → ℕ → ℕ → ParseState
@@ -56,15 +49,15 @@ pub record PartRead (q : Bool) (x : E.Read Part) (rest : Bytes) (s : List ℕ) (
   pub spent : left + nodes_p part ≡ b
 
 -- ---- a record's content; its own node is one of those that were spent
-abbrev pub FillsBy : Bool → E.Read Part → List ℕ → ParseState → Filled → Type 0
-FillsBy q x s p (Filled.Read left e) = PartRead q x [] s p.depth p.node (p.left + 1) left e
-FillsBy q x s p (Filled.Refused k) = x ≡ refused k
+abbrev pub FillsBy : Bool → E.Read Part → List ℕ → ParseState → Outcome (ℕ × ℕ) → Type 0
+FillsBy q x s p (Ok (left, e)) = PartRead q x [] s p.depth p.node (p.left + 1) left e
+FillsBy q x s p (Err k) = x ≡ refused (number_of k)
 
-pub record ContentRead (k : ℕ) (c : Bytes) (s : List ℕ) (p : ParseState) (s' : List ℕ) (r : Filled) : Type 0 where
+pub record ContentRead (k : ℕ) (c : Bytes) (s : List ℕ) (p : ParseState) (s' : List ℕ) (r : Outcome (ℕ × ℕ)) : Type 0 where
   pub is : FillsBy false (E.content (read_part p.levels) false (get_or kinds k unknown) c p.left) s' p r
   pub kept : NodesKept p.node s s'
 
-pub record CompoundPost (k : ℕ) (h : Arity) (c : Bytes) (s : List ℕ) (p : ParseState) (s' : List ℕ) (r : Filled) : Type 0 where
+pub record CompoundPost (k : ℕ) (h : Arity) (c : Bytes) (s : List ℕ) (p : ParseState) (s' : List ℕ) (r : Outcome (ℕ × ℕ)) : Type 0 where
   pub is : (q : Bool) → HasTerms (get_or kinds k unknown) q h.least h.most h.skip →
       FillsBy q (E.content (read_part p.levels) true (get_or kinds k unknown) c p.left) s' p r
   pub kept : NodesKept p.node s s'
@@ -75,11 +68,11 @@ pub record FrontFound (q : Bool) (x : E.Read Part) (l : Bytes) (s : List ℕ) (p
   pub some : 4 ≤ used
   pub within : used ≤ length l
 
-abbrev pub TermBy : E.Read Part → Bytes → List ℕ → ParseState → TermFront → Type 0
-TermBy x l s p (TermFront.Read used left e) = FrontFound false x l s p used left e
-TermBy x l s p (TermFront.Refused k) = x ≡ refused k
+abbrev pub TermBy : E.Read Part → Bytes → List ℕ → ParseState → Outcome (ℕ × ℕ × ℕ) → Type 0
+TermBy x l s p (Ok (used, left, e)) = FrontFound false x l s p used left e
+TermBy x l s p (Err k) = x ≡ refused (number_of k)
 
-pub record TermPost (l : Bytes) (s : List ℕ) (p : ParseState) (s' : List ℕ) (r : TermFront) : Type 0 where
+pub record TermPost (l : Bytes) (s : List ℕ) (p : ParseState) (s' : List ℕ) (r : Outcome (ℕ × ℕ × ℕ)) : Type 0 where
   pub is : TermBy (read_part p.levels false l p.left) l s' p r
   pub kept : NodesKept p.node s s'
 
@@ -92,25 +85,21 @@ pub record TermsFound (x : E.Read Terms) (s : List ℕ) (p : ParseState) (count 
   pub spent : left + nodes_l trees ≡ p.left
   pub many : count ≡ count_l trees
 
-abbrev pub TermsBy : E.Read Terms → List ℕ → ParseState → ℕ → Several → Type 0
-TermsBy x s p most (Several.Read count left e) = TermsFound x s p count left e × (count ≤ most)
-TermsBy x s p most (Several.Refused k) = x ≡ refused k
+abbrev pub TermsBy : E.Read Terms → List ℕ → ParseState → ℕ → Outcome (ℕ × ℕ × ℕ) → Type 0
+TermsBy x s p most (Ok (count, left, e)) = TermsFound x s p count left e × (count ≤ most)
+TermsBy x s p most (Err k) = x ≡ refused (number_of k)
 
-pub record TermsPost (most : ℕ) (l : Bytes) (s : List ℕ) (p : ParseState) (s' : List ℕ) (r : Several) : Type 0 where
+pub record TermsPost (most : ℕ) (l : Bytes) (s : List ℕ) (p : ParseState) (s' : List ℕ) (r : Outcome (ℕ × ℕ × ℕ)) : Type 0 where
   pub is : TermsBy (E.terms (read_part p.levels) most l p.left) s' p most r
   pub kept : NodesKept p.node s s'
 
 -- ---- a qualifier or the head at the front
-abbrev pub head_of : TermFront → Item
-head_of (TermFront.Read used left e) = Item.Head used left e
-head_of (TermFront.Refused k) = Item.Refused k
+abbrev pub ItemBy : E.Read Part → Bytes → List ℕ → ParseState → Outcome Item → Type 0
+ItemBy x l s p (Ok (Item.Qualifier used left e)) = FrontFound true x l s p used left e
+ItemBy x l s p (Ok (Item.Head used left e)) = FrontFound false x l s p used left e
+ItemBy x l s p (Err k) = x ≡ refused (number_of k)
 
-abbrev pub ItemBy : E.Read Part → Bytes → List ℕ → ParseState → Item → Type 0
-ItemBy x l s p (Item.Qualifier used left e) = FrontFound true x l s p used left e
-ItemBy x l s p (Item.Head used left e) = FrontFound false x l s p used left e
-ItemBy x l s p (Item.Refused k) = x ≡ refused k
-
-pub record QualifierPost (l : Bytes) (s : List ℕ) (p : ParseState) (s' : List ℕ) (r : Item) : Type 0 where
+pub record QualifierPost (l : Bytes) (s : List ℕ) (p : ParseState) (s' : List ℕ) (r : Outcome Item) : Type 0 where
   pub is : ItemBy (read_part p.levels true l p.left) l s' p r
   pub kept : NodesKept p.node s s'
 
@@ -127,11 +116,11 @@ pub record PartsFound (l : Bytes) (s : List ℕ) (p : ParseState) (left e : ℕ)
   pub end : e ≡ p.node + nodes_q quals + nodes head
   pub spent : left + (nodes_q quals + nodes head) ≡ p.left
 
-abbrev pub PartsBy : Bytes → List ℕ → ParseState → Filled → Type 0
-PartsBy l s p (Filled.Read left e) = PartsFound l s p left e
-PartsBy l s p (Filled.Refused k) = rounds p l (λ m. refused k)
+abbrev pub PartsBy : Bytes → List ℕ → ParseState → Outcome (ℕ × ℕ) → Type 0
+PartsBy l s p (Ok (left, e)) = PartsFound l s p left e
+PartsBy l s p (Err k) = rounds p l (λ m. refused (number_of k))
 
-pub record PartsPost (l : Bytes) (s : List ℕ) (p : ParseState) (s' : List ℕ) (r : Filled) : Type 0 where
+pub record PartsPost (l : Bytes) (s : List ℕ) (p : ParseState) (s' : List ℕ) (r : Outcome (ℕ × ℕ)) : Type 0 where
   pub is : PartsBy l s' p r
   pub kept : NodesKept p.node s s'
 
@@ -143,11 +132,11 @@ pub record ComprehensionFound (x : E.Read Question) (s : List ℕ) (p : ParseSta
   pub end : e ≡ p.node + nodes (as_term question)
   pub spent : left + nodes (as_term question) ≡ p.left + 1
 
-abbrev pub ComprehensionBy : E.Read Question → List ℕ → ParseState → Filled → Type 0
-ComprehensionBy x s p (Filled.Read left e) = ComprehensionFound x s p left e
-ComprehensionBy x s p (Filled.Refused k) = x ≡ refused k
+abbrev pub ComprehensionBy : E.Read Question → List ℕ → ParseState → Outcome (ℕ × ℕ) → Type 0
+ComprehensionBy x s p (Ok (left, e)) = ComprehensionFound x s p left e
+ComprehensionBy x s p (Err k) = x ≡ refused (number_of k)
 
-pub record ComprehensionPost (c : Bytes) (s : List ℕ) (p : ParseState) (s' : List ℕ) (r : Filled) : Type 0 where
+pub record ComprehensionPost (c : Bytes) (s : List ℕ) (p : ParseState) (s' : List ℕ) (r : Outcome (ℕ × ℕ)) : Type 0 where
   pub is : ComprehensionBy (comprehends (read_part p.levels) c p.left) s' p r
   pub kept : NodesKept p.node s s'
 
@@ -161,11 +150,11 @@ pub record QuestionLaid (x : Result Question) (s : List ℕ) (n : ℕ) : Type 0 
   pub laid : Laid s 0 0 (as_term question)
   pub count : n ≡ nodes (as_term question)
 
-abbrev pub QuestionBy : Result Question → List ℕ → Read → Type 0
-QuestionBy x s (Answer.Question n) = QuestionLaid x s n
-QuestionBy x s (Answer.Refused k) = x ≡ refused k
+abbrev pub QuestionBy : Result Question → List ℕ → Outcome ℕ → Type 0
+QuestionBy x s (Ok n) = QuestionLaid x s n
+QuestionBy x s (Err k) = x ≡ refused (number_of k)
 
 -- only the words of the 256 nodes may differ
-pub record ReadQuestionPost (l : Bytes) (s s' : List ℕ) (r : Read) : Type 0 where
+pub record ReadQuestionPost (l : Bytes) (s s' : List ℕ) (r : Outcome ℕ) : Type 0 where
   pub is : QuestionBy (read_question l) s' r
   pub kept : NodesKept 0 s s'

@@ -6,8 +6,6 @@ use Rattle.front_words.specs.NodeWord.{pack}
 use Rattle.front_words.specs.NodeTree.{arg_at}
 use Rattle.front_words.specs.LaidTree.{LaidNode}
 use Rattle.front_parser.specs.declared.ParseState.{ParseState}
-use Rattle.front_parser.specs.declared.Filled.{Filled}
-use Rattle.front_parser.specs.declared.Filled.TheVariants as Filled
 
 -- only the words of nodes a to 255 may differ
 pub record NodesKept (a : ℕ) (s s' : List ℕ) : Type 0 where
@@ -32,8 +30,8 @@ pub record FinishPre (s : List ℕ) (k a : ℕ) (p : ParseState) (i : ℕ) : Typ
   pub deep : p.depth ≤ 32
 
 -- node i is put and nothing else; what the node then says follows from its word
-pub record FinishPost (s : List ℕ) (k a : ℕ) (p : ParseState) (left i : ℕ) (s' : List ℕ) (r : Filled) : Type 0 where
-  pub is : r ≡ Filled.Read left (i + 1)
+pub record FinishPost (s : List ℕ) (k a : ℕ) (p : ParseState) (left i : ℕ) (s' : List ℕ) (r : ℕ × ℕ) : Type 0 where
+  pub is : r ≡ (left, i + 1)
   pub put : s' ≡ set s (nodes_at + i) (pack k a p.node p.depth)
   pub node : LaidNode s' p.depth p.node i (get_or kinds k unknown)
   pub arg : arg_at s' i ≡ a

@@ -1,19 +1,13 @@
 -- The front of some bytes: what the header's reader finds, and whether a record may begin.
-use Rattle.std.specs.Prelude.{◌≡◌, true, false, ℕ, suc, ◌+◌, ◌≤◌, ◌<◌, length}
-use Rattle.spec_encoding.specs.Record.{Bytes, byte, two, length_of, kind_of, is_whole}
+use Rattle.std.specs.Prelude.{◌≡◌, true, false, ℕ, suc, ◌+◌, ◌≤◌, length, Option, Some, None, Result, Ok, Err}
+use Rattle.spec_encoding.specs.Record.{Bytes, length_of, kind_of, is_whole}
+use Rattle.base_refusals.specs.declared.Refusal.{Refusal}
+use Rattle.base_refusals.specs.Numbers.{number_of}
 use Rattle.front_parser.specs.declared.ParseState.{ParseState}
-use Rattle.front_parser.specs.declared.bytes.RecordHeader.{RecordHeader}
-use Rattle.front_parser.specs.declared.bytes.RecordHeader.TheVariants as RecordHeader
-use Rattle.front_parser.specs.declared.bytes.RecordStart.{RecordStart}
-use Rattle.front_parser.specs.declared.bytes.RecordStart.TheVariants as RecordStart
 
-pub record BytePost (l : Bytes) (i r : ℕ) : Type 0 where
-  pub is : r ≡ byte l i
-  pub small : r < 256
-
-pub record TwoPost (l : Bytes) (i r : ℕ) : Type 0 where
-  pub is : r ≡ two l i
-  pub small : r < 65536
+-- what a reader found, or its refusal
+abbrev pub Outcome : Type 0 → Type 0
+Outcome A = Result A Refusal
 
 pub record RecordFront (l : Bytes) (k e : ℕ) : Type 0 where
   pub whole : is_whole l ≡ true
@@ -21,11 +15,11 @@ pub record RecordFront (l : Bytes) (k e : ℕ) : Type 0 where
   pub end : e ≡ 4 + length_of l
   pub within : e ≤ length l
 
-abbrev pub HeadedBy : Bytes → RecordHeader → Type 0
-HeadedBy l (RecordHeader.Record k e) = RecordFront l k e
-HeadedBy l RecordHeader.Short = is_whole l ≡ false
+abbrev pub HeadedBy : Bytes → Option (ℕ × ℕ) → Type 0
+HeadedBy l (Some (k, e)) = RecordFront l k e
+HeadedBy l None = is_whole l ≡ false
 
-pub record ReadHeaderPost (l : Bytes) (r : RecordHeader) : Type 0 where
+pub record ReadHeaderPost (l : Bytes) (r : Option (ℕ × ℕ)) : Type 0 where
   pub is : HeadedBy l r
 
 -- the record at the front begins, and its content's reader stands at b: one level further down, one record fewer left
@@ -43,9 +37,9 @@ pub data Stops (l : Bytes) (p : ParseState) : ℕ → Type 0 where
   many : (length l ≡ 0 → ⊥) → p.left ≡ 0 → Stops l p 23
   cut : (p.levels ≡ 0 → ⊥) → (p.left ≡ 0 → ⊥) → is_whole l ≡ false → Stops l p 22
 
-abbrev pub BeginsBy : Bytes → ParseState → RecordStart → Type 0
-BeginsBy l p (RecordStart.Record k e b) = Began l p k e b
-BeginsBy l p (RecordStart.Refused x) = Stops l p x
+abbrev pub BeginsBy : Bytes → ParseState → Outcome (ℕ × ℕ × ParseState) → Type 0
+BeginsBy l p (Ok (k, e, b)) = Began l p k e b
+BeginsBy l p (Err x) = Stops l p (number_of x)
 
-pub record BeginPost (l : Bytes) (p : ParseState) (r : RecordStart) : Type 0 where
+pub record BeginPost (l : Bytes) (p : ParseState) (r : Outcome (ℕ × ℕ × ParseState)) : Type 0 where
   pub is : BeginsBy l p r

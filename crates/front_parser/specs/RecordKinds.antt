@@ -1,16 +1,12 @@
 -- What a kind says of its record's content.
-use Rattle.std.specs.Prelude.{◌≡◌, [], ◌∷◌, Bool, true, false, ◌&&◌, ℕ, ◌≤◌, ◌<◌, leb, length, get_or}
+use Rattle.std.specs.Prelude.{◌≡◌, [], ◌∷◌, Bool, true, false, ◌&&◌, ℕ, ◌≤◌, ◌<◌, leb, length, get_or, Option, Some, None}
 use Rattle.spec_calculus.specs.Lists.{pick}
 use Rattle.spec_calculus.specs.Syntax.{Bin, Term, num, truth, name, table}
 use Rattle.spec_encoding.specs.Record.{Bytes, refused, byte, two}
 use Rattle.spec_encoding.specs.Reader.{Kind, kinds, unknown, number, truth_k, name_k, field_k, record', not, table_k, comprehension, generator, binding, condition, choice_k, open_k, two_terms, Reader, term, yields, content}
 use Rattle.base_syntax.specs.Numbers.{constant_of}
 use Rattle.front_parser.specs.declared.value.ContentKind.{ContentKind}
-use Rattle.front_parser.specs.declared.value.ContentKind.TheVariants as ContentKind
-use Rattle.front_parser.specs.declared.value.Ahead.{Ahead}
-use Rattle.front_parser.specs.declared.value.Ahead.TheVariants as Ahead
-use Rattle.front_parser.specs.declared.value.ArgumentRead.{ArgumentRead}
-use Rattle.front_parser.specs.declared.value.ArgumentRead.TheVariants as ArgumentRead
+use Rattle.front_parser.specs.declared.Arity.{Arity}
 
 -- the kinds of records without records inside
 pub data LeafKind : ℕ → Type 0 where
@@ -42,11 +38,11 @@ pub record ShapeOfPost (k : ℕ) (r : ContentKind) : Type 0 where
   pub is : ShapedBy k r
 
 -- a qualifier's kind, or one that is read alike where no qualifier may stand
-abbrev pub LooksBy : ℕ → Ahead → Type 0
-LooksBy k (Ahead.Qualifier h) = HasTerms (get_or kinds k unknown) true h.least h.most h.skip × (k < 32)
-LooksBy k Ahead.Term = (R : Reader) (c : Bytes) (n : ℕ) → content R true (get_or kinds k unknown) c n ≡ content R false (get_or kinds k unknown) c n
+abbrev pub LooksBy : ℕ → Option Arity → Type 0
+LooksBy k (Some h) = HasTerms (get_or kinds k unknown) true h.least h.most h.skip × (k < 32)
+LooksBy k None = (R : Reader) (c : Bytes) (n : ℕ) → content R true (get_or kinds k unknown) c n ≡ content R false (get_or kinds k unknown) c n
 
-pub record LookAheadPost (k : ℕ) (r : Ahead) : Type 0 where
+pub record LookAheadPost (k : ℕ) (r : Option Arity) : Type 0 where
   pub is : LooksBy k r
 
 -- the bytes before a record's terms: none, a field's index or a calendar's number, a name; whether they may stand, and what they say
@@ -62,11 +58,11 @@ pub record FixedIs (skip : ℕ) (c : Bytes) (a : ℕ) : Type 0 where
   pub small : a < 256
   pub within : skip ≤ length c
 
-abbrev pub FixedBy : ℕ → Bytes → ArgumentRead → Type 0
-FixedBy skip c (ArgumentRead.Is a) = FixedIs skip c a
-FixedBy skip c ArgumentRead.Broken = fixed_ok skip c ≡ false
+abbrev pub FixedBy : ℕ → Bytes → Option ℕ → Type 0
+FixedBy skip c (Some a) = FixedIs skip c a
+FixedBy skip c None = fixed_ok skip c ≡ false
 
-pub record Fixed (skip : ℕ) (c : Bytes) (r : ArgumentRead) : Type 0 where
+pub record Fixed (skip : ℕ) (c : Bytes) (r : Option ℕ) : Type 0 where
   pub is : FixedBy skip c r
 
 -- a term without terms inside, and its node's argument
@@ -82,9 +78,9 @@ pub record ValueIs (K : Kind) (c : Bytes) (a : ℕ) : Type 0 where
   pub is : (R : Reader) (q : Bool) (n : ℕ) → content R q K c n ≡ yields (term tree) [] n
   pub small : a < 8589934592
 
-abbrev pub ValuedBy : Kind → Bytes → ArgumentRead → Type 0
-ValuedBy K c (ArgumentRead.Is a) = ValueIs K c a
-ValuedBy K c ArgumentRead.Broken = (R : Reader) (q : Bool) (n : ℕ) → content R q K c n ≡ refused 22
+abbrev pub ValuedBy : Kind → Bytes → Option ℕ → Type 0
+ValuedBy K c (Some a) = ValueIs K c a
+ValuedBy K c None = (R : Reader) (q : Bool) (n : ℕ) → content R q K c n ≡ refused 22
 
-pub record Valued (K : Kind) (c : Bytes) (r : ArgumentRead) : Type 0 where
+pub record Valued (K : Kind) (c : Bytes) (r : Option ℕ) : Type 0 where
   pub is : ValuedBy K c r

@@ -1,78 +1,45 @@
-// The front of some bytes: little-endian numbers, a record's header, and whether a record may begin.
-ghost use Rattle.std.specs.Prelude.{◌+◌, ◌<◌};
-ghost use Rattle.front_parser.specs.RecordFront.{BytePost, TwoPost, ReadHeaderPost, BeginPost};
+// The front of some bytes: a record's header, and whether a record may begin.
+ghost use Rattle.front_parser.specs.RecordFront.{ReadHeaderPost, BeginPost};
 
 use crate::ParseState;
-use base_refusals::{BROKEN_RECORD, TOO_DEEP_OR_TOO_MANY_RECORDS};
+use base_bytes::two_at;
+use base_refusals::Refusal;
 
-// A whole record: its kind and where it ends.
-#[derive(Clone, Copy)]
-pub enum RecordHeader {
-    Record(u64, usize),
-    Short,
-}
-
-// A record that may begin: its kind, where it ends, and where the reader of its content stands.
-#[derive(Clone, Copy)]
-pub enum RecordStart {
-    Record(u64, usize, ParseState),
-    Refused(u64),
-}
-
-// The byte at a place; 0 behind the end.
-pub fn byte(l: &[u8], i: usize) -> u64
-    ensures { BytePost l.now i result }
-{
-    if i < l.len() { l[i] as u64 } else { 0 }
-}
-
-pub fn two(l: &[u8], i: usize) -> u64
-    requires { i < 4096 }
-    ensures { TwoPost l.now i result }
-{
-    let low = byte(l, i);
-    let high = byte(l, i + 1);
-    low + 256 * high
-}
-
-// "Two bytes of content length, two bytes of kind, content."
-pub fn read_header(l: &[u8]) -> RecordHeader
+// A whole record's kind, and where it ends. "Two bytes of content length, two bytes of kind, content."
+pub fn read_header(l: &[u8]) -> Option<(u64, usize)>
     ensures { ReadHeaderPost l.now result }
 {
     if l.len() < 4 {
-        return RecordHeader::Short;
+        return None;
     }
-    let n = two(l, 0) as usize;
+    let n = two_at(l, 0);
     if l.len() - 4 < n {
-        return RecordHeader::Short;
+        return None;
     }
-    let k = two(l, 2);
-    RecordHeader::Record(k, 4 + n)
+    let k = two_at(l, 2) as u64;
+    Some((k, 4 + n))
 }
 
-// "23 first at one record"; but where no byte is left, 22.
-pub fn begin(l: &[u8], p: ParseState) -> RecordStart
+// A record that may begin: its kind, where it ends, and where the reader of its content stands. "23 first at one record"; but
+// where no byte is left, 22.
+pub fn begin(l: &[u8], p: ParseState) -> Result<(u64, usize, ParseState), Refusal>
     ensures { BeginPost l.now p result }
 {
     if l.len() == 0 {
-        return RecordStart::Refused(BROKEN_RECORD);
+        return Err(Refusal::BrokenRecord);
     }
     if p.levels == 0 {
-        return RecordStart::Refused(TOO_DEEP_OR_TOO_MANY_RECORDS);
+        return Err(Refusal::TooDeepOrTooManyRecords);
     }
     if p.left == 0 {
-        return RecordStart::Refused(TOO_DEEP_OR_TOO_MANY_RECORDS);
+        return Err(Refusal::TooDeepOrTooManyRecords);
     }
-    match read_header(l) {
-        RecordHeader::Short => RecordStart::Refused(BROKEN_RECORD),
-        RecordHeader::Record(k, e) => {
-            let b = ParseState {
-                levels: p.levels - 1,
-                left: p.left - 1,
-                node: p.node,
-                depth: p.depth,
-            };
-            RecordStart::Record(k, e, b)
-        }
-    }
+    let (k, e) = read_header(l).ok_or(Refusal::BrokenRecord)?;
+    let b = ParseState {
+        levels: p.levels - 1,
+        left: p.left - 1,
+        node: p.node,
+        depth: p.depth,
+    };
+    Ok((k, e, b))
 }

@@ -8,12 +8,13 @@ mod value;
 ghost use Rattle.std.specs.Prelude.{◌≡◌, ◌+◌, ◌≤◌, ◌<◌, length};
 ghost use Rattle.base_scratch.specs.Map.{scratch_size};
 ghost use Rattle.front_parser.specs.ReaderScratch.{NodeRoom};
-ghost use Rattle.front_parser.specs.ReaderContracts.{behind_of, TermPost, TermsPost, CompoundPost, ContentRead, head_of, QualifierPost, PartsPost, ComprehensionPost, ReadQuestionPost};
+ghost use Rattle.front_parser.specs.ReaderContracts.{behind_of, TermPost, TermsPost, CompoundPost, ContentRead, QualifierPost, PartsPost, ComprehensionPost, ReadQuestionPost};
 
-use base_refusals::{BROKEN_RECORD, QUESTION_TOO_LONG};
+use base_bytes::byte_at;
+use base_refusals::Refusal;
 use base_syntax::{KIND_COMPREHENSION, MONOIDS};
-use bytes::{RecordHeader, RecordStart, begin, byte, read_header};
-use value::{Ahead, ArgumentRead, ContentKind, finish, fixed, leaf, look_ahead, shape_of};
+use bytes::{begin, read_header};
+use value::{ContentKind, finish, fixed, leaf, look_ahead, shape_of};
 
 // "21: over 4,096 bytes."
 const QUESTION_BYTES: usize = 4096;
@@ -41,40 +42,11 @@ pub struct Arity {
     pub skip: usize,
 }
 
-// A record's content was read whole: how many records may still be begun, and the next node.
-#[derive(Clone, Copy)]
-pub enum Filled {
-    Read(usize, usize),
-    Refused(u64),
-}
-
-// The term at the front of some bytes: how many bytes it takes, and as above.
-#[derive(Clone, Copy)]
-pub enum TermFront {
-    Read(usize, usize, usize),
-    Refused(u64),
-}
-
-// Terms up to the end of the bytes: how many, and as above.
-#[derive(Clone, Copy)]
-pub enum Several {
-    Read(usize, usize, usize),
-    Refused(u64),
-}
-
-// A qualifier or the head at the front of some bytes, as a term.
+// A qualifier or the head at the front of some bytes: how many bytes it takes, how many records may still be begun, the next node.
 #[derive(Clone, Copy)]
 pub enum Item {
     Qualifier(usize, usize, usize),
     Head(usize, usize, usize),
-    Refused(u64),
-}
-
-// The number of nodes, or the refusal.
-#[derive(Clone, Copy)]
-pub enum Read {
-    Question(usize),
-    Refused(u64),
 }
 
 // Where a reader stands behind what was read.
@@ -89,24 +61,20 @@ fn behind(p: ParseState, left: usize, node: usize) -> ParseState
     }
 }
 
-// The record at the front, where a term must stand.
+// The record at the front, where a term must stand: how many bytes it takes, how many records may still be begun, the next node.
 #[cycle(compound_comprehension_content_parts_qualifier_term_terms)]
-fn term(l: &[u8], s: &mut [u64], p: ParseState) -> TermFront
+fn term(l: &[u8], s: &mut [u64], p: ParseState) -> Result<(usize, usize, usize), Refusal>
     requires { NodeRoom 0 s.old p }
     ensures { TermPost l.now s.old p s.new result }
 {
-    match begin(l, p) {
-        RecordStart::Refused(x) => TermFront::Refused(x),
-        RecordStart::Record(k, e, b) => match content(k, &l[4..e], s, b) {
-            Filled::Refused(x) => TermFront::Refused(x),
-            Filled::Read(left, node) => TermFront::Read(e, left, node),
-        },
-    }
+    let (k, e, b) = begin(l, p)?;
+    let (left, node) = content(k, &l[4..e], s, b)?;
+    Ok((e, left, node))
 }
 
-// A term's content, by its kind.
+// A term's content, by its kind: how many records may still be begun, and the next node.
 #[cycle(compound_comprehension_content_parts_qualifier_term_terms)]
-fn content(k: u64, c: &[u8], s: &mut [u64], p: ParseState) -> Filled
+fn content(k: u64, c: &[u8], s: &mut [u64], p: ParseState) -> Result<(usize, usize), Refusal>
     requires { NodeRoom 1 s.old p }
     ensures { ContentRead k c.now s.old p s.new result }
 {
@@ -114,37 +82,43 @@ fn content(k: u64, c: &[u8], s: &mut [u64], p: ParseState) -> Filled
         ContentKind::Value => leaf(k, c, s, p),
         ContentKind::Terms(h) => compound(k, h, c, s, p),
         ContentKind::Comprehension => comprehension(c, s, p),
-        ContentKind::Other => Filled::Refused(BROKEN_RECORD),
+        ContentKind::Other => Err(Refusal::BrokenRecord),
     }
 }
 
 // Content that is terms, behind a field's index, a calendar's number or a name: kinds 4 to 13, document 02's and the qualifiers.
 #[cycle(compound_comprehension_content_parts_qualifier_term_terms)]
-fn compound(k: u64, h: Arity, c: &[u8], s: &mut [u64], p: ParseState) -> Filled
+fn compound(
+    k: u64,
+    h: Arity,
+    c: &[u8],
+    s: &mut [u64],
+    p: ParseState,
+) -> Result<(usize, usize), Refusal>
     requires { (k < 32) × NodeRoom 1 s.old p }
     ensures { CompoundPost k h c.now s.old p s.new result }
 {
     let skip = h.skip;
-    let ArgumentRead::Is(a) = fixed(skip, c) else {
-        return Filled::Refused(BROKEN_RECORD);
-    };
-    match terms(&c[skip..], s, p, h.most) {
-        Several::Refused(x) => Filled::Refused(x),
-        Several::Read(count, left, node) => {
-            if count < h.least {
-                return Filled::Refused(BROKEN_RECORD);
-            }
-            if skip == 0 {
-                return finish(s, k, count as u64, p, left, node);
-            }
-            finish(s, k, a, p, left, node)
-        }
+    let a = fixed(skip, c).ok_or(Refusal::BrokenRecord)?;
+    let (count, left, node) = terms(&c[skip..], s, p, h.most)?;
+    if count < h.least {
+        return Err(Refusal::BrokenRecord);
     }
+    if skip == 0 {
+        return Ok(finish(s, k, count as u64, p, left, node));
+    }
+    Ok(finish(s, k, a, p, left, node))
 }
 
-// Terms one behind the other, at most so many, up to the end of the bytes. A loop: a call for each would need stack for each.
+// Terms one behind the other, at most so many, up to the end of the bytes: how many, and as for `content`. A loop: a call for each
+// would need stack for each. It steps by each record's length.
 #[cycle(compound_comprehension_content_parts_qualifier_term_terms)]
-fn terms(l: &[u8], s: &mut [u64], p: ParseState, most: usize) -> Several
+fn terms(
+    l: &[u8],
+    s: &mut [u64],
+    p: ParseState,
+    most: usize,
+) -> Result<(usize, usize, usize), Refusal>
     requires { NodeRoom 0 s.old p }
     ensures { TermsPost most l.now s.old p s.new result }
 {
@@ -153,37 +127,31 @@ fn terms(l: &[u8], s: &mut [u64], p: ParseState, most: usize) -> Several
     let mut count: usize = 0;
     while at < l.len() {
         if most <= count {
-            return Several::Refused(BROKEN_RECORD);
+            return Err(Refusal::BrokenRecord);
         }
-        match term(&l[at..], s, q) {
-            TermFront::Refused(x) => {
-                return Several::Refused(x);
-            }
-            TermFront::Read(used, left, node) => {
-                at += used;
-                q = behind(q, left, node);
-                count += 1;
-            }
-        }
+        let (used, left, node) = term(&l[at..], s, q)?;
+        at += used;
+        q = behind(q, left, node);
+        count += 1;
     }
-    Several::Read(count, q.left, q.node)
+    Ok((count, q.left, q.node))
 }
 
 // The content of kind 14: a monoid, qualifiers, a head.
 #[cycle(compound_comprehension_content_parts_qualifier_term_terms)]
-fn comprehension(c: &[u8], s: &mut [u64], p: ParseState) -> Filled
+fn comprehension(c: &[u8], s: &mut [u64], p: ParseState) -> Result<(usize, usize), Refusal>
     requires { NodeRoom 1 s.old p }
     ensures { ComprehensionPost c.now s.old p s.new result }
 {
     if c.len() == 0 {
-        return Filled::Refused(BROKEN_RECORD);
+        return Err(Refusal::BrokenRecord);
     }
-    let m = byte(c, 0);
+    let m = byte_at(c, 0) as u64;
     if m == 0 {
-        return Filled::Refused(BROKEN_RECORD);
+        return Err(Refusal::BrokenRecord);
     }
     if MONOIDS < m {
-        return Filled::Refused(BROKEN_RECORD);
+        return Err(Refusal::BrokenRecord);
     }
     let inside = ParseState {
         levels: p.levels,
@@ -191,34 +159,29 @@ fn comprehension(c: &[u8], s: &mut [u64], p: ParseState) -> Filled
         node: p.node,
         depth: p.depth + 1,
     };
-    match parts(&c[1..], s, inside) {
-        Filled::Refused(x) => Filled::Refused(x),
-        Filled::Read(left, node) => finish(s, KIND_COMPREHENSION, m, p, left, node),
-    }
+    let (left, node) = parts(&c[1..], s, inside)?;
+    Ok(finish(s, KIND_COMPREHENSION, m, p, left, node))
 }
 
 // "Any count of qualifiers, then one head term", which fills the rest. A loop, as in `terms`.
 #[cycle(compound_comprehension_content_parts_qualifier_term_terms)]
-fn parts(l: &[u8], s: &mut [u64], p: ParseState) -> Filled
+fn parts(l: &[u8], s: &mut [u64], p: ParseState) -> Result<(usize, usize), Refusal>
     requires { NodeRoom 0 s.old p }
     ensures { PartsPost l.now s.old p s.new result }
 {
     let mut at: usize = 0;
     let mut q = p;
     loop {
-        match qualifier(&l[at..], s, q) {
-            Item::Refused(x) => {
-                return Filled::Refused(x);
-            }
+        match qualifier(&l[at..], s, q)? {
             Item::Qualifier(used, left, node) => {
                 at += used;
                 q = behind(q, left, node);
             }
             Item::Head(used, left, node) => {
                 if used < l.len() - at {
-                    return Filled::Refused(BROKEN_RECORD);
+                    return Err(Refusal::BrokenRecord);
                 }
-                return Filled::Read(left, node);
+                return Ok((left, node));
             }
         }
     }
@@ -226,44 +189,30 @@ fn parts(l: &[u8], s: &mut [u64], p: ParseState) -> Filled
 
 // The record at the front, where a qualifier may stand; what is no qualifier is the head.
 #[cycle(compound_comprehension_content_parts_qualifier_term_terms)]
-fn qualifier(l: &[u8], s: &mut [u64], p: ParseState) -> Item
+fn qualifier(l: &[u8], s: &mut [u64], p: ParseState) -> Result<Item, Refusal>
     requires { NodeRoom 0 s.old p }
     ensures { QualifierPost l.now s.old p s.new result }
 {
-    match begin(l, p) {
-        RecordStart::Refused(x) => Item::Refused(x),
-        RecordStart::Record(k, e, b) => match look_ahead(k) {
-            Ahead::Term => as_head(term(l, s, p)),
-            Ahead::Qualifier(h) => match compound(k, h, &l[4..e], s, b) {
-                Filled::Refused(x) => Item::Refused(x),
-                Filled::Read(left, node) => Item::Qualifier(e, left, node),
-            },
-        },
-    }
+    let (k, e, b) = begin(l, p)?;
+    let Some(h) = look_ahead(k) else {
+        let (used, left, node) = term(l, s, p)?;
+        return Ok(Item::Head(used, left, node));
+    };
+    let (left, node) = compound(k, h, &l[4..e], s, b)?;
+    Ok(Item::Qualifier(e, left, node))
 }
 
-fn as_head(r: TermFront) -> Item
-    ensures { result ≡ head_of r }
-{
-    match r {
-        TermFront::Read(used, left, node) => Item::Head(used, left, node),
-        TermFront::Refused(x) => Item::Refused(x),
-    }
-}
-
-// "A question is one record of kind 14", and nothing behind it.
-pub fn read_question(l: &[u8], s: &mut [u64]) -> Read
+// "A question is one record of kind 14", and nothing behind it. Gives how many nodes it has.
+pub fn read_question(l: &[u8], s: &mut [u64]) -> Result<usize, Refusal>
     requires { scratch_size ≤ length s.old }
     ensures { ReadQuestionPost l.now s.old s.new result }
 {
     if QUESTION_BYTES < l.len() {
-        return Read::Refused(QUESTION_TOO_LONG);
+        return Err(Refusal::QuestionTooLong);
     }
-    let RecordHeader::Record(k, e) = read_header(l) else {
-        return Read::Refused(BROKEN_RECORD);
-    };
+    let (k, e) = read_header(l).ok_or(Refusal::BrokenRecord)?;
     if k != KIND_COMPREHENSION {
-        return Read::Refused(BROKEN_RECORD);
+        return Err(Refusal::BrokenRecord);
     }
     let first = ParseState {
         levels: LEVELS,
@@ -271,14 +220,9 @@ pub fn read_question(l: &[u8], s: &mut [u64]) -> Read
         node: 0,
         depth: 0,
     };
-    match comprehension(&l[4..e], s, first) {
-        Filled::Refused(x) => Read::Refused(x),
-        Filled::Read(_, n) => {
-            if e < l.len() {
-                Read::Refused(BROKEN_RECORD)
-            } else {
-                Read::Question(n)
-            }
-        }
+    let (_, n) = comprehension(&l[4..e], s, first)?;
+    if e < l.len() {
+        return Err(Refusal::BrokenRecord);
     }
+    Ok(n)
 }

@@ -5,9 +5,9 @@ ghost use Rattle.front_parser.specs.ReaderScratch.{NodeRoom, FinishPre, FinishPo
 ghost use Rattle.front_parser.specs.RecordKinds.{ShapeOfPost, LookAheadPost, Valued, LeafKind, Fixed};
 ghost use Rattle.front_parser.specs.ReaderContracts.{ContentRead};
 
-use super::bytes::{byte, two};
-use crate::{Arity, Filled, ParseState};
-use base_refusals::BROKEN_RECORD;
+use crate::{Arity, ParseState};
+use base_bytes::{byte_at, two_at};
+use base_refusals::Refusal;
 use base_syntax::{
     KIND_BINDING, KIND_CHOICE, KIND_COMPREHENSION, KIND_CONDITION, KIND_FIELD, KIND_GENERATOR,
     KIND_NAME, KIND_NOT, KIND_NUMBER, KIND_OPEN, KIND_RECORD, KIND_TABLE, KIND_TRUTH, ZERO,
@@ -24,20 +24,6 @@ pub enum ContentKind {
     Terms(Arity),
     Comprehension,
     Other,
-}
-
-// Whether a qualifier stands ahead, and what its content is.
-#[derive(Clone, Copy)]
-pub enum Ahead {
-    Qualifier(Arity),
-    Term,
-}
-
-// The argument that some bytes hold.
-#[derive(Clone, Copy)]
-pub enum ArgumentRead {
-    Is(u64),
-    Broken,
 }
 
 // By a kind behind those of document 01's terms: document 02's, or a qualifier, which is no term.
@@ -98,113 +84,106 @@ pub fn shape_of(k: u64) -> ContentKind
     }
 }
 
-pub fn look_ahead(k: u64) -> Ahead
+// What a qualifier's content is, where one stands ahead.
+pub fn look_ahead(k: u64) -> Option<Arity>
     ensures { LookAheadPost k result }
 {
     match k {
-        KIND_GENERATOR => Ahead::Qualifier(Arity {
+        KIND_GENERATOR => Some(Arity {
             least: 1,
             most: 1,
             skip: 2,
         }),
-        KIND_BINDING => Ahead::Qualifier(Arity {
+        KIND_BINDING => Some(Arity {
             least: 1,
             most: 1,
             skip: 2,
         }),
-        KIND_CONDITION => Ahead::Qualifier(Arity {
+        KIND_CONDITION => Some(Arity {
             least: 1,
             most: 1,
             skip: 0,
         }),
-        _ => Ahead::Term,
+        _ => None,
     }
 }
 
 // One byte: a field's index, a table's number.
-fn index(c: &[u8]) -> ArgumentRead
+fn index(c: &[u8]) -> Option<u64>
     ensures { Fixed 1 c.now result }
 {
     if c.len() < 1 {
-        return ArgumentRead::Broken;
+        return None;
     }
-    ArgumentRead::Is(byte(c, 0))
+    Some(byte_at(c, 0) as u64)
 }
 
-fn short(c: &[u8]) -> ArgumentRead
+fn short(c: &[u8]) -> Option<u64>
     ensures { Fixed 2 c.now result }
 {
     if c.len() < 2 {
-        return ArgumentRead::Broken;
+        return None;
     }
-    let x = two(c, 0);
-    if x <= LAST_NAME {
-        ArgumentRead::Is(x)
-    } else {
-        ArgumentRead::Broken
-    }
+    let x = two_at(c, 0) as u64;
+    if x <= LAST_NAME { Some(x) } else { None }
 }
 
 // The bytes before a record's terms: none, a field's index, or a name.
-pub fn fixed(skip: usize, c: &[u8]) -> ArgumentRead
+pub fn fixed(skip: usize, c: &[u8]) -> Option<u64>
     ensures { Fixed skip c.now result }
 {
     match skip {
-        0 => ArgumentRead::Is(0),
+        0 => Some(0),
         1 => index(c),
         2 => short(c),
-        _ => ArgumentRead::Broken,
+        _ => None,
     }
 }
 
-fn number(c: &[u8]) -> ArgumentRead
+fn number(c: &[u8]) -> Option<u64>
     ensures { Valued number c.now result }
 {
     if c.len() != 4 {
-        return ArgumentRead::Broken;
+        return None;
     }
-    let n = two(c, 0) + 65536 * two(c, 2);
+    let n = two_at(c, 0) as u64 + 65536 * two_at(c, 2) as u64;
     if n < ZERO {
-        ArgumentRead::Is(n + ZERO)
+        Some(n + ZERO)
     } else {
-        ArgumentRead::Is(n - ZERO)
+        Some(n - ZERO)
     }
 }
 
-fn truth(c: &[u8]) -> ArgumentRead
+fn truth(c: &[u8]) -> Option<u64>
     ensures { Valued truth_k c.now result }
 {
     if c.len() != 1 {
-        return ArgumentRead::Broken;
+        return None;
     }
-    let b = byte(c, 0);
-    if b <= 1 {
-        ArgumentRead::Is(b)
-    } else {
-        ArgumentRead::Broken
-    }
+    let b = byte_at(c, 0) as u64;
+    if b <= 1 { Some(b) } else { None }
 }
 
-fn name(c: &[u8]) -> ArgumentRead
+fn name(c: &[u8]) -> Option<u64>
     ensures { Valued name_k c.now result }
 {
     if c.len() != 2 {
-        return ArgumentRead::Broken;
+        return None;
     }
     short(c)
 }
 
-fn table(c: &[u8]) -> ArgumentRead
+fn table(c: &[u8]) -> Option<u64>
     ensures { Valued table_k c.now result }
 {
     if c.len() != 1 {
-        return ArgumentRead::Broken;
+        return None;
     }
     index(c)
 }
 
 // Numbers, truths, names and tables.
-fn argument(k: u64, c: &[u8]) -> ArgumentRead
+fn argument(k: u64, c: &[u8]) -> Option<u64>
     requires { LeafKind k }
     ensures { Valued (get_or kinds k unknown) c.now result }
 {
@@ -216,21 +195,19 @@ fn argument(k: u64, c: &[u8]) -> ArgumentRead
     }
 }
 
-// A record's own node, behind the nodes inside it.
-pub fn finish(s: &mut [u64], k: u64, a: u64, p: ParseState, left: usize, i: usize) -> Filled
+// A record's own node, behind the nodes inside it. Gives how many records may still be begun, and the next node.
+pub fn finish(s: &mut [u64], k: u64, a: u64, p: ParseState, left: usize, i: usize) -> (usize, usize)
     requires { FinishPre s.old k a p i }
     ensures { FinishPost s.old k a p left i s.new result }
 {
     put_node(s, i, k, a, p.node as u64, p.depth);
-    Filled::Read(left, i + 1)
+    (left, i + 1)
 }
 
-pub fn leaf(k: u64, c: &[u8], s: &mut [u64], p: ParseState) -> Filled
+pub fn leaf(k: u64, c: &[u8], s: &mut [u64], p: ParseState) -> Result<(usize, usize), Refusal>
     requires { LeafKind k × NodeRoom 1 s.old p }
     ensures { ContentRead k c.now s.old p s.new result }
 {
-    match argument(k, c) {
-        ArgumentRead::Broken => Filled::Refused(BROKEN_RECORD),
-        ArgumentRead::Is(a) => finish(s, k, a, p, p.left, p.node),
-    }
+    let a = argument(k, c).ok_or(Refusal::BrokenRecord)?;
+    Ok(finish(s, k, a, p, p.left, p.node))
 }

@@ -6,7 +6,7 @@ use Prim.Native.Nat.{ℕ, zero, suc, ◌+◌, ◌*◌, ◌/◌, ◌%◌, ◌^◌
 use native.Mathlib.Omega.{arith}
 use types.Run.{OneOf, miss}
 use denote.Enum.Declared.{tag_of}
-use lib.ListN.{length, get_or, set, length-set, get_or-eq_default}
+use lib.ListN.{length, get_or, set, length-set}
 use lib.Seq.{get_or-set_same, get_or-set_other}
 use lib.Dec.{eqb, ltb}
 use borrow.Author.Tests.{ltb-true, lt-ltb, le-ltb, eqb-true, eqb-false}
@@ -26,8 +26,8 @@ use Rattle.front_nodes.specs.Look.{node_named, LookPost, nth, ChildPost, Unbindi
 use Rattle.front_nodes.specs.Levels.{AllAt, Level, Levelled}
 use Rattle.front_nodes.specs.declared.QueryNode.{QueryNode}
 use Rattle.front_nodes.specs.declared.QueryNode.TheVariants as Nd
-use Rattle.front_nodes.specs.declared.Found.{Found}
-use Rattle.front_nodes.specs.declared.Found.TheVariants as Fd
+use Rattle.std.proofs.Common.{Option}
+use Rattle.std.specs.declared.option.Option.TheVariants as Opt
 use Rattle.front_nodes.specs.declared.Binder.{Binder}
 use Rattle.front_nodes.specs.declared.Binder.TheVariants as Bi
 use Rattle.front_nodes.proofs.PostOrder.{by-pick, post-order}
@@ -372,9 +372,9 @@ pub entered : {s : List ℕ} {h : Resolved} (d n : ℕ) {l : List ℕ} → Fine 
 entered {h = h} d n F e = ap (λ (l : List ℕ). length l) e ∙ length-set h.env d n ∙ F.long
 
 -- ---- project
-found-sem : At → ℕ → Env → Found → Sem
-found-sem A D e (Fd.At c) = A c D e
-found-sem A D e Fd.Nothing = nothing
+found-sem : At → ℕ → Env → Option ℕ → Sem
+found-sem A D e (Opt.Some c) = A c D e
+found-sem A D e Opt.None = nothing
 
 nth-sem : (A : At) (D : ℕ) (e : Env) (k : ℕ) (cs : List ℕ) → Nm.nth k (sems_of A cs D e) ≡ found-sem A D e (nth k cs)
 unfolding Nm.nth nth sems_of found-sem
@@ -382,9 +382,9 @@ nth-sem A D e k [] = refl
 nth-sem A D e zero (c ∷ cs) = refl
 nth-sem A D e (suc k) (c ∷ cs) = nth-sem A D e k cs
 
-found-depth : (ℕ → ℕ) → ℕ → Found → Type 0
-found-depth dep D (Fd.At c) = dep c ≡ D
-found-depth dep D Fd.Nothing = Unit {0}
+found-depth : (ℕ → ℕ) → ℕ → Option ℕ → Type 0
+found-depth dep D (Opt.Some c) = dep c ≡ D
+found-depth dep D Opt.None = Unit {0}
 
 nth-depth : (dep : ℕ → ℕ) (D k : ℕ) (cs : List ℕ) → AllAt dep D cs → found-depth dep D (nth k cs)
 unfolding nth AllAt found-depth
@@ -400,7 +400,7 @@ module _ {s : List ℕ} {k : ℕ} {h : Resolved} where
   unfolding part
   p-row {g} e F q = record { is = λ K. ap (λ x. part k (at K s h x)) (sym e); from = stays (Cell k g) h.env F.long (q, fine-at F e) }
 
-  pub p-none : h.form ≡ Record → Fine s h → ChildPost s h.node k Fd.Nothing → Projected s k h (place Bad h.node h.depth h.env)
+  pub p-none : h.form ≡ Record → Fine s h → ChildPost s h.node k Opt.None → Projected s k h (place Bad h.node h.depth h.env)
   unfolding part found-sem
   p-none e F P =
       record {
@@ -408,7 +408,7 @@ module _ {s : List ℕ} {k : ℕ} {h : Resolved} where
         from = stays Bad h.env F.long tt;
       }
 
-  pub p-part : {c : ℕ} {r : Resolved} → h.form ≡ Record → Fine s h → ChildPost s h.node k (Fd.At c) → Heads s c h.depth h.env r → Projected s k h r
+  pub p-part : {c : ℕ} {r : Resolved} → h.form ≡ Record → Fine s h → ChildPost s h.node k (Opt.Some c) → Heads s c h.depth h.env r → Projected s k h r
   unfolding part found-sem found-depth
   p-part {c} e F P R =
       let c-before = P.before in
@@ -424,31 +424,8 @@ module _ {s : List ℕ} {k : ℕ} {h : Resolved} where
       }
 
 -- ---- what the calls ask, and casts of what they answer
-pub picks-cast : {s : List ℕ} {i k : ℕ} {r r' : Found} → ChildPost s i k r → r ≡ r' → ChildPost s i k r'
+pub picks-cast : {s : List ℕ} {i k : ℕ} {r r' : Option ℕ} → ChildPost s i k r → r ≡ r' → ChildPost s i k r'
 picks-cast {s} {i} {k} P e = subst (ChildPost s i k) e P
 
 pub bound-cast : {s : List ℕ} {x : ℕ} {r r' : Binder} → BoundByPost s x r → r ≡ r' → BoundByPost s x r'
 bound-cast {s} {x} B e = subst (BoundByPost s x) e B
-
--- ---- the small ones
-pub no-entry : (l : List ℕ) (d : ℕ) → length l ≡ levels → 32 ≤ d → 0 ≡ get_or l d 0
-no-entry l d z h = sym (get_or-eq_default l 0 (omega (arith, z, h)))
-
-module _ (l : List ℕ) (d n : ℕ) {v : Bool} where
-  pub enter-gives : v ≡ true → set l d (2 * n + 1) ≡ set l d (2 * n + bit v)
-  enter-gives e = ap (λ (x : Bool). set l d (2 * n + bit x)) (sym e)
-
-  pub enter-stays : v ≡ false → set l d (2 * n) ≡ set l d (2 * n + bit v)
-  enter-stays e = let z : 2 * n ≡ 2 * n + 0 = omega arith in ap (set l d) z ∙ ap (λ (x : Bool). set l d (2 * n + bit x)) (sym e)
-
-pub joined_by : (x : Monoid) {v r : Bool} {m : Monoid} → v ≡ false → m ≡ x → idempotent (monoid_of x) ≡ r → r ≡ v || idempotent (monoid_of m)
-joined_by x {m = m} p e q = sym (ap (λ (a : Bool). a || idempotent (monoid_of m)) p ∙ ap (λ (a : Monoid). idempotent (monoid_of a)) e ∙ q)
-
-module _ {D : ℕ} {n : QueryNode} {m : Monoid} {h : ℕ} (e : n ≡ Nd.Comp m h) where
-  pub form-deep : levels ≤ D → Bad ≡ form_for D n
-  unfolding pick
-  form-deep k = sym (ap (form_for D) e ∙ rw (le-ltb D levels k))
-
-  pub form-comp : D < levels → Comp m h ≡ form_for D n
-  unfolding pick
-  form-comp k = sym (ap (form_for D) e ∙ rw (lt-ltb D levels k))

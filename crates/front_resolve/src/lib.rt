@@ -9,7 +9,7 @@ ghost use Rattle.base_syntax.specs.MonoidWord.{monoid_of};
 ghost use Rattle.front_resolve.specs.Resolved.{under, odd, bit, offsets, Fine, FormAt, Heads, FollowPost, SplicePost, Stepped, ProjectPost, form_for};
 
 use base_syntax::{BinOp, Fun, Monoid};
-use front_nodes::{Binder, Found, QueryNode};
+use front_nodes::{Binder, QueryNode};
 use front_sizes::TOO_MANY;
 
 // A question has at most so many levels.
@@ -48,17 +48,11 @@ pub enum Next {
     At(Head),
 }
 
-fn wide(x: u16) -> u64
-    ensures { result ≡ x }
-{
-    x as u64
-}
-
 pub fn entry(env: &[u16; LEVELS], d: usize) -> u64
     requires { length env.now ≡ levels }
     ensures { result ≡ get_or env.now d 0 }
 {
-    if d < LEVELS { wide(env[d]) } else { 0 }
+    if d < LEVELS { env[d] as u64 } else { 0 }
 }
 
 // The copy whose first number is n.
@@ -66,63 +60,38 @@ pub fn enter(env: &mut [u16; LEVELS], d: usize, n: u64, v: bool)
     requires { (d < levels) × (n ≤ limit) }
     ensures { env.new ≡ set env.old d (2 * n + bit v) }
 {
-    if v {
-        env[d] = (2 * n + 1) as u16;
-        return;
-    }
-    env[d] = (2 * n) as u16;
+    env[d] = (2 * n + v as u64) as u16;
 }
 
 // Whether "some" gives way in a copy of a comprehension of m that is spliced where v says so.
+#[tactic(auto, unfolding(spec_normal_form::specs::Normal::idempotent))]
 pub fn joined(v: bool, m: Monoid) -> bool
     ensures { result ≡ v || idempotent (monoid_of m) }
 {
-    if v {
-        return true;
-    }
-    match m {
-        Monoid::List => false,
-        Monoid::Bag => false,
-        Monoid::Set => true,
-        Monoid::Sum => false,
-        Monoid::Max => true,
-        Monoid::Some => true,
-        Monoid::All => true,
-        Monoid::Min => true,
-    }
+    v || !matches!(m, Monoid::List | Monoid::Bag | Monoid::Sum)
 }
 
 // The first number of what generator x writes, in the copy w; 513 where it is larger.
 pub fn first_number(s: &[u64], x: usize, w: u64) -> u64
     ensures { (result ≡ offsets s.now x (odd w) (w / 2)) × (result ≤ limit) }
 {
-    let n = w / 2 + front_sizes::offset(s, x, w % 2 == 1);
-    if n < TOO_MANY { n } else { TOO_MANY }
+    (w / 2 + front_sizes::offset(s, x, w % 2 == 1)).min(TOO_MANY)
 }
 
+#[tactic(auto, unfolding(spec_calculus::specs::Lists::pick))]
 fn form_of(n: QueryNode, depth: usize) -> Form
     ensures { result ≡ form_for depth n }
 {
     match n {
         QueryNode::Number(z) => Form::Number(z),
         QueryNode::Truth(b) => Form::Truth(b),
-        QueryNode::Name(x, d) => Form::Bad,
-        QueryNode::Field(k, c) => Form::Bad,
         QueryNode::Record => Form::Record,
         QueryNode::Two(o, a, b) => Form::Two(o, a, b),
         QueryNode::Not(c) => Form::Not(c),
-        QueryNode::Comp(m, h) => {
-            if LEVELS <= depth {
-                return Form::Bad;
-            }
-            Form::Comp(m, h)
-        }
+        QueryNode::Comp(m, h) if depth < LEVELS => Form::Comp(m, h),
         QueryNode::Table(k) => Form::Table(k),
-        QueryNode::Gen(c) => Form::Bad,
-        QueryNode::Bind(c) => Form::Bad,
-        QueryNode::Cond(c) => Form::Bad,
         QueryNode::Operator(f) => Form::Operator(f),
-        QueryNode::Bad => Form::Bad,
+        _ => Form::Bad,
     }
 }
 
@@ -203,21 +172,18 @@ fn splice(s: &[u64], h: Head, v: bool, n: u64, env: &mut [u16; LEVELS]) -> Next
     requires { Fine s.now (under env.old h) × (n ≤ limit) }
     ensures { Stepped s.now h.node env.new (SplicePost s.now (under env.old h) v n) result }
 {
-    let f = h.form;
-    match f {
+    match h.form {
         Form::Comp(m, k) => {
             enter(env, h.depth, n, joined(v, m));
             Next::On(k, h.depth + 1)
         }
         Form::Table(k) => Next::At(Head {
             form: Form::Row(n),
-            node: h.node,
-            depth: h.depth,
+            ..h
         }),
         _ => Next::At(Head {
             form: Form::Bad,
-            node: h.node,
-            depth: h.depth,
+            ..h
         }),
     }
 }
@@ -227,25 +193,21 @@ fn project(s: &[u64], k: usize, h: Head) -> Next
     requires { FormAt s.now h.node h.depth h.form × (k < 2 ^ 33) }
     ensures { ProjectPost s.now k h result }
 {
-    let f = h.form;
-    match f {
+    match h.form {
         Form::Row(g) => Next::At(Head {
             form: Form::Cell(k, g),
-            node: h.node,
-            depth: h.depth,
+            ..h
         }),
         Form::Record => match front_nodes::child(s, h.node, k) {
-            Found::At(c) => Next::On(c, h.depth),
-            Found::Nothing => Next::At(Head {
+            Some(c) => Next::On(c, h.depth),
+            None => Next::At(Head {
                 form: Form::Bad,
-                node: h.node,
-                depth: h.depth,
+                ..h
             }),
         },
         _ => Next::At(Head {
             form: Form::Bad,
-            node: h.node,
-            depth: h.depth,
+            ..h
         }),
     }
 }

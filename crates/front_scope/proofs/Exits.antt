@@ -1,59 +1,27 @@
 -- Laws of the scope check's code, one for each way out of a function.
-use mathlib.Core.Path.{◌≡◌, refl, sym, ap, ap₂, subst, ◌∙◌}
-use mathlib.Core.List.{List, [], ◌∷◌}
-use mathlib.Core.Bool.{Bool, true, false, ◌&&◌, not, and-true, and-false}
+use mathlib.Core.Path.{◌≡◌, refl, sym, ap, ap₂, ◌∙◌}
+use mathlib.Core.List.{List}
+use mathlib.Core.Bool.{Bool, false, ◌&&◌}
 use Prim.Native.Nat.{ℕ, zero, suc, ◌+◌, ◌-◌, ◌*◌, ◌≤◌, ◌<◌}
 use native.Mathlib.Omega.{arith}
-use lib.ListN.{length, get_or, set, length-set, get_or-eq_default}
-use lib.Seq.{set_out}
+use lib.ListN.{get_or}
 use borrow.Author.Tests.{le-leb, lt-leb}
 use Rattle.spec_calculus.specs.Lists.{pick}
-use Rattle.spec_calculus.specs.Syntax.{Bin, Term, Terms, Quals, num, truth, name, field, rec, bin, negate, app, comp, table, tnil, tcons, qnil, gen, bind, cond, Question, as_term}
+use Rattle.spec_calculus.specs.Syntax.{Bin, Term, Terms, Quals, tnil, tcons, qnil, Question, as_term}
 use Rattle.spec_encoding.specs.Reader.{Kind, unknown, number, truth_k, name_k, field_k, record', table_k, comprehension, generator, binding, condition, choice_k, open_k, two_terms}
 use Rattle.spec_encoding.specs.Reader as Re
 use Rattle.spec_checks.specs.Scope.{names_hold}
 use Rattle.front_words.specs.LaidTree.{nodes, Laid}
 use Rattle.front_words.proofs.NodeWords.{laid-tree}
 use Rattle.front_words.specs.NodeTree.{kind_at, arg_at, start_at, term_by, qual_by, tree_at, terms_at, quals_at}
-use Rattle.front_scope.specs.ScopePass.{Names, names, Full, Small, fresh, binds, leaves, pass_term, pass_terms, pass_quals}
+use Rattle.front_scope.specs.ScopePass.{Names, names, Small, fresh, binds, leaves, pass_term, pass_terms, pass_quals}
 use Rattle.front_scope.proofs.PassIsScope.{pass-is}
 use Rattle.front_scope.proofs.KindNumbers.{code, two-code}
 use Rattle.front_scope.specs.PassContract.{TermPost, LeafPost, OperandsPost, ComprehensionPost, TermsPost, QualsPost, QualifierPost, NamesHoldPost}
 
 -- ---- one name
-abbrev pub refuse : Names → Names
-refuse n = record { seen = n.seen; scope = n.scope; ok = false }
-
 names-path : {a b c d : List Bool} {e f : Bool} → a ≡ b → c ≡ d → e ≡ f → ◌≡◌ {A = Names} (record { seen = a; scope = c; ok = e }) (record { seen = b; scope = d; ok = f })
 names-path p q r = λ i. record { seen = p i; scope = q i; ok = r i }
-
-module _ (c : List Bool) (x : ℕ) (k : Bool) where
-  pub used-holds : get_or c x false ≡ true → k ≡ k && get_or c x false
-  used-holds e = sym (and-true k) ∙ ap (λ b. k && b) (sym e)
-
-  pub used-not : get_or c x false ≡ false → false ≡ k && get_or c x false
-  used-not e = sym (and-false k) ∙ ap (λ b. k && b) (sym e)
-
-  pub used-beyond : length c ≡ 256 → 256 ≤ x → false ≡ k && get_or c x false
-  used-beyond h l = used-not (get_or-eq_default c false (omega arith))
-
-module _ (n : Names) (x : ℕ) where
-  pub bound-beyond : length n.seen ≡ 256 → length n.scope ≡ 256 → 256 ≤ x → refuse n ≡ binds x n
-  bound-beyond h k l =
-      names-path (sym (set_out n.seen x true (omega arith))) (sym (set_out n.scope x true (omega arith)))
-      (sym (and-false n.ok) ∙ ap (λ b. n.ok && not b) (sym (get_or-eq_default n.seen true (omega arith))))
-
-any-default : (l : List Bool) (x : ℕ) (a b : Bool) → x < length l → get_or l x a ≡ get_or l x b
-any-default [] x a b h = absurd (omega arith)
-any-default (c ∷ l) zero a b h = refl
-any-default (c ∷ l) (suc x) a b h = any-default l x a b (omega arith)
-
-module _ (n : Names) (x : ℕ) (h : x < length n.seen) where
-  pub bound-twice : get_or n.seen x false ≡ true → record { seen = set n.seen x true; scope = set n.scope x true; ok = false } ≡ binds x n
-  bound-twice e = names-path refl refl (sym (and-false n.ok) ∙ ap (λ b. n.ok && not b) (sym e ∙ any-default n.seen x false true h))
-
-  pub bound-once : get_or n.seen x false ≡ false → record { seen = set n.seen x true; scope = set n.scope x true; ok = n.ok } ≡ binds x n
-  bound-once e = names-path refl refl (sym (and-true n.ok) ∙ ap (λ b. n.ok && not b) (sym e ∙ any-default n.seen x false true h))
 
 -- a term of this kind uses and binds no name and has no part
 abbrev Bare : Kind → Type 0
@@ -121,18 +89,13 @@ module _ {s : List ℕ} {e : ℕ} {n r : Names} where
   term-bare b q = term-step refl (λ g l. q ∙ bare-passed s n (λ j. tree_at g s j) (λ lo j ts. terms_at g s lo j ts) (λ lo j qs. quals_at g s lo j qs) (e - 1) (kind_at s (e - 1)) b)
 
 module _ {s : List ℕ} {e : ℕ} (b : List Bool) {c : List Bool} {k r : Bool} where
-  pub term-leaf : e ≤ 1 → LeafPost s c k r → TermPost s e (names b c k) (names b c r)
-  term-leaf h P = record { is = λ f l. P.is f e h (omega arith) b }
-
   pub term-name : kind_at s (e - 1) ≡ name_k → {x : ℕ} → x ≡ arg_at s (e - 1) → r ≡ k && get_or c x false → TermPost s e (names b c k) (names b c r)
   unfolding pass_term
   term-name p a q = term-step p (λ g l. names-path refl refl (q ∙ ap (λ x. k && get_or c x false) a))
 
--- ---- the operands, and the parts of a comprehension
-module _ {s : List ℕ} {i : ℕ} {n m r : Names} (h : 1 ≤ i) {b : ℕ} (st : b ≡ start_at s (i - 1)) where
-  pub operands-both : TermPost s b n m → TermPost s i m r → OperandsPost s i n r
-  operands-both P Q = record { is = λ f l. Q.is f l ∙ ap (pass_term (tree_at f s i)) (P.is f (omega arith) ∙ ap (λ x. pass_term (tree_at f s x) n) st) }
+-- ---- the parts of a comprehension
 
+module _ {s : List ℕ} {i : ℕ} {n m r : Names} (h : 1 ≤ i) {b : ℕ} (st : b ≡ start_at s (i - 1)) where
   pub comp-both : {a : ℕ} → a ≡ start_at s i → QualsPost s a b n m → TermPost s i m r → ComprehensionPost s i n (leaves n r)
   unfolding pass_quals
   comp-both {a} sa P Q =
@@ -272,51 +235,7 @@ module _ (s : List ℕ) (n : Names) where
 pub leaf-other : (s : List ℕ) (c : List Bool) (k : Bool) → (code (kind_at s 0) ≡ 3 → ⊥) → LeafPost s c k k
 leaf-other s c k h = record { is = λ f e l m b. leaf-bare s (names b c k) h f e l }
 
--- ---- the arrays keep their length
-full-binds : (x : ℕ) (n : Names) → Full n → Full (binds x n)
-full-binds x n F = (length-set n.seen x true ∙ F.0, length-set n.scope x true ∙ F.1)
-
-mutual
-  unfolding pass_term pass_terms pass_quals
-
-  full-term : (t : Term) (n : Names) → Full n → Full (pass_term t n)
-  full-term (num z) n F = F
-  full-term (truth b) n F = F
-  full-term (name x) n F = F
-  full-term (field i t) n F = full-term t n F
-  full-term (rec ts) n F = full-terms ts n F
-  full-term (app f ts) n F = full-terms ts n F
-  full-term (bin o t u) n F = full-term u (pass_term t n) (full-term t n F)
-  full-term (negate t) n F = full-term t n F
-  full-term (comp m qs h) n F = ((full-term h (pass_quals qs n) (full-quals qs n F)).0, F.1)
-  full-term (table k) n F = F
-
-  full-terms : (ts : Terms) (n : Names) → Full n → Full (pass_terms ts n)
-  full-terms tnil n F = F
-  full-terms (tcons t ts) n F = full-terms ts (pass_term t n) (full-term t n F)
-
-  full-quals : (qs : Quals) (n : Names) → Full n → Full (pass_quals qs n)
-  full-quals qnil n F = F
-  full-quals (gen x t qs) n F = full-quals qs (binds x (pass_term t n)) (full-binds x (pass_term t n) (full-term t n F))
-  full-quals (bind x t qs) n F = full-quals qs (binds x (pass_term t n)) (full-binds x (pass_term t n) (full-term t n F))
-  full-quals (cond t qs) n F = full-quals qs (pass_term t n) (full-term t n F)
-
-module _ {s : List ℕ} {e : ℕ} {n r : Names} where
-  pub behind-term : TermPost s e n r → Full n → Full r
-  behind-term P F = subst Full (sym (P.is (2 * e + 1) (omega arith))) (full-term (tree_at (2 * e + 1) s e) n F)
-
-  pub behind-terms : {lo : ℕ} → TermsPost s lo e n r → Full n → Full r
-  unfolding pass_terms
-  behind-terms {lo} P F = subst Full (P.is (2 * e + 2) (omega arith) tnil) (full-terms (terms_at (2 * e + 2) s lo e tnil) n F)
-
-  pub behind-quals : {lo : ℕ} → QualsPost s lo e n r → Full n → Full r
-  unfolding pass_quals
-  behind-quals {lo} P F = subst Full (P.is (2 * e + 2) (omega arith) qnil) (full-quals (quals_at (2 * e + 2) s lo e qnil) n F)
-
 -- ---- the whole tree
-pub judged : {s : List ℕ} {e : ℕ} {r : Names} → TermPost s e fresh r → NamesHoldPost s e r.ok
-judged P = record { is = λ f l. ap (λ (n : Names). n.ok) (P.is f l) }
-
 -- 24: for a question that lies in the words the answer is whether its names hold
 pub judged-is : {s : List ℕ} {d e : ℕ} {r : Bool} (q : Question) → Laid s d 0 (as_term q) → 0 + nodes (as_term q) ≡ e → Small (as_term q) → NamesHoldPost s e r → r ≡ names_hold q
 judged-is {s} {d} {e} q L h small J =

@@ -216,10 +216,8 @@ pub fn names_hold(s: &[u64], n: usize) -> bool
 fn clear(s: &mut [u64])
     ensures { s.new ≡ cleared s.old mostNames }
 {
-    let mut x = 0;
-    while x < NAMES {
+    for x in 0..NAMES {
         put_binder(s, x, 0);
-        x += 1;
     }
 }
 
@@ -246,9 +244,7 @@ pub fn binders(s: &mut [u64], n: usize)
     ensures { s.new ≡ binders_of s.old n }
 {
     clear(s);
-    let mut i = 0;
-    while i < n {
+    for i in 0..n {
         note(s, i);
-        i += 1;
     }
 }

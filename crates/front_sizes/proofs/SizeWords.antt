@@ -1,11 +1,11 @@
 -- A word of three pairs gives them back, and what is put for a node is read back.
-use mathlib.Core.Path.{◌≡◌, sym, ap, ◌∙◌}
+use mathlib.Core.Path.{◌≡◌, ap, ◌∙◌}
 use mathlib.Core.List.{List}
 use mathlib.Core.Bool.{Bool, true, false}
-use Prim.Native.Nat.{ℕ, ◌/◌, ◌%◌, ◌<◌, ◌≤◌}
+use Prim.Native.Nat.{ℕ, ◌/◌, ◌%◌, ◌<◌}
 use native.Mathlib.Omega.{arith}
-use lib.ListN.{length, get_or, set, get_or-eq_default}
-use lib.Seq.{get_or-set_same, get_or-set_other, set_out}
+use lib.ListN.{length, get_or, set}
+use lib.Seq.{get_or-set_same, get_or-set_other}
 use Rattle.spec_calculus.specs.Lists.{pick}
 use Rattle.front_sizes.specs.declared.FormSize.{FormSize}
 use Rattle.front_sizes.specs.SizeWords.{place, word_at, pack, SmallSize, pair_of, first_pair, second_pair, third_pair, term_count, condition_count, spliced_count, stored}
@@ -27,37 +27,6 @@ module _ (a b c : FormSize) (A : SmallSize a) (B : SmallSize b) (C : SmallSize c
 
   pub pack-third : third_pair (pack a b c) ≡ c
   pack-third = pair_same (pack a b c / 1099511627776) c (omega arith) (omega arith)
-
--- ---- reading and putting a word
-pub no_word : (s : List ℕ) (i k : ℕ) → length s ≤ place i k → 0 ≡ word_at s i k
-no_word s i k h = sym (get_or-eq_default s 0 h)
-
-pub no_room : (s : List ℕ) (i k w : ℕ) → length s ≤ place i k → s ≡ set s (place i k) w
-no_room s i k w h = sym (set_out s (place i k) w h)
-
-pub condition-gives : (s : List ℕ) (i : ℕ) {v : Bool} {w : ℕ} {r : FormSize} → v ≡ true → w ≡ word_at s i 0 → r ≡ pair_of (w / 1099511627776) → r ≡ condition_count s i v
-unfolding condition_count pick
-condition-gives s i e p q = q ∙ ap (λ (x : ℕ). pair_of (x / 1099511627776)) p ∙ ap (condition_count s i) (sym e)
-
-pub condition-stays : (s : List ℕ) (i : ℕ) {v : Bool} {w : ℕ} {r : FormSize} → v ≡ false → w ≡ word_at s i 0 → r ≡ pair_of (w / 1048576) → r ≡ condition_count s i v
-unfolding condition_count pick
-condition-stays s i e p q = q ∙ ap (λ (x : ℕ). pair_of (x / 1048576)) p ∙ ap (condition_count s i) (sym e)
-
-pub spliced-gives : (s : List ℕ) (i : ℕ) {v : Bool} {w : ℕ} {r : FormSize} → v ≡ true → w ≡ word_at s i 1 → r ≡ pair_of (w / 1048576) → r ≡ spliced_count s i v
-unfolding spliced_count pick
-spliced-gives s i e p q = q ∙ ap (λ (x : ℕ). pair_of (x / 1048576)) p ∙ ap (spliced_count s i) (sym e)
-
-pub spliced-stays : (s : List ℕ) (i : ℕ) {v : Bool} {w : ℕ} {r : FormSize} → v ≡ false → w ≡ word_at s i 1 → r ≡ pair_of w → r ≡ spliced_count s i v
-unfolding spliced_count pick
-spliced-stays s i e p q = q ∙ ap pair_of p ∙ ap (spliced_count s i) (sym e)
-
-pub offset-gives : (s : List ℕ) (i : ℕ) {v : Bool} {w : ℕ} → v ≡ true → w ≡ word_at s i 1 → (w / 1099511627776 / 1024 % 1024 ≡ stored s i v) × (w / 1099511627776 / 1024 % 1024 < 1024)
-unfolding stored pick
-offset-gives s i {v} {w} e p = (ap (λ (x : ℕ). x / 1099511627776 / 1024 % 1024) p ∙ ap (stored s i) (sym e), omega arith)
-
-pub offset-stays : (s : List ℕ) (i : ℕ) {v : Bool} {w : ℕ} → v ≡ false → w ≡ word_at s i 1 → (w / 1099511627776 % 1024 ≡ stored s i v) × (w / 1099511627776 % 1024 < 1024)
-unfolding stored pick
-offset-stays s i {v} {w} e p = (ap (λ (x : ℕ). x / 1099511627776 % 1024) p ∙ ap (stored s i) (sym e), omega arith)
 
 -- ---- what is put is read back, and nothing else changes
 module _ (s : List ℕ) (i : ℕ) (a b c : FormSize) (A : SmallSize a) (B : SmallSize b) (C : SmallSize c) where

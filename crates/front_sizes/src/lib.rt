@@ -52,35 +52,27 @@ pub fn term_count(s: &[u64], i: usize) -> FormSize
 }
 
 // `v` says whether "some" gives way.
+#[tactic(auto, unfolding(crate::specs::SizeWords::condition_count, spec_calculus::specs::Lists::pick))]
 pub fn condition_count(s: &[u64], i: usize, v: bool) -> FormSize
     ensures { result ≡ condition_count s.now i v }
 {
-    let w = word(s, i, 0);
-    if v {
-        return pair(w / THIRD);
-    }
-    pair(w / SECOND)
+    pair(word(s, i, 0) / if v { THIRD } else { SECOND })
 }
 
+#[tactic(auto, unfolding(crate::specs::SizeWords::spliced_count, spec_calculus::specs::Lists::pick))]
 pub fn spliced_count(s: &[u64], i: usize, v: bool) -> FormSize
     ensures { result ≡ spliced_count s.now i v }
 {
-    let w = word(s, i, 1);
-    if v {
-        return pair(w / SECOND);
-    }
-    pair(w)
+    pair(word(s, i, 1) / if v { SECOND } else { 1 })
 }
 
 // The offset that is stored for node i: once `measure` has run, how many generators the qualifiers before qualifier i write.
+#[tactic(auto, unfolding(crate::specs::SizeWords::stored, spec_calculus::specs::Lists::pick))]
 pub fn offset(s: &[u64], i: usize, v: bool) -> u64
     ensures { (result ≡ stored s.now i v) × (result < 1024) }
 {
-    let w = word(s, i, 1) / 1099511627776;
-    if v {
-        return w / COUNTS % COUNTS;
-    }
-    w % COUNTS
+    let o = pair(word(s, i, 1) / THIRD);
+    if v { o.gens } else { o.size }
 }
 
 // Three pairs as a word.
@@ -112,7 +104,8 @@ pub fn put_first(s: &mut [u64], i: usize, term: FormSize, stays: FormSize, yield
     put(s, i, 0, packed(term, stays, yields));
 }
 
-// Node i spliced, where "some" does not give way and where it does, and its offsets.
+// Node i spliced, where "some" does not give way and where it does, and its offsets. One function for both words is no
+// plainer: the names say what a word's three pairs are.
 pub fn put_second(s: &mut [u64], i: usize, stays: FormSize, yields: FormSize, offsets: FormSize)
     requires { SmallSize stays × SmallSize yields × SmallSize offsets }
     ensures { s.new ≡ set s.old (place i 1) (pack stays yields offsets) }

@@ -9,7 +9,6 @@ use Rattle.spec_calculus.specs.Lists.{pick, upd}
 use Rattle.spec_calculus.specs.Syntax.{Collection, Monoid, Term, Terms, Quals, num, truth, name, field, rec, bin, negate, app, comp, table, tnil, tcons, qnil, gen, bind, cond, Question, as_term}
 use Rattle.spec_calculus.specs.Value.{Tables}
 use Rattle.spec_checks.specs.Types.{Ty, number, record', coll, Typed, wrong, has, field_type, of_truth, bin_type, app_type, comp_type, ranges, typed_as, record'', all_typed, cons_type, Context, type_of, types_of, type_of_q}
-use Rattle.spec_checks.specs.Types as Ty
 use Rattle.front_theory.specs.NodeTable.{Node, Nodes, nnum, ntruth, nname, nfield, nrec, nbin, nnegate, napp, ncomp, ntable, ngen, nbind, ncond, nbad, Below, Inside, PostOrder}
 use Rattle.front_theory.specs.QuestionNodes.{Slots, slot, no_names, first_of, rest_of, behind, Holds, HoldsL, HoldsQ}
 use Rattle.front_typing.specs.NodeTypes.{StandsRule, types_by, behind_qual, behind_quals, type_by, type_up_to, node_type}

@@ -2,17 +2,19 @@
 #![tactic(auto)]
 
 ghost use Rattle.std.specs.Prelude.{◌≡◌, true, false, ◌≤◌, ◌<◌};
+ghost use Rattle.spec_calculus.specs.Lists.{pick};
 ghost use Rattle.spec_checks.specs.Types.{may_stand};
 ghost use Rattle.front_nodes.specs.NodeTable.{children_of, nodes_of};
 ghost use Rattle.base_syntax.specs.MonoidWord.{monoid_of};
 ghost use Rattle.base_syntax.specs.Numbers.{bin_of, fun_of};
 ghost use Rattle.base_tables.specs.Description.{collection_number};
-ghost use Rattle.front_typing.specs.Shapes.{class_of, fits, is_number, is_truth, collects, collection_of, head_of, cell_shape, number_shape, truth_shape, gathers_shape, two_numbers, two_truths, bin_shape, part_shape, choice_shape, choice_of, open_shape, open_of, app_shape, comp_shape};
+ghost use Rattle.front_typing.specs.declared.TypeHead.TheVariants.{Wrong};
+ghost use Rattle.front_typing.specs.Shapes.{fits, is_number, is_truth, collects, collection_of, head_of, cell_shape, number_shape, truth_shape, bin_shape, part_shape, choice_shape, choice_of, open_shape, open_of, app_shape, comp_shape};
 ghost use Rattle.front_typing.specs.ShapeWords.{numbered as numberedWord, shape_word, shape_in, shapes_in, collection_by, rules, MakerPost, table_at, part_at, field_at, element_at, parts_fit, may_range, qual_fits_at, quals_fit_at, record_at, comp_at, shape_of, shaped_up_to, Judges};
 
 use base_scratch::{SHAPES, load_at, store};
 use base_syntax::{BinOp, Fun, Monoid};
-use front_nodes::{Found, QueryNode};
+use front_nodes::QueryNode;
 
 // What a node's type is at its head. A type can be exponentially large, so none is ever built: a record and a collection
 // are told by the node that makes them, a row and a table by the table's number.
@@ -37,40 +39,27 @@ pub enum NodeMakes {
 
 // ---- shapes
 
-fn class(a: TypeHead) -> u64
-    ensures { result ≡ class_of a }
-{
-    match a {
-        TypeHead::Wrong => 0,
-        TypeHead::Number => 1,
-        TypeHead::Truth => 2,
-        TypeHead::Record(_) => 3,
-        TypeHead::Row(_) => 4,
-        TypeHead::Table(_) => 5,
-        TypeHead::Coll(_) => 6,
-    }
-}
-
 fn is_typed(a: TypeHead) -> bool
     ensures { result ≡ fits a }
 {
-    0 < class(a)
+    !matches!(a, TypeHead::Wrong)
 }
 
 fn is_number(a: TypeHead) -> bool
     ensures { result ≡ is_number a }
 {
-    class(a) == 1
+    matches!(a, TypeHead::Number)
 }
 
 fn is_truth(a: TypeHead) -> bool
     ensures { result ≡ is_truth a }
 {
-    class(a) == 2
+    matches!(a, TypeHead::Truth)
 }
 
 // ---- their words
 
+#[tactic(auto, unfolding(spec_calculus::specs::Lists::pick))]
 fn numbered(c: u64, j: usize) -> u64
     requires { c < 8 }
     ensures { result ≡ numberedWord c j }
@@ -82,6 +71,7 @@ fn numbered(c: u64, j: usize) -> u64
     }
 }
 
+#[tactic(auto, unfolding(crate::specs::ShapeWords::shape_word))]
 fn packed(a: TypeHead) -> u64
     ensures { result ≡ shape_word a }
 {
@@ -96,6 +86,7 @@ fn packed(a: TypeHead) -> u64
     }
 }
 
+#[tactic(auto, unfolding(crate::specs::ShapeWords::shape_in))]
 fn shape_in(w: u64) -> TypeHead
     ensures { result ≡ shape_in w }
 {
@@ -124,10 +115,7 @@ fn shape_at(s: &[u64], j: usize) -> TypeHead
 fn table(s: &[u64], k: usize) -> TypeHead
     ensures { result ≡ table_at s.now k }
 {
-    if base_tables::present(s, k) {
-        return TypeHead::Table(k);
-    }
-    TypeHead::Wrong
+    given(base_tables::present(s, k), TypeHead::Table(k))
 }
 
 // ---- what a shape refers to
@@ -144,23 +132,24 @@ fn maker(s: &[u64], j: usize) -> NodeMakes
 }
 
 // Term k of the record or operator at node i.
+#[tactic(auto, using(crate::proofs::Exits::nth_at, crate::proofs::Exits::nth_none))]
 fn operand(s: &[u64], i: usize, k: usize) -> TypeHead
     ensures { result ≡ part_shape (shapes_in s.now) k (children_of s.now i) }
 {
     match front_nodes::child(s, i, k) {
-        Found::At(c) => shape_at(s, c),
-        Found::Nothing => TypeHead::Wrong,
+        Some(c) => shape_at(s, c),
+        None => TypeHead::Wrong,
     }
 }
 
 // Part k of the record that node j makes.
+#[tactic(auto, unfolding(crate::specs::Shapes::part_shape))]
 fn part(s: &[u64], j: usize, k: usize) -> TypeHead
     ensures { result ≡ part_at s.now j k }
 {
     match maker(s, j) {
         NodeMakes::Record => operand(s, j, k),
-        NodeMakes::Comp(_, _) => TypeHead::Wrong,
-        NodeMakes::Other => TypeHead::Wrong,
+        _ => TypeHead::Wrong,
     }
 }
 
@@ -170,12 +159,12 @@ fn head(s: &[u64], j: usize) -> usize
 {
     match maker(s, j) {
         NodeMakes::Comp(_, h) => h,
-        NodeMakes::Record => 0,
-        NodeMakes::Other => 0,
+        _ => 0,
     }
 }
 
 // The number of the collection that m makes; a list's where it makes none.
+#[tactic(auto, unfolding(base_tables::specs::Description::collection_number))]
 fn collection_of(m: Monoid) -> u64
     ensures { result ≡ collection_number (collects (monoid_of m)) }
 {
@@ -184,19 +173,20 @@ fn collection_of(m: Monoid) -> u64
 }
 
 // The number of the collection that the comprehension at node j makes; a list's where it makes none.
+#[tactic(auto, unfolding(base_tables::specs::Description::collection_number))]
 fn gathered(s: &[u64], j: usize) -> u64
     ensures { result ≡ collection_number (collection_of (nodes_of s.now j)) }
 {
     match maker(s, j) {
         NodeMakes::Comp(m, _) => collection_of(m),
-        NodeMakes::Record => 1,
-        NodeMakes::Other => 1,
+        _ => 1,
     }
 }
 
 // ---- the rules
 
 // "field takes a record"
+#[tactic(auto, unfolding(crate::specs::Shapes::field_shape))]
 fn field(s: &[u64], k: usize, a: TypeHead) -> TypeHead
     ensures { result ≡ field_at s.now k a }
 {
@@ -211,13 +201,11 @@ fn field(s: &[u64], k: usize, a: TypeHead) -> TypeHead
 fn cell(k: usize, columns: usize) -> TypeHead
     ensures { result ≡ cell_shape k columns }
 {
-    if k < columns {
-        return TypeHead::Number;
-    }
-    TypeHead::Wrong
+    given(k < columns, TypeHead::Number)
 }
 
 // "a generator takes a collection": the shape of its elements.
+#[tactic(auto, unfolding(crate::specs::Shapes::element_shape))]
 fn element(s: &[u64], a: TypeHead) -> TypeHead
     ensures { result ≡ element_at s.now a }
 {
@@ -229,18 +217,13 @@ fn element(s: &[u64], a: TypeHead) -> TypeHead
 }
 
 // "A generator over a bag may not stand in a list; one over a set only in set, max, some or all." Min as max.
+#[tactic(auto, using(crate::proofs::Exits::list_by), unfolding(spec_checks::specs::Types::may_stand))]
 fn may_stand(c: u64, m: Monoid) -> bool
     ensures { result ≡ may_stand (collection_by c) (monoid_of m) }
 {
-    let k = m.number();
     match c {
-        2 => 1 < k,
-        3 => {
-            if k == 3 {
-                return true;
-            }
-            4 < k
-        }
+        2 => !matches!(m, Monoid::List),
+        3 => !matches!(m, Monoid::List | Monoid::Bag | Monoid::Sum),
         _ => true,
     }
 }
@@ -249,13 +232,11 @@ fn may_stand(c: u64, m: Monoid) -> bool
 fn allowed(rule: bool, c: u64, m: Monoid) -> bool
     ensures { result ≡ rules rule (collection_by c) (monoid_of m) }
 {
-    if rule {
-        return may_stand(c, m);
-    }
-    true
+    !rule || may_stand(c, m)
 }
 
 // Whether a generator over this may stand in a comprehension of m.
+#[tactic(auto, using(base_tables::proofs::TableWords::by_number), unfolding(crate::specs::Shapes::stands))]
 fn may_range(s: &[u64], rule: bool, m: Monoid, a: TypeHead) -> bool
     ensures { result ≡ may_range rule s.now (monoid_of m) a }
 {
@@ -266,63 +247,43 @@ fn may_range(s: &[u64], rule: bool, m: Monoid, a: TypeHead) -> bool
     }
 }
 
-// "Arithmetic, equal and less take numbers"
-fn two_numbers(a: TypeHead, b: TypeHead, r: TypeHead) -> TypeHead
-    ensures { result ≡ two_numbers a b r }
+// The shape r where the test holds, else none.
+#[tactic(auto, unfolding(spec_calculus::specs::Lists::pick))]
+fn given(test: bool, r: TypeHead) -> TypeHead
+    ensures { result ≡ pick test r Wrong }
 {
-    if is_number(a) {
-        if is_number(b) {
-            return r;
-        }
-    }
-    TypeHead::Wrong
-}
-
-// "and, or, not and conditions take truths"
-fn two_truths(a: TypeHead, b: TypeHead, r: TypeHead) -> TypeHead
-    ensures { result ≡ two_truths a b r }
-{
-    if is_truth(a) {
-        if is_truth(b) {
-            return r;
-        }
-    }
-    TypeHead::Wrong
+    if test { r } else { TypeHead::Wrong }
 }
 
 fn number(a: TypeHead) -> TypeHead
     ensures { result ≡ number_shape a }
 {
-    if is_number(a) {
-        return TypeHead::Number;
-    }
-    TypeHead::Wrong
+    given(is_number(a), TypeHead::Number)
 }
 
+#[tactic(auto, unfolding(crate::specs::Shapes::truth_shape))]
 fn truth(a: TypeHead) -> TypeHead
     ensures { result ≡ truth_shape a }
 {
-    if is_truth(a) {
-        return TypeHead::Truth;
-    }
-    TypeHead::Wrong
+    given(is_truth(a), TypeHead::Truth)
 }
 
+// "Arithmetic, equal and less take numbers; and, or, not and conditions take truths"
+#[tactic(auto, unfolding(crate::specs::Shapes::bin_shape, crate::specs::Shapes::two_numbers, crate::specs::Shapes::two_truths, spec_calculus::specs::Lists::pick))]
 fn binary(o: BinOp, a: TypeHead, b: TypeHead) -> TypeHead
     ensures { result ≡ bin_shape (bin_of o) a b }
 {
     match o {
-        BinOp::Plus => two_numbers(a, b, TypeHead::Number),
-        BinOp::Minus => two_numbers(a, b, TypeHead::Number),
-        BinOp::Times => two_numbers(a, b, TypeHead::Number),
-        BinOp::Equal => two_numbers(a, b, TypeHead::Truth),
-        BinOp::Less => two_numbers(a, b, TypeHead::Truth),
-        BinOp::And => two_truths(a, b, TypeHead::Truth),
-        BinOp::Or => two_truths(a, b, TypeHead::Truth),
+        BinOp::Plus | BinOp::Minus | BinOp::Times => {
+            given(is_number(a) && is_number(b), TypeHead::Number)
+        }
+        BinOp::Equal | BinOp::Less => given(is_number(a) && is_number(b), TypeHead::Truth),
+        BinOp::And | BinOp::Or => given(is_truth(a) && is_truth(b), TypeHead::Truth),
     }
 }
 
 // "a truth, then two numbers or two truths" (document 02, E2)
+#[tactic(auto, unfolding(crate::specs::Shapes::choice_shape, crate::specs::Shapes::alike_shape, crate::specs::Shapes::truth_shape, spec_calculus::specs::Lists::pick))]
 fn choice(a: TypeHead, b: TypeHead, c: TypeHead) -> TypeHead
     ensures { result ≡ choice_shape a b c }
 {
@@ -342,8 +303,8 @@ fn choice_at(s: &[u64], i: usize) -> TypeHead
     ensures { result ≡ choice_of (shapes_in s.now) (children_of s.now i) }
 {
     match front_nodes::child(s, i, 3) {
-        Found::At(_) => TypeHead::Wrong,
-        Found::Nothing => choice(operand(s, i, 0), operand(s, i, 1), operand(s, i, 2)),
+        Some(_) => TypeHead::Wrong,
+        None => choice(operand(s, i, 0), operand(s, i, 1), operand(s, i, 2)),
     }
 }
 
@@ -351,10 +312,7 @@ fn choice_at(s: &[u64], i: usize) -> TypeHead
 fn opening(a: TypeHead) -> TypeHead
     ensures { result ≡ open_shape a }
 {
-    if is_number(a) {
-        return TypeHead::Truth;
-    }
-    TypeHead::Wrong
+    given(is_number(a), TypeHead::Truth)
 }
 
 // The minute of node i, of no more than one term.
@@ -362,11 +320,12 @@ fn open_at(s: &[u64], i: usize) -> TypeHead
     ensures { result ≡ open_of (shapes_in s.now) (children_of s.now i) }
 {
     match front_nodes::child(s, i, 1) {
-        Found::At(_) => TypeHead::Wrong,
-        Found::Nothing => opening(operand(s, i, 0)),
+        Some(_) => TypeHead::Wrong,
+        None => opening(operand(s, i, 0)),
     }
 }
 
+#[tactic(auto, unfolding(crate::specs::Shapes::app_shape))]
 fn operator(s: &[u64], i: usize, f: Fun) -> TypeHead
     ensures { result ≡ app_shape (fun_of f) (shapes_in s.now) (children_of s.now i) }
 {
@@ -385,15 +344,13 @@ fn all_typed(s: &[u64], i: usize) -> bool
     if i == 0 {
         return true;
     }
-    let mut left = front_nodes::term_count(front_words::node_word(s, i));
     let mut e = i;
-    while 0 < left {
+    for _ in 0..front_nodes::term_count(front_words::node_word(s, i)) {
         let c = front_nodes::prior(e);
         if !is_typed(shape_at(s, c)) {
             return false;
         }
         e = front_words::start_at(s, c);
-        left -= 1;
     }
     true
 }
@@ -427,46 +384,32 @@ fn quals_fit(s: &[u64], i: usize, m: Monoid, rule: bool) -> bool
 }
 
 // "Sum and max have number heads, some and all truth heads, the collections any head." Min as max.
+#[tactic(auto, unfolding(crate::specs::Shapes::comp_shape, crate::specs::Shapes::truth_shape))]
 fn comprehends(i: usize, m: Monoid, a: TypeHead) -> TypeHead
     ensures { result ≡ comp_shape i (monoid_of m) a }
 {
     match m {
-        Monoid::List => collected(i, a),
-        Monoid::Bag => collected(i, a),
-        Monoid::Set => collected(i, a),
-        Monoid::Sum => number(a),
-        Monoid::Max => number(a),
-        Monoid::Some => truth(a),
-        Monoid::All => truth(a),
-        Monoid::Min => number(a),
+        Monoid::List | Monoid::Bag | Monoid::Set => given(is_typed(a), TypeHead::Coll(i)),
+        Monoid::Sum | Monoid::Max | Monoid::Min => number(a),
+        Monoid::Some | Monoid::All => truth(a),
     }
 }
 
-fn collected(i: usize, a: TypeHead) -> TypeHead
-    ensures { result ≡ gathers_shape i a }
-{
-    if is_typed(a) {
-        return TypeHead::Coll(i);
-    }
-    TypeHead::Wrong
-}
-
+#[tactic(auto, unfolding(spec_calculus::specs::Lists::pick))]
 fn comprehension(s: &[u64], i: usize, m: Monoid, h: usize, rule: bool) -> TypeHead
     ensures { result ≡ comp_at rule s.now i (monoid_of m) h }
 {
     if quals_fit(s, i, m, rule) {
-        return comprehends(i, m, shape_at(s, h));
+        comprehends(i, m, shape_at(s, h))
+    } else {
+        TypeHead::Wrong
     }
-    TypeHead::Wrong
 }
 
 fn recorded(s: &[u64], i: usize) -> TypeHead
     ensures { result ≡ record_at s.now i }
 {
-    if all_typed(s, i) {
-        return TypeHead::Record(i);
-    }
-    TypeHead::Wrong
+    given(all_typed(s, i), TypeHead::Record(i))
 }
 
 // ---- the nodes in turn
@@ -498,12 +441,19 @@ fn shapes(s: &mut [u64], n: usize, rule: bool)
     requires { n ≤ 256 }
     ensures { s.new ≡ shaped_up_to rule s.old n }
 {
-    let mut i = 0;
-    while i < n {
+    for i in 0..n {
         let w = packed(shape_of(s, i, rule));
         store(s, SHAPES + i, w);
-        i += 1;
     }
+}
+
+// Whether the question of n nodes has a type, the rule on generators switched on or off.
+fn judged(s: &mut [u64], n: usize, rule: bool) -> bool
+    requires { n ≤ 256 }
+    ensures { Judges rule s.old n s.new result }
+{
+    shapes(s, n, rule);
+    is_typed(shape_at(s, front_nodes::prior(n)))
 }
 
 // 25: whether the question of n nodes has a type.
@@ -511,8 +461,7 @@ pub fn types_fit(s: &mut [u64], n: usize) -> bool
     requires { n ≤ 256 }
     ensures { Judges false s.old n s.new result }
 {
-    shapes(s, n, false);
-    is_typed(shape_at(s, front_nodes::prior(n)))
+    judged(s, n, false)
 }
 
 // 26: whether it has one with the rule on generators.
@@ -520,6 +469,5 @@ pub fn generators_fit(s: &mut [u64], n: usize) -> bool
     requires { n ≤ 256 }
     ensures { Judges true s.old n s.new result }
 {
-    shapes(s, n, true);
-    is_typed(shape_at(s, front_nodes::prior(n)))
+    judged(s, n, true)
 }

@@ -7,6 +7,7 @@ use native.Mathlib.Omega.{arith}
 use borrow.Author.Tests.{le-leb, lt-leb}
 use lib.ListN.{length, drop}
 use lib.IntN.{ℤ}
+use Rattle.std.specs.Prelude.{Ok, Err}
 use Rattle.spec_calculus.specs.Syntax.{of, bag}
 use Rattle.spec_calculus.specs.Value.{Value, from_list, as_int, nth, field_of, elems}
 use Rattle.spec_calculus.specs.Value as Va
@@ -27,6 +28,7 @@ use Rattle.spec_tariff.specs.Dues.{draught_of, draughts_fit, ship_due, dues}
 use Rattle.spec_tariff.specs.WithTariff.{charged}
 use Rattle.spec_tariff.proofs.OrderUnseen.{bag-draughts, bag-dues}
 use Rattle.base_signed.specs.Limit.{number_limit}
+use Rattle.base_refusals.specs.declared.Refusal.TheVariants.{NotShipsAndDraughts, AnswerTooShort, DraughtOutOfRange}
 use Rattle.base_signed.proofs.Limit.{bump-min}
 use Rattle.form_words.specs.FormTree.{form_tree, left}
 use Rattle.form_env.specs.Environment.{env_of, tables_in}
@@ -53,7 +55,6 @@ use Rattle.loop_collect.proofs.TwoRuns.{laid-full}
 use Rattle.loop_answer.proofs.ByLoopsOutcome.{asked-ready, raw-value-is, value-is}
 use Rattle.loop_draughts.specs.declared.Judged.{Judged}
 use Rattle.loop_draughts.specs.Contract.{second_word, Verdict, verdict, verdict_of, judge, judges, JudgePost}
-use Rattle.loop_dues.specs.declared.Dues.TheVariants.{Unfit, Short, Beyond, Length}
 use Rattle.loop_dues.specs.Contract.{DuesPost}
 
 -- ---- what is judged of ships
@@ -198,21 +199,21 @@ module _ {d : Bytes} {a : Accepted} {s : List ℕ} (P : Prepared d a s) (q : Len
 
 -- ---- the ways out
 module _ (t : Tariff) {d : Bytes} {s : List ℕ} (o : List ℤ) {b : Bool} (B : ShipsPost s b) where
-  pub answers-unfit : b ≡ false → DuesPost t d s o s o Unfit
+  pub answers-unfit : b ≡ false → DuesPost t d s o s o (Err NotShipsAndDraughts)
   answers-unfit e = record { is = λ q a r P. settles-unfit P q r B t o e; kept = refl }
 
   module _ (e : b ≡ true) {h : ℕ} (H : h ≡ last_upper t.steps) {x y : Judged} {s₁ : List ℕ} (z : x.count ≡ 0) (w : x.within ≡ true) (J : JudgePost d h s 1 x s₁ y) where
     by-tariff : JudgePost d (last_upper t.steps) s 1 x s₁ y
     by-tariff = subst (λ (k : ℕ). JudgePost d k s 1 x s₁ y) H J
 
-    pub answers-short : length o < 1 + 2 * y.count → DuesPost t d s o s₁ o Short
+    pub answers-short : length o < 1 + 2 * y.count → DuesPost t d s o s₁ o (Err AnswerTooShort)
     answers-short l = record { is = λ q a r P. settles-short P q r B t o e z w by-tariff l; kept = J.heads.kept }
 
     module _ (m : length o < 2 ^ 62) (l : 1 + 2 * y.count ≤ length o) where
-      pub answers-beyond : y.within ≡ false → DuesPost t d s o s₁ o Beyond
+      pub answers-beyond : y.within ≡ false → DuesPost t d s o s₁ o (Err DraughtOutOfRange)
       answers-beyond f = record { is = λ q a r P. settles-beyond P q r B t o e z w by-tariff m l f; kept = J.heads.kept }
 
-      pub answers-dues : y.within ≡ true → {s₂ : List ℕ} {o₁ o₂ : List ℤ} {k n : ℕ} → WritePost d (1 + 2 * y.count) s₁ o 0 0 s₂ o₁ k → SettleDuesPost s₂ t y.count o₁ o₂ n → DuesPost t d s o s₂ o₂ (Length n)
+      pub answers-dues : y.within ≡ true → {s₂ : List ℕ} {o₁ o₂ : List ℤ} {k n : ℕ} → WritePost d (1 + 2 * y.count) s₁ o 0 0 s₂ o₁ k → SettleDuesPost s₂ t y.count o₁ o₂ n → DuesPost t d s o s₂ o₂ (Ok n)
       answers-dues f {s₂} {o₁} {o₂} {k} {n} W D = record {
         is = λ q a r P. settles-dues P q r B t o e z w by-tariff m l f refl
             (subst (λ (x : List ℕ). WritePost d (1 + 2 * y.count) x o 0 0 s₂ o₁ k) J.heads.kept W)

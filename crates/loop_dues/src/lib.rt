@@ -8,31 +8,22 @@ ghost use Rattle.loop_dues.specs.Contract.{DuesPost};
 
 use answer_dues::settle_dues;
 use answer_ships::gives_ships;
+use base_refusals::Refusal;
 use base_syntax::Monoid;
 use base_tariff::reach;
 use loop_collect::write;
 use loop_draughts::{Judged, judge};
 
-// "45, a question of another type"; "32: the answer buffer has fewer than G words"; "46, a draught below 0 or above the last step"; or how many words the
-// dues have.
-#[derive(Clone, Copy)]
-pub enum Dues {
-    Unfit,
-    Short,
-    Beyond,
-    Length(usize),
-}
-
 // Two words for each ship, and their count.
 const SHIP_WORDS: usize = 2;
 
-pub fn answer(s: &mut [u64], data: &[u8], tariff: &[u8], out: &mut [i64]) -> Dues
+pub fn answer(s: &mut [u64], data: &[u8], tariff: &[u8], out: &mut [i64]) -> Result<usize, Refusal>
     requires { Asked «data».now s.old × IsTariff tariff.now }
     ensures { DuesPost (tariff_in tariff.now) «data».now s.old out.old s.new out.new result }
 {
     let fits = gives_ships(s);
     if !fits {
-        return Dues::Unfit;
+        return Err(Refusal::NotShipsAndDraughts);
     }
     let none = Judged {
         count: Monoid::no_elements(),
@@ -42,12 +33,12 @@ pub fn answer(s: &mut [u64], data: &[u8], tariff: &[u8], out: &mut [i64]) -> Due
     let n = e.count;
     let g = 1 + SHIP_WORDS * n;
     if out.len() < g {
-        return Dues::Short;
+        return Err(Refusal::AnswerTooShort);
     }
     let within = e.within;
     if !within {
-        return Dues::Beyond;
+        return Err(Refusal::DraughtOutOfRange);
     }
     write(s, data, out, g, 0, 0);
-    Dues::Length(settle_dues(s, tariff, out, n))
+    Ok(settle_dues(s, tariff, out, n))
 }

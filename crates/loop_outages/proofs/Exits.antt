@@ -2,8 +2,8 @@
 use mathlib.Core.Path.{◌≡◌, refl, sym, ap, ap₂, subst, ◌∙◌}
 use mathlib.Core.List.{List, [], ◌∷◌}
 use mathlib.Core.Bool.{Bool, true, false}
-use Prim.Native.Nat.{ℕ, zero, suc, ◌+◌, ◌-◌, ◌*◌, ◌^◌, ◌≤◌, ◌<◌}
-use native.Mathlib.Nat.{pow-succ', pow-le-pow_right}
+use Prim.Native.Nat.{ℕ, ◌+◌, ◌-◌, ◌^◌, ◌≤◌, ◌<◌}
+use native.Mathlib.Nat.{pow-le-pow_right}
 use native.Mathlib.Numerals.{add-one}
 use native.Mathlib.Omega.{arith}
 use borrow.Author.Tests.{leb-true}
@@ -11,17 +11,17 @@ use lib.Dec.{leb}
 use lib.ListN.{length, get_or, set, drop, length-set}
 use lib.Seq.{get_or-set_other, set-set}
 use lib.IntN.{ℤ, pos, nat_abs}
+use Rattle.std.specs.Prelude.{Option, Some, None, Ok, Err}
 use Rattle.spec_calculus.specs.Lists.{pick}
 use Rattle.spec_calculus.specs.Syntax as Sy
 use Rattle.spec_calculus.specs.Value.{Tables, as_bool}
 use Rattle.spec_encoding.specs.Record.{Bytes}
 use Rattle.spec_outages.specs.Outages.{asks_truth}
 use Rattle.base_signed.proofs.SignedWords.{no}
+use Rattle.base_refusals.specs.declared.Refusal.TheVariants.{AnswerTooShort, NeitherSomeNorAll, OutageTableOutOfRange}
 use Rattle.base_syntax.specs.declared.Monoid.{Monoid}
 use Rattle.base_syntax.specs.MonoidWord.{monoid_of}
-use Rattle.base_tables.specs.Description.{most_tables, rows_in, subset_in, subset_rows, without_in, table_in, present_in}
-use Rattle.form_words.specs.declared.MonoidRead.{MonoidRead}
-use Rattle.form_words.specs.declared.MonoidRead.TheVariants as Mr
+use Rattle.base_tables.specs.Description.{rows_in, subset_in, subset_rows, without_in, table_in, present_in}
 use Rattle.form_words.specs.Look.{MonoidOfPost}
 use Rattle.form_words.specs.FormTree.{left}
 use Rattle.form_env.specs.Environment.{Held}
@@ -30,8 +30,6 @@ use Rattle.form_arith.specs.declared.Sort.TheVariants.{Truth}
 use Rattle.form_arith.specs.WordSorts.{is_same, sort_of, truth_word}
 use Rattle.form_prepared.specs.AnswerContract.{Asked}
 use Rattle.loop_scalar.specs.Contract.{value_at, Evaluable, ScalarPost}
-use Rattle.loop_outages.specs.declared.Counted.{Counted}
-use Rattle.loop_outages.specs.declared.Counted.TheVariants.{Written, Refused}
 use Rattle.loop_outages.specs.Contract.{truth_read, truth_asked, countable_in, leaving, HoldsPre, HoldsPost, count_to, TruthsPre, TruthsPost, CountPost}
 use Rattle.loop_outages.proofs.Outcome.{settles-monoid, settles-table, settles-room, truths-pre, settles-counts}
 
@@ -45,12 +43,12 @@ sorts-truth Sy.min = refl
 sorts-truth Sy.some = refl
 sorts-truth Sy.all = refl
 
-module _ {s : List ℕ} {r : MonoidRead} (M : MonoidOfPost s 0 r) where
-  pub asks-sort : {m : Monoid} {k : Sort} {b : Bool} → r ≡ Mr.Is m → k ≡ sort_of (monoid_of m) → b ≡ is_same k Truth → b ≡ truth_asked s
+module _ {s : List ℕ} {r : Option Monoid} (M : MonoidOfPost s 0 r) where
+  pub asks-sort : {m : Monoid} {k : Sort} {b : Bool} → r ≡ Some m → k ≡ sort_of (monoid_of m) → b ≡ is_same k Truth → b ≡ truth_asked s
   unfolding truth_read
   asks-sort {m} e K B = B ∙ ap (λ (x : Sort). is_same x Truth) K ∙ sorts-truth (monoid_of m) ∙ ap truth_read (sym e ∙ M.is)
 
-  pub asks_none : r ≡ Mr.Other → false ≡ truth_asked s
+  pub asks_none : r ≡ None → false ≡ truth_asked s
   unfolding truth_read
   asks_none e = ap truth_read (sym e ∙ M.is)
 
@@ -67,14 +65,6 @@ module _ (s : List ℕ) (k : ℕ) {p : Bool} (e : p ≡ present_in s k) where
 -- ---- subsets
 pub power-low : (i : ℕ) → i ≤ 12 → 2 ^ i ≤ 4096
 power-low i p = pow-le-pow_right {n = 2} (omega arith) p
-
-pub power-next : (i : ℕ) {m : ℕ} → m ≡ 2 ^ i → 2 * m ≡ 2 ^ (i + 1)
-power-next i e = ap (λ (x : ℕ). 2 * x) e ∙ sym (ap (λ (x : ℕ). 2 ^ x) (add-one i) ∙ pow-succ' 2 i)
-
-pub power-last : {i n m : ℕ} → i ≤ n → n ≤ i → n ≤ 12 → m ≡ 2 ^ i → (m ≡ 2 ^ n) × (m ≤ 4096)
-power-last {i} {n} p q l e =
-    let z : i ≡ n = omega arith in
-    (e ∙ ap (λ (x : ℕ). 2 ^ x) z, omega (arith, e, power-low i (omega arith)))
 
 -- ---- holds
 bit-no : (b : Bool) → truth_word b ≡ pos 0 → ◌≡◌ {A = ℕ} 0 (pick b 1 0)
@@ -167,15 +157,15 @@ two-words (a ∷ []) l x y = absurd (omega arith)
 two-words (a ∷ b ∷ o) l x y = refl
 
 module _ (d : Bytes) (s : List ℕ) (k : ℕ) (o : List ℤ) {b : Bool} (B : b ≡ truth_asked s) where
-  pub count-monoid : b ≡ false → CountPost d s k o s o (Refused 55)
+  pub count-monoid : b ≡ false → CountPost d s k o s o (Err NeitherSomeNorAll)
   count-monoid h = record { is = λ l a r P. settles-monoid P k o (sym B ∙ h); long = refl; above = λ j p. refl }
 
   module _ (h : b ≡ true) {c : Bool} (C : c ≡ countable_in s k) where
-    pub count-table : c ≡ false → CountPost d s k o s o (Refused 56)
+    pub count-table : c ≡ false → CountPost d s k o s o (Err OutageTableOutOfRange)
     count-table g = record { is = λ l a r P. settles-table P k o (sym B ∙ h) (sym C ∙ g); long = refl; above = λ j p. refl }
 
     module _ (g : c ≡ true) where
-      pub count_room : length o < 2 → CountPost d s k o s o (Refused 32)
+      pub count_room : length o < 2 → CountPost d s k o s o (Err AnswerTooShort)
       count_room l = record { is = λ q a r P. settles-room P k o (sym B ∙ h) (sym C ∙ g) l; long = refl; above = λ j p. refl }
 
       rows-said : {w r : ℕ} → w ≡ table_in s k → r ≡ rows_in w → r ≡ rows_in (table_in s k)
@@ -191,7 +181,7 @@ module _ (d : Bytes) (s : List ℕ) (k : ℕ) (o : List ℤ) {b : Bool} (B : b �
         pub truths-ready : Asked d s → TruthsPre d s k n
         truths-ready A = truths-pre A.prepared k o (sym B ∙ h) (sym C ∙ g) powers E.1
 
-        pub count-written : 2 ≤ length o → {s₁ : List ℕ} {t : ℕ} → TruthsPost d s k n s₁ t → {x y : ℤ} → x ≡ pos t → y ≡ pos (n - t) → CountPost d s k o s₁ (set (set o 0 x) 1 y) Written
+        pub count-written : 2 ≤ length o → {s₁ : List ℕ} {t : ℕ} → TruthsPost d s k n s₁ t → {x y : ℤ} → x ≡ pos t → y ≡ pos (n - t) → CountPost d s k o s₁ (set (set o 0 x) 1 y) (Ok 2)
         count-written l R ex ey = record {
           is = λ q a r P. settles-counts P k o (sym B ∙ h) (sym C ∙ g) l powers R (two-words o l _ _ ∙ ap₂ (λ (u v : ℤ). u ∷ v ∷ drop 2 o) ex ey);
           long = R.long;

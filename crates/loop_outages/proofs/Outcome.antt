@@ -1,23 +1,23 @@
 -- From a question prepared in scratch to the outcome of counting outages.
-use mathlib.Core.Path.{◌≡◌, refl, sym, ap, ap₂, subst, ◌∙◌}
-use mathlib.Core.List.{List, [], ◌∷◌, ◌++◌}
-use mathlib.Core.Bool.{Bool, true, false, ◌&&◌, and-eq-true_iff}
-use Prim.Native.Nat.{ℕ, suc, ◌+◌, ◌-◌, ◌^◌, ◌≤◌, ◌<◌}
+use mathlib.Core.Path.{◌≡◌, refl, sym, ap, ap₂, ◌∙◌}
+use mathlib.Core.List.{List, [], ◌∷◌}
+use mathlib.Core.Bool.{true, false, and-eq-true_iff}
+use Prim.Native.Nat.{ℕ, suc, ◌-◌, ◌^◌, ◌≤◌, ◌<◌}
 use native.Mathlib.Omega.{arith}
 use borrow.Author.Tests.{le-leb, lt-leb, leb-true}
 use lib.Dec.{leb}
-use lib.ListN.{length, get_or, drop}
+use lib.ListN.{length, drop}
 use lib.IntN.{ℤ, pos}
 use Rattle.spec_calculus.specs.Syntax.{Monoid}
 use Rattle.spec_calculus.specs.Value.{Value, Tables, as_bool, is_there, rows_of}
 use Rattle.spec_calculus.specs.Monoid.{canonical}
 use Rattle.spec_calculus.specs.Meaning.{meaning}
-use Rattle.spec_encoding.specs.Record.{Bytes, Result, refused, got, require}
-use Rattle.spec_normal_form.specs.Form.{Form, Clauses, comp, as_form}
+use Rattle.spec_encoding.specs.Record.{Bytes, require}
+use Rattle.spec_normal_form.specs.Form.{Form, Clauses, comp}
 use Rattle.spec_normal_form.specs.Normal.{normal}
 use Rattle.spec_outcome.specs.Acceptance.{Accepted}
 use Rattle.spec_outcome.specs.Gives.{Settles}
-use Rattle.spec_outages.specs.Outages.{subsets, with_rows, verdicts, trues, falses, asks_truth, countable, outages}
+use Rattle.spec_outages.specs.Outages.{with_rows, verdicts, trues, falses, asks_truth, countable, outages}
 use Rattle.spec_outages.proofs.Subsets.{verdicts-count}
 use Rattle.base_tables.specs.Description.{subset_rows, rows_in, table_in, kept}
 use Rattle.form_words.specs.declared.FormNode.{FormNode}
@@ -26,7 +26,6 @@ use Rattle.form_words.specs.NodeWord.{node_at}
 use Rattle.form_words.specs.Look.{monoid_in}
 use Rattle.form_words.specs.FormTree.{form_tree, left}
 use Rattle.form_words.proofs.NodeWords.{form_node}
-use Rattle.base_syntax.specs.MonoidWord.{monoid_of}
 use Rattle.form_prepared.specs.PreparedQuestion.{Prepared}
 use Rattle.form_prepared.proofs.SettledOutcome.{settles-refused, settles-got}
 use Rattle.answer_settle.proofs.PreparedQuestion.{passed, form-is}

@@ -1,21 +1,21 @@
 -- A prepared question in scratch, the word of one table leaving rows out: scratch holds the tables with the other rows, and the question can be answered.
 use mathlib.Core.Path.{◌≡◌, refl, sym, ap, subst, ◌∙◌, fun_ext}
 use mathlib.Core.List.{List}
-use mathlib.Core.Bool.{Bool, true, false, ◌&&◌}
+use mathlib.Core.Bool.{true, false}
 use Prim.Native.Nat.{ℕ, zero, suc, ◌+◌, ◌/◌, ◌^◌, ◌≤◌, ◌<◌}
 use native.Mathlib.Numerals.{one-add}
 use native.Mathlib.Nat.{pow-le-pow_right}
 use native.Mathlib.Omega.{arith}
-use borrow.Author.Tests.{lt-ltb, ltb-true, lt-leb, leb-true, eqb-true, eqb-false}
+use borrow.Author.Tests.{lt-ltb, lt-leb, eqb-true, eqb-false}
 use lib.Dec.{eqb, ltb, leb}
 use lib.ListN.{length, get_or, set, length-set}
 use lib.Seq.{get_or-set_same, get_or-set_other}
 use Rattle.spec_calculus.specs.Lists.{pick}
-use Rattle.spec_calculus.specs.Value.{Value, Tables, junk, as_bool, kind_of, columns_of, is_there, bound_of, rows_of}
+use Rattle.spec_calculus.specs.Value.{Value, Tables, junk, as_bool, columns_of, is_there, bound_of, rows_of}
 use Rattle.spec_calculus.specs.Monoid.{canonical, raw}
 use Rattle.spec_calculus.specs.Meaning.{Env, meaning}
 use Rattle.spec_calculus.proofs.WellFormed.{WellFormedRow, CellsWithin, WellFormed, number-few, rows-well-formed, rows-in-bounds}
-use Rattle.spec_encoding.specs.Record.{Bytes, got}
+use Rattle.spec_encoding.specs.Record.{Bytes}
 use Rattle.spec_normal_form.specs.Form.{Form, as_form, value, normal_value}
 use Rattle.spec_normal_form.specs.Bound.{Declared, within}
 use Rattle.spec_normal_form.proofs.GeneratorTables as Ge
@@ -25,11 +25,11 @@ use Rattle.spec_outages.specs.Outages.{with_rows, countable}
 use Rattle.spec_outages.proofs.WithRows.{with-length, with-other, with_rows_lem, with-kind, with-columns, with-there, with_bound, with-fit, truth-over}
 use Rattle.base_signed.proofs.SignedWords.{by-test, no}
 use Rattle.base_scratch.specs.Map.{form_at, env_at}
-use Rattle.base_tables.specs.Description.{most_tables, rows_in, kind_in, subset_in, subset_rows, kept, without_in, table_in, present_in, description_in, Describes}
+use Rattle.base_tables.specs.Description.{most_tables, rows_in, kind_in, subset_in, subset_rows, kept, without_in, table_in, description_in, Describes}
 use Rattle.base_tables.proofs.TableWords.{present-is, none-left-out}
 use Rattle.base_tables.proofs.TableCells.{described-same}
 use Rattle.base_tables.proofs.Subsets.{kept-length, kept-each, height, described-subset}
-use Rattle.base_checkpoints.specs.Checkpoints.{checkpoint_at, checkpoint_in, tall_in, checkpoint_of, Checkpointed}
+use Rattle.base_checkpoints.specs.Checkpoints.{checkpoint_at, checkpoint_in, tall_in, checkpoint_of}
 use Rattle.form_words.specs.FormTree.{form_tree, left}
 use Rattle.form_env.specs.Environment.{slots, slot_of, row_span, env_of, Held, declared_in}
 use Rattle.form_env.specs.NamedTables.{Rowless, table_of, Named}

@@ -1,6 +1,6 @@
 -- A question that stands prepared in scratch, answered over each subset of one table's rows: what each function asks and gives. m says by its bits which
 -- rows are left out (base_tables/specs/Description).
-use Rattle.std.specs.Prelude.{◌≡◌, List, Bool, true, false, ℕ, zero, suc, ◌+◌, ◌≤◌, ◌<◌, leb, length, get_or, set, ℤ}
+use Rattle.std.specs.Prelude.{◌≡◌, List, Bool, false, ℕ, zero, suc, ◌+◌, ◌≤◌, ◌<◌, leb, length, get_or, set, ℤ, ⊤, Option, Some, None, Result, Ok, Err}
 use Rattle.spec_calculus.specs.Lists.{pick}
 use Rattle.spec_calculus.specs.Value.{Tables, as_bool}
 use Rattle.spec_encoding.specs.Record.{Bytes, got}
@@ -8,23 +8,22 @@ use Rattle.spec_outcome.specs.Acceptance.{Lent, read_lent, Accepted, posed_of}
 use Rattle.spec_outcome.specs.Gives.{Settles}
 use Rattle.spec_outages.specs.Outages.{asks_truth, outages}
 use Rattle.base_scratch.specs.Map.{scratch_size}
+use Rattle.base_refusals.specs.Numbers.{outcome_number, outcome_length}
+use Rattle.base_refusals.specs.declared.Refusal.{Refusal}
+use Rattle.base_syntax.specs.declared.Monoid.{Monoid}
 use Rattle.base_syntax.specs.MonoidWord.{monoid_of}
 use Rattle.base_tables.specs.Description.{most_tables, rows_in, subset_in, subset_rows, table_in, present_in, without_in}
-use Rattle.form_words.specs.declared.MonoidRead.{MonoidRead}
-use Rattle.form_words.specs.declared.MonoidRead.TheVariants as Mr
 use Rattle.form_words.specs.NodeWord.{node_at}
 use Rattle.form_words.specs.Look.{monoid_in}
 use Rattle.form_words.specs.FormTree.{left}
 use Rattle.form_env.specs.Environment.{Held}
 use Rattle.form_prepared.specs.PreparedQuestion.{Prepared}
 use Rattle.loop_scalar.specs.Contract.{value_at, Evaluable}
-use Rattle.loop_outages.specs.declared.Counted.{Counted}
-use Rattle.loop_outages.specs.declared.Counted.TheVariants.{Written, Refused}
 
 -- "a question whose monoid is some or all", by the form that stands in scratch
-unfoldable pub truth_read : MonoidRead → Bool
-truth_read (Mr.Is m) = asks_truth (monoid_of m)
-truth_read Mr.Other = false
+unfoldable pub truth_read : Option Monoid → Bool
+truth_read (Some m) = asks_truth (monoid_of m)
+truth_read None = false
 
 abbrev pub truth_asked : List ℕ → Bool
 truth_asked s = truth_read (monoid_in (node_at s 0))
@@ -66,17 +65,8 @@ pub record TruthsPost (d : Bytes) (s : List ℕ) (k n : ℕ) (s' : List ℕ) (t 
   pub long : length s' ≡ length s
   pub above : (j : ℕ) → most_tables < j → get_or s' j 0 ≡ get_or s j 0
 
--- "The counts .. are the answer's two words"; "a refusal its number and length 0"
-abbrev pub counted_number : Counted → ℕ
-counted_number Written = 0
-counted_number (Refused n) = n
-
-abbrev pub counted_length : Counted → ℕ
-counted_length Written = 2
-counted_length (Refused n) = 0
-
 -- With whatever question stands in scratch: number, length and buffer are those that its counts have. Words from 2,048 on stay.
-pub record CountPost (d : Bytes) (s : List ℕ) (k : ℕ) (o : List ℤ) (s' : List ℕ) (o' : List ℤ) (r : Counted) : Type 0 where
-  pub is : (l : Lent) (a : Accepted) → read_lent l ≡ got (posed_of a) → Prepared d a s → Settles (outages k o a) o (counted_number r) (counted_length r) o'
+pub record CountPost (d : Bytes) (s : List ℕ) (k : ℕ) (o : List ℤ) (s' : List ℕ) (o' : List ℤ) (r : Result ℕ Refusal) : Type 0 where
+  pub is : (l : Lent) (a : Accepted) → read_lent l ≡ got (posed_of a) → Prepared d a s → Settles (outages k o a) o (outcome_number r) (outcome_length r) o'
   pub long : length s' ≡ length s
   pub above : (j : ℕ) → scratch_size ≤ j → get_or s' j 0 ≡ get_or s j 0

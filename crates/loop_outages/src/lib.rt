@@ -5,29 +5,23 @@ ghost use Rattle.std.specs.Prelude.{◌≡◌, ◌≤◌, ◌<◌, ◌^◌};
 ghost use Rattle.form_prepared.specs.AnswerContract.{Asked};
 ghost use Rattle.loop_outages.specs.Contract.{truth_asked, countable_in, HoldsPre, HoldsPost, TruthsPre, TruthsPost, CountPost};
 
+use base_refusals::Refusal;
 use base_scratch::{DESCRIPTIONS, store};
 use base_tables::{SUBSET_ROWS, present, rows, table, without};
-use form_arith::{Sort, same, sort_of};
-use form_words::{MonoidRead, monoid_of};
+use form_arith::{Sort, sort_of};
+use form_words::monoid_of;
 use loop_scalar::scalar;
 
 // "The counts, true first, are the answer's two words."
-pub const ANSWER_WORDS: usize = 2;
-
-// The counts are in the answer buffer, or a refusal's number.
-#[derive(Clone, Copy)]
-pub enum Counted {
-    Written,
-    Refused(u64),
-}
+const ANSWER_WORDS: usize = 2;
 
 // "a question whose monoid is some or all"
 fn asks_truth(s: &[u64]) -> bool
     ensures { result ≡ truth_asked s.now }
 {
     match monoid_of(s, 0) {
-        MonoidRead::Is(m) => same(sort_of(m), Sort::Truth),
-        MonoidRead::Other => false,
+        Some(m) => sort_of(m) == Sort::Truth,
+        None => false,
     }
 }
 
@@ -46,13 +40,7 @@ fn subsets(n: usize) -> u64
     requires { n ≤ 12 }
     ensures { (result ≡ 2 ^ n) × (result ≤ 4096) }
 {
-    let mut m = 1;
-    let mut i = 0;
-    while i < n {
-        m = 2 * m;
-        i += 1;
-    }
-    m
+    1 << n
 }
 
 // Whether the question is true over the rows of table k that m does not leave out, where w describes them all: 1, else 0.
@@ -74,31 +62,29 @@ fn truths(s: &mut [u64], data: &[u8], k: usize, n: u64) -> u64
 {
     let w = table(s, k);
     let mut t = 0;
-    let mut m = 0;
-    while m < n {
+    for m in 0..n {
         t += holds(s, data, k, w, m);
-        m += 1;
     }
     t
 }
 
-// The two counts in the answer buffer, or a refusal's number.
-pub fn count(s: &mut [u64], data: &[u8], k: usize, out: &mut [i64]) -> Counted
+// The two counts in the answer buffer. Answers how many words they are.
+pub fn count(s: &mut [u64], data: &[u8], k: usize, out: &mut [i64]) -> Result<usize, Refusal>
     requires { Asked «data».now s.old }
     ensures { CountPost «data».now s.old k out.old s.new out.new result }
 {
-    if asks_truth(s) {
-        if countable(s, k) {
-            if out.len() < ANSWER_WORDS {
-                return Counted::Refused(base_refusals::ANSWER_TOO_SHORT);
-            }
-            let n = subsets(rows(table(s, k)));
-            let t = truths(s, data, k, n);
-            out[0] = t as i64;
-            out[1] = (n - t) as i64;
-            return Counted::Written;
-        }
-        return Counted::Refused(base_refusals::OUTAGE_TABLE_OUT_OF_RANGE);
+    if !asks_truth(s) {
+        return Err(Refusal::NeitherSomeNorAll);
     }
-    Counted::Refused(base_refusals::NEITHER_SOME_NOR_ALL)
+    if !countable(s, k) {
+        return Err(Refusal::OutageTableOutOfRange);
+    }
+    if out.len() < ANSWER_WORDS {
+        return Err(Refusal::AnswerTooShort);
+    }
+    let n = subsets(rows(table(s, k)));
+    let t = truths(s, data, k, n);
+    out[0] = t as i64;
+    out[1] = (n - t) as i64;
+    Ok(ANSWER_WORDS)
 }

@@ -1,5 +1,5 @@
 -- The whole call: the plan, the lines' length, the lines.
-use mathlib.Core.Path.{◌≡◌, ap}
+use mathlib.Core.Path.{◌≡◌, sym, ap}
 use mathlib.Core.List.{List, ◌++◌}
 use Prim.Native.Nat.{ℕ, ◌≤◌, ◌<◌}
 use native.Mathlib.Omega.{arith}
@@ -17,10 +17,18 @@ use Rattle.spec_outcome.specs.Gives.{Settles}
 use Rattle.form_prepared.proofs.SettledOutcome.{settles-refused, settles-got}
 use Rattle.plan_marks.specs.PlanIn.{plan_at, plan_in}
 use Rattle.plan_marks.specs.Contract.{UnmarkedForm, MakePlanPost}
-use Rattle.plan_lines.specs.declared.Printed.TheVariants.{Short, Length}
+use Rattle.std.specs.declared.result.Result.{Result}
+use Rattle.std.specs.declared.result.Result.TheVariants.{Ok, Err}
+use Rattle.base_refusals.specs.declared.Refusal.{Refusal}
+use Rattle.base_refusals.specs.declared.Refusal.TheVariants.{LinesTooShort}
 use Rattle.base_text.specs.LaidText.{text_limit, Lays, Text}
 use Rattle.plan_lines.specs.PlanCall.{PlanLinesPost}
 use Rattle.base_text.proofs.LaidText.{lays-as, first-same, first-length, second-length, second-text}
+
+-- the refusal, 33 where there is none
+abbrev refusal_of : Result ℕ Refusal → Refusal
+refusal_of (Ok n) = LinesTooShort
+refusal_of (Err e) = e
 
 laid : {d : Bytes} {a : Accepted} {s : List ℕ} → Prepared d a s → UnmarkedForm a.form s
 laid P = record { fits = P.fits; lent = P.lent; few = P.few; held = P.held; blank = P.blank; long = omega (arith, P.long) }
@@ -50,15 +58,17 @@ module _ {s s₁ b b₁ : List ℕ} {n : ℕ} (M : MakePlanPost s s₁) (X : Tex
     behind : (j : ℕ) → scratch_size ≤ j → get_or s₁ j 0 ≡ get_or s j 0
     behind j p = M.behind a.form (laid P) j (omega arith)
 
-  pub print-short : length b₁ < n → PlanLinesPost s b s₁ b₁ Short
+  pub print-short : length b₁ < n → PlanLinesPost s b s₁ b₁ (Err LinesTooShort)
   print-short l = record {
     is = λ d a P. lines-short a (omega (arith, first-length (first P), ap length (first-same (first P)))) (first-same (first P));
     behind = λ d a P j p. behind P j p;
+    short = λ e q. sym (ap refusal_of q);
   }
 
-  pub print-full : {b₂ : List ℕ} {r : ℕ} → n ≤ length b₁ → Text (left 0) (λ f. lines (plan_at f s₁)) n b₁ 0 b₂ r → PlanLinesPost s b s₁ b₂ (Length r)
+  pub print-full : {b₂ : List ℕ} {r : ℕ} → n ≤ length b₁ → Text (left 0) (λ f. lines (plan_at f s₁)) n b₁ 0 b₂ r → PlanLinesPost s b s₁ b₂ (Ok r)
   print-full {b₂} {r} l Y = record {
     is = λ d a P. let fits : n ≤ length b = omega (arith, ap length (first-same (first P))) in let second = lays-as (same P) (Y.is 2048 (omega arith)) in
         lines-full a (omega (arith, first-length (first P), fits)) (second-length (first P) short fits second) (second-text (first P) short fits second);
     behind = λ d a P j p. behind P j p;
+    short = λ e q. sym (ap refusal_of q);
   }

@@ -31,7 +31,8 @@ use Rattle.answer_settle.proofs.FormTypes.{rooted}
 use Rattle.answer_settle.proofs.FinishSettles as Finish
 use Rattle.loop_collect.specs.Contract as Collect
 use Rattle.loop_answer.proofs.ByLoopsOutcome.{still, raw-written, answers-short, answers-full}
-use Rattle.test_comparisons.specs.declared.Tally.{Tally}
+use Rattle.std.specs.declared.result.Result.TheVariants.{Ok, Err}
+use Rattle.base_refusals.specs.declared.Refusal.TheVariants.{AnswerTooShort}
 use Rattle.test_comparisons.specs.ComparedAnswer.{comparisons_of, retold, counted}
 use Rattle.test_comparisons.specs.Contract.{CountPost}
 use Rattle.test_comparisons.proofs.RowColumns.{steps-same}
@@ -63,27 +64,25 @@ module _ {d : Bytes} {a : Accepted} {s t : List ℕ} (P : Prepared d a s) (S : S
       ∙ ap capped (steps-same (columns t) (λ g. 0) (as_form a.form) v)
 
 module _ {d : Bytes} {s s₁ : List ℕ} {o o₁ : List ℤ} {g : ℕ} (R : Collect.RawAnswerPost d s o s₁ o₁ g) (e : length o₁ ≡ length o) where
-  pub count-short : {r : Tally} → length o₁ < g → r.number ≡ 32 → r.comparisons ≡ 0 → CountPost d s o s₁ o₁ r
+  pub count-short : length o₁ < g → CountPost d s o s₁ o₁ (Err AnswerTooShort)
   unfolding written
-  count-short {r} l en ec =
+  count-short l =
       let A = answers-short R e l in
       record {
-        is = λ q a h P.
-            let T = retold-short (comparisons_of a) (record { size = length (words (looped a)); front = words (looped a) ++ replicate (G a - length (words (looped a))) (pos 0) }) (leb (G a) (length o)) (A.is q a h P) in
-            subst (λ (n : ℕ). Settles (counted o a) o n r.comparisons o₁) (sym en) (subst (λ (n : ℕ). Settles (counted o a) o 32 n o₁) (sym ec) T);
+        is = λ q a h P. retold-short (comparisons_of a) (record { size = length (words (looped a)); front = words (looped a) ++ replicate (G a - length (words (looped a))) (pos 0) }) (leb (G a) (length o)) (A.is q a h P);
         long = A.long;
         above = A.above;
       }
 
-  pub count-full : {o₂ : List ℤ} {n : ℕ} {r : Tally} → length o < 2 ^ 62 → g ≤ length o₁ → FinishPost s₁ 0 o₁ o₂ n → FinishCount s₁ 0 o₁ r.comparisons → r.number ≡ 0 → CountPost d s o s₁ o₂ r
+  pub count-full : {o₂ : List ℤ} {n k : ℕ} → length o < 2 ^ 62 → g ≤ length o₁ → FinishPost s₁ 0 o₁ o₂ n → FinishCount s₁ 0 o₁ k → CountPost d s o s₁ o₂ (Ok k)
   unfolding written
-  count-full {o₂} {n} {r} b l K C en =
+  count-full {o₂} {n} {k} b l K C =
       let A = answers-full R e b l (Finish.settled K) in
       record {
         is = λ q a h P.
-            let c : r.comparisons ≡ comparisons_of a = count-is P (subst (Still d a) (sym R.kept) (still P)) C o (raw-written R e b l (Finish.settled K) P q h) q h in
+            let c : k ≡ comparisons_of a = count-is P (subst (Still d a) (sym R.kept) (still P)) C o (raw-written R e b l (Finish.settled K) P q h) q h in
             let T = retold-full (comparisons_of a) (record { size = length (words (looped a)); front = words (looped a) ++ replicate (G a - length (words (looped a))) (pos 0) }) (leb (G a) (length o)) (A.is q a h P) in
-            subst (λ (m : ℕ). Settles (counted o a) o m r.comparisons o₂) (sym en) (subst (λ (m : ℕ). Settles (counted o a) o 0 m o₂) (sym c) T);
+            subst (λ (m : ℕ). Settles (counted o a) o 0 m o₂) (sym c) T;
         long = A.long;
         above = A.above;
       }

@@ -7,33 +7,21 @@ ghost use Rattle.spec_outcome.specs.Gives.{Gives};
 ghost use Rattle.test_comparisons.specs.ComparedAnswer.{compared};
 ghost use Rattle.test_comparisons.specs.Contract.{CountPost};
 
-use engine::{Admitted, Reply, admit, finish};
+use base_refusals::Refusal;
+use engine::{Reply, admit, finish};
 use loop_collect::raw_answer;
 
-// The number of an answer, and the comparisons of its ordering steps.
-#[derive(Clone, Copy)]
-struct Tally {
-    number: u64,
-    comparisons: u64,
-}
-
 // Answers the accepted question in scratch by loops, and adds up the comparisons of all ordering steps, 2^64 - 1 at most.
-fn count(s: &mut [u64], data: &[u8], out: &mut [i64]) -> Tally
+fn count(s: &mut [u64], data: &[u8], out: &mut [i64]) -> Result<usize, Refusal>
     requires { Asked «data».now s.old }
     ensures { CountPost «data».now s.old out.old s.new out.new result }
 {
     let g = raw_answer(s, data, out);
     if out.len() < g {
-        return Tally {
-            number: base_refusals::ANSWER_TOO_SHORT,
-            comparisons: 0,
-        };
+        return Err(Refusal::AnswerTooShort);
     }
     let r = answer_canonical::finish(s, out, 0);
-    Tally {
-        number: 0,
-        comparisons: r.comparisons,
-    }
+    Ok(r.comparisons as usize)
 }
 
 // The number and the buffer of answering by loops; with 0 the length is the number of comparisons, 2^64 - 1 at most.
@@ -47,14 +35,10 @@ pub fn dislogha_comparisons(
     ensures { Gives (compared tables.now (lent_as calendars.now question.now) scratch.old answer.old) result.number result.length answer.new scratch.new }
 {
     match admit(tables, calendars, question, scratch) {
-        Admitted::Scant => Reply {
-            number: base_refusals::SCRATCH_TOO_SHORT,
-            length: 0,
-        },
-        Admitted::Refused(k) => finish(scratch, k, 0),
-        Admitted::Accepted => {
-            let t = count(scratch, tables, answer);
-            finish(scratch, t.number, t.comparisons)
+        Err(reply) => reply,
+        Ok(()) => {
+            let counted = Reply::from(count(scratch, tables, answer));
+            finish(scratch, counted.number, counted.length)
         }
     }
 }

@@ -9,10 +9,10 @@ use Rattle.spec_outcome.specs.Acceptance.{Lent, Accepted}
 use Rattle.spec_outcome.specs.Outcome.{scratch_words, settled}
 use Rattle.spec_outcome.specs.Gives.{Gives, Settles}
 use Rattle.engine.specs.Replies.{AdmitPost, Replies}
-use Rattle.engine.specs.declared.Admitted.{Admitted}
-use Rattle.engine.specs.declared.Admitted.TheVariants as Admitted
+use Rattle.std.specs.declared.result.Result.{Result}
+use Rattle.std.specs.declared.result.Result.TheVariants.{Ok, Err}
 use Rattle.engine.specs.declared.Reply.{Reply}
-use Rattle.engine.proofs.Calls.{room-accepted, scant-by, refused-by, settled-by}
+use Rattle.engine.proofs.Calls.{room-accepted, refused-by, settled-by}
 use Rattle.test_offers.specs.OfferedRows.{offered_rows, counted, offered}
 use Rattle.test_offers.specs.Contract.{RowsOfPost}
 
@@ -20,18 +20,14 @@ settles-counted : (a : Accepted) {n : ℕ} → n ≡ offered_rows a → Settles 
 unfolding settled
 settles-counted a e = record { gives = λ s. record { number = refl; size = e; buffer = refl; scratch = refl } }
 
-module _ {d : Bytes} {l : Lent} {s t : List ℕ} {x : Admitted} (B : AdmitPost d l s t x) where
-  pub offered-scant : x ≡ Admitted.Scant → Gives (offered d l s) 31 0 [] t
+module _ {d : Bytes} {l : Lent} {s t : List ℕ} {x : Result (Unit {0}) Reply} (B : AdmitPost d l s t x) where
+  pub offered-refused : {r : Reply} → x ≡ Err r → Gives (offered d l s) r.number r.length [] t
   unfolding offered
-  offered-scant e = scant-by B counted [] e
+  offered-refused e = refused-by B counted [] e
 
-  pub offered-refused : {k : ℕ} → x ≡ Admitted.Refused k → {u : List ℕ} {r : Reply} → Replies t u k 0 r → Gives (offered d l s) r.number r.length [] u
-  unfolding offered
-  offered-refused e R = refused-by B counted [] e R
-
-  pub room-told : x ≡ Admitted.Accepted → {u : List ℕ} {n : ℕ} → RowsOfPost d t u n → scratch_words ≤ length u
+  pub room-told : {z : Unit {0}} → x ≡ Ok z → {u : List ℕ} {n : ℕ} → RowsOfPost d t u n → scratch_words ≤ length u
   room-told e A = omega (arith, room-accepted B e, A.long)
 
-  pub offered-given : x ≡ Admitted.Accepted → {u v : List ℕ} {n : ℕ} {r : Reply} → RowsOfPost d t u n → Replies u v 0 n r → Gives (offered d l s) r.number r.length [] v
+  pub offered-given : {z : Unit {0}} → x ≡ Ok z → {u v : List ℕ} {n : ℕ} {r : Reply} → RowsOfPost d t u n → Replies u v 0 n r → Gives (offered d l s) r.number r.length [] v
   unfolding offered
   offered-given e A R = settled-by B counted [] e (record { long = A.long; above = λ j h. A.above j (omega arith) }) (λ Y. settles-counted Y.accepted (A.is Y.accepted Y.prepared)) R

@@ -71,7 +71,7 @@ module _ {d : Bytes} {s t : List ℕ} {o p : List ℤ} {code at n : ℕ} (I : Co
     buffer = same-buffer K;
   }
 
-  pub count-spent : Waiting d s o 0 code → longest ≤ n → CountPost d s o code t p n
+  pub count-spent : Waiting d s o 0 code → longest ≤ n → CountPost d s o code t p longest
   count-spent K l = record {
     is = λ Q R S N.
         let W = I.is Q R S N in

@@ -9,7 +9,7 @@ ghost use Rattle.spec_outcome.specs.Gives.{Gives};
 ghost use Rattle.test_offers.specs.OfferedRows.{offered};
 ghost use Rattle.test_offers.specs.Contract.{CountPost, RowsOfPost};
 
-use engine::{Admitted, Reply, admit, finish};
+use engine::{Reply, admit, finish};
 use exec_batch::portion;
 use exec_pass::start;
 use plan_links::link;
@@ -22,15 +22,13 @@ fn count(s: &mut [u64], data: &[u8], out: &mut [i64], code: usize) -> u64
     ensures { CountPost «data».now s.old out.old code s.new out.new result }
 {
     let mut at = code;
-    let mut n: u64 = 0;
-    while n < 18446744073709551615 {
+    for n in 0..u64::MAX {
         if at == 1 {
             return n;
         }
         at = portion(s, data, out, 0, at, 1);
-        n = n + 1;
     }
-    n
+    u64::MAX
 }
 
 // How many rows a pass offers over the accepted question in scratch, 2^64 - 1 at most: it is planned, linked and run. With
@@ -56,12 +54,8 @@ pub fn dislogha_offered_rows(
     ensures { Gives (offered tables.now (lent_as calendars.now question.now) scratch.old) result.number result.length [] scratch.new }
 {
     match admit(tables, calendars, question, scratch) {
-        Admitted::Scant => Reply {
-            number: base_refusals::SCRATCH_TOO_SHORT,
-            length: 0,
-        },
-        Admitted::Refused(k) => finish(scratch, k, 0),
-        Admitted::Accepted => {
+        Err(reply) => reply,
+        Ok(()) => {
             let n = rows_of(scratch, tables);
             finish(scratch, 0, n)
         }

@@ -8,7 +8,6 @@ ghost use Rattle.base_scratch.specs.Map.{scratch_size};
 use base_scratch::{
     BINDERS, DESCRIPTIONS, ENVIRONMENT, FORM, FORM_WORDS, NODES, SHAPES, SIZES, STARTS, TOTALS,
 };
-use front_end::FrontResult;
 use std::io;
 use std::io::Write;
 
@@ -324,11 +323,10 @@ fn written<W: Write>(to: &mut W, data: &[u8], question: &[u8], s: &mut [u64]) ->
 fn walk<W: Write>(to: &mut W, data: &[u8], question: &[u8], s: &mut [u64]) -> io::Result<()>
     requires { scratch_size ≤ length s.old }
 {
-    match front_end::front_end(data, b"", question, s) {
-        FrontResult::Refused(_) => {}
-        FrontResult::Nodes(n) => show_question(to, s, n)?,
+    if let Ok(n) = front_end::front_end(data, b"", question, s) {
+        show_question(to, s, n)?;
     }
-    front_end::prepare(data, b"", question, s);
+    let _ = front_end::prepare(data, b"", question, s);
     say(to, b"normal form (front_emit::write_form)\n")?;
     show(to, s, ENVIRONMENT, FORM, Format::Row)?;
     show(to, s, FORM, FORM + FORM_WORDS, Format::Form)?;

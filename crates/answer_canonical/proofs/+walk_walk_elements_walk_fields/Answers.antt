@@ -42,8 +42,8 @@ walk-shape_of-o-in-Elements t c = c.walk_elements.auto.o ∙ c.carry-b.auto.o
 pub walk-returns-in-Elements : goal.walk-returns-in-Elements
 walk-returns-in-Elements t c = walk-collection (reshape c.requires c.in-Elements.is) (laid_as c.element_layout.ensures) c.tally-n.ensures.0 c.carry-b.ensures c.walk_elements.ensures
 
-pub walk_elements-loop-n-init : goal.walk_elements-loop-n-init
-walk_elements-loop-n-init t c = walk_first
+pub walk_elements-loop-init : goal.walk_elements-loop-init
+walk_elements-loop-init t c = walk_first (omega arith)
 
 pub walk_elements-walk-g-requires : goal.walk_elements-walk-g-requires
 walk_elements-walk-g-requires t c = (omega (arith, c.decreases), c.requires)
@@ -51,14 +51,14 @@ walk_elements-walk-g-requires t c = (omega (arith, c.decreases), c.requires)
 pub walk_elements-arrange-g-requires : goal.walk_elements-arrange-g-requires
 walk_elements-arrange-g-requires t c = c.requires
 
-pub walk_elements-loop-n-preserved : goal.walk_elements-loop-n-preserved
-walk_elements-loop-n-preserved t c = walk-again c.loop-n.invariant c.loop-n-test.true (c.arrange-g.auto.o ∙ c.walk-g.auto.o) (written refl c.walk-g.ensures c.arrange-g.ensures)
+pub walk_elements-loop-preserved : goal.walk_elements-loop-preserved
+walk_elements-loop-preserved t c = walk-again c.loop.invariant (omega arith) (c.arrange-g.auto.o ∙ c.walk-g.auto.o) (written refl c.walk-g.ensures c.arrange-g.ensures)
 
 pub walk_elements-shape_of-o : goal.walk_elements-shape_of-o
-walk_elements-shape_of-o t c = c.loop-n.invariant.long
+walk_elements-shape_of-o t c = c.loop.invariant.long
 
 pub walk_elements-returns : goal.walk_elements-returns
-walk_elements-returns t c = walk-last c.loop-n.invariant c.loop-n-test.false
+walk_elements-returns t c = walk-last c.loop.invariant (omega arith)
 
 pub walk_fields-loop-i-init : goal.walk_fields-loop-i-init
 walk_fields-loop-i-init t c = fields-first

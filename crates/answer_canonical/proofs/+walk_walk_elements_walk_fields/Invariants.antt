@@ -14,11 +14,8 @@ decreases-walk l = left l.t.place
 abbrev pub decreases-walk_elements : goal.decreases-walk_elements
 decreases-walk_elements l = left l.t.place + 1
 
-abbrev pub invariant-walk_elements-loop-n : goal.invariant-walk_elements-loop-n
-invariant-walk_elements-loop-n l = Walking l.s l.t.place l.count l.initial.g l.initial.o l.o l.n l.g
-
-abbrev pub decreases-walk_elements-loop-n : goal.decreases-walk_elements-loop-n
-decreases-walk_elements-loop-n l = l.n
+abbrev pub invariant-walk_elements-loop : goal.invariant-walk_elements-loop
+invariant-walk_elements-loop l = Walking l.s l.t.place l.count l.initial.g l.initial.o l.o (l.count - l.counter) l.g
 
 abbrev pub decreases-walk_fields : goal.decreases-walk_fields
 decreases-walk_fields l = left l.c + 1

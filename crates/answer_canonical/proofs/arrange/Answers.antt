@@ -21,4 +21,4 @@ pub shape_of-o : goal.shape_of-o
 shape_of-o c = c.mark.auto.o ∙ c.order-r.auto.o
 
 pub returns-in-Elements : goal.returns-in-Elements
-returns-in-Elements c = arrange-collection (reshape c.requires c.in-Elements.is) (laid_as c.element_layout-u.ensures) c.tally-n.ensures c.step-first.ensures c.order-r.ensures.order_post c.order-r.ensures.order_count_post c.mark.ensures refl refl c.more.ensures
+returns-in-Elements c = arrange-collection (reshape c.requires c.in-Elements.is) (laid_as c.element_layout-u.ensures) c.tally-n.ensures c.step-first.ensures c.order-r.ensures.order_post c.order-r.ensures.order_count_post c.mark.ensures refl refl c.saturating_add.ensures

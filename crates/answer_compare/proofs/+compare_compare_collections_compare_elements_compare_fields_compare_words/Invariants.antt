@@ -21,11 +21,8 @@ decreases-compare_collections l = 3 * depth_at l.s.now l.h + 2
 abbrev pub decreases-compare_elements : goal.decreases-compare_elements
 decreases-compare_elements l = 3 * depth_at l.s.now l.i + 1
 
-abbrev pub invariant-compare_elements-loop-n : goal.invariant-compare_elements-loop-n
-invariant-compare_elements-loop-n l = Comparing l.s l.w l.i l.count l.a l.b l.n l.x l.y
-
-abbrev pub decreases-compare_elements-loop-n : goal.decreases-compare_elements-loop-n
-decreases-compare_elements-loop-n l = l.n
+abbrev pub invariant-compare_elements-loop : goal.invariant-compare_elements-loop
+invariant-compare_elements-loop l = Comparing l.s l.w l.i l.count l.a l.b (l.count - l.counter) l.x l.y
 
 abbrev pub decreases-compare_fields : goal.decreases-compare_fields
 decreases-compare_fields l = 3 * depths_at l.s.now l.c l.e + 1

@@ -12,20 +12,11 @@ use Rattle.answer_dues.proofs.charge_all.Goals as goal
 pub loop-k-init : goal.loop-k-init
 loop-k-init c = (omega arith, refl, all_first (tariff_in c.args.t.now) c.args.n c.args.o.now)
 
-pub overflow_mul-k : goal.overflow_mul-k
-overflow_mul-k c = omega (arith, c.requires.few, c.loop-k-test.true)
-
-pub overflow_add-k : goal.overflow_add-k
-overflow_add-k c = omega (arith, c.requires.few, c.loop-k-test.true)
-
 pub charge_at-requires : goal.charge_at-requires
 charge_at-requires c = c.requires.tariff
 
 pub loop-k-preserved : goal.loop-k-preserved
 loop-k-preserved c = (omega (arith, c.loop-k-test.true), c.charge_at.auto.o ∙ c.loop-k.invariant.1, all-again (tariff_in c.args.t.now) c.args.n c.args.o.now c.loop-k.k c.loop-k.o c.loop-k.invariant.2 c.loop-k-test.true c.charge_at.ensures)
-
-pub shape_of-o : goal.shape_of-o
-shape_of-o c = c.loop-k.invariant.1
 
 pub returns : goal.returns
 returns c = all-last (tariff_in c.args.t.now) c.args.n c.args.o.now c.loop-k.k c.loop-k.o c.loop-k.invariant.2 c.loop-k-test.false

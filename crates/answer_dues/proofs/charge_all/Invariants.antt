@@ -10,6 +10,3 @@ use Rattle.answer_dues.proofs.charge_all.Given as goal
 
 abbrev pub invariant-loop-k : goal.invariant-loop-k
 invariant-loop-k l = (l.k ≤ l.n) × (length l.o ≡ length l.initial.o) × (charged_from (tariff_in l.t) 2 l.n l.initial.o ≡ charged_from (tariff_in l.t) (2 + 2 * l.k) (l.n - l.k) l.o)
-
-abbrev pub decreases-loop-k : goal.decreases-loop-k
-decreases-loop-k l = l.n - l.k

@@ -1,11 +1,6 @@
-use native.Mathlib.Omega.{arith}
-use mathlib.Core.Path.{ap}
 use Prim.Native.Nat.{◌+◌, ◌-◌}
 use Rattle.form_words.specs.FormTree.{left}
-use Rattle.answer_types.proofs.Types.{reshape}
-use Rattle.answer_types.proofs.SkipExits.{skipped, skip-word, skip-words, skip-record, skip-collection, SkippingFields, fields-first, fields-less, fields-again, fields-last, Skipping, elements-first, elements-again, elements-last}
-use borrow.Author.Rules.{rules}
-use Prim.Native.Nat.{ℕ, ◌<◌}
+use Rattle.answer_types.proofs.SkipExits.{SkippingFields, Skipping}
 use Rattle.answer_types.proofs.+skip_skip_elements_skip_fields.Given as goal
 
 abbrev pub decreases-skip : goal.decreases-skip
@@ -14,11 +9,8 @@ decreases-skip l = left l.t.place
 abbrev pub decreases-skip_elements : goal.decreases-skip_elements
 decreases-skip_elements l = left l.i + 1
 
-abbrev pub invariant-skip_elements-loop-n : goal.invariant-skip_elements-loop-n
-invariant-skip_elements-loop-n l = Skipping l.s l.w l.i l.count l.p l.n l.q
-
-abbrev pub decreases-skip_elements-loop-n : goal.decreases-skip_elements-loop-n
-decreases-skip_elements-loop-n l = l.n
+abbrev pub invariant-skip_elements-loop : goal.invariant-skip_elements-loop
+invariant-skip_elements-loop l = Skipping l.s l.w l.i l.count l.p (l.count - l.counter) l.q
 
 abbrev pub decreases-skip_fields : goal.decreases-skip_fields
 decreases-skip_fields l = left l.c + 1

@@ -1,11 +1,7 @@
 -- `base_calendars::calendars_fit`: the records from the loop's place on decide.
 use native.Mathlib.Omega.{arith}
-use mathlib.Core.Path.{◌≡◌, refl}
-use Prim.Native.Nat.{◌+◌, ◌*◌, ◌≤◌, ◌-◌}
-use lib.ListN.{length, drop}
-use Rattle.spec_hours.specs.CalendarBytes.{calendars_fit}
+use mathlib.Core.Path.{refl}
 use Rattle.base_calendars.proofs.Records.{all_fit, fifth, stops, next-within, goes}
-use borrow.Author.Rules.{rules}
 use Rattle.base_calendars.proofs.calendars_fit.Goals as goal
 
 pub loop-p-init : goal.loop-p-init

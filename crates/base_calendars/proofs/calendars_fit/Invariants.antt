@@ -1,10 +1,7 @@
-use native.Mathlib.Omega.{arith}
-use mathlib.Core.Path.{◌≡◌, refl}
-use Prim.Native.Nat.{◌+◌, ◌*◌, ◌≤◌, ◌-◌}
+use mathlib.Core.Path.{◌≡◌}
+use Prim.Native.Nat.{◌*◌, ◌≤◌, ◌-◌}
 use lib.ListN.{length, drop}
 use Rattle.spec_hours.specs.CalendarBytes.{calendars_fit}
-use Rattle.base_calendars.proofs.Records.{all_fit, fifth, stops, next-within, goes}
-use borrow.Author.Rules.{rules}
 use Rattle.base_calendars.proofs.calendars_fit.Given as goal
 
 abbrev pub invariant-loop-p : goal.invariant-loop-p

@@ -1,6 +1,5 @@
 -- `base_calendars::content_fits`: not too many windows, as many bytes as they take, and each of them.
 use Rattle.base_calendars.proofs.Windows.{many-windows, other_length, by-windows}
-use borrow.Author.Rules.{rules}
 use Rattle.base_calendars.proofs.content_fits.Goals as goal
 
 pub returns-then-n-gt-MOST_WINDOWS : goal.returns-then-n-gt-MOST_WINDOWS

@@ -1,10 +1,7 @@
 -- `base_calendars::find`: as many records lie before the loop's place as it has counted.
 use native.Mathlib.Omega.{arith}
-use mathlib.Core.Path.{◌≡◌, refl}
-use Prim.Native.Nat.{◌+◌, ◌*◌, ◌≤◌, ◌-◌}
-use lib.ListN.{length, drop}
+use mathlib.Core.Path.{refl}
 use Rattle.base_calendars.proofs.Finding.{skip, beyond, ended, stands, next}
-use borrow.Author.Rules.{rules}
 use Rattle.base_calendars.proofs.find.Goals as goal
 
 pub returns-then-k-ge-MOST_CALENDARS : goal.returns-then-k-ge-MOST_CALENDARS
@@ -16,7 +13,7 @@ loop-p-init c = (omega arith, omega arith, omega arith, refl)
 
 pub returns-then-n-k : goal.returns-then-n-k
 returns-then-n-k c = let l = c.loop-p in
-    stands c.args.s.now l.p l.n l.invariant.3 c.two_at.ensures.0 c.at_most-from.ensures c.at_most-next.ensures c.args.k
+    stands c.args.s.now l.p l.n l.invariant.3 c.two_at.ensures.0 c.min-from.ensures c.min-next.ensures c.args.k
     c.if-k-ge-MOST_CALENDARS.false c.if-n-k.true c.loop-p-test.true
 
 pub loop-p-smaller : goal.loop-p-smaller
@@ -25,11 +22,11 @@ loop-p-smaller c = omega (arith, c.loop-p.invariant.0, c.if-k-ge-MOST_CALENDARS.
 pub loop-p-preserved : goal.loop-p-preserved
 loop-p-preserved c = let l = c.loop-p in (
   omega (arith, l.invariant.0, c.if-n-k.false),
-  omega (arith, c.at_most-next.ensures),
+  omega (arith, c.min-next.ensures),
   omega
-      (arith, c.at_most-next.ensures, c.two_at.ensures.1, l.invariant.2),
+      (arith, c.min-next.ensures, c.two_at.ensures.1, l.invariant.2),
   next c.args.s.now l.p l.n l.invariant.3 c.two_at.ensures.0
-      c.at_most-from.ensures c.at_most-next.ensures,
+      c.min-from.ensures c.min-next.ensures,
 )
 
 pub returns : goal.returns

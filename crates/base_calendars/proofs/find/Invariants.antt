@@ -1,9 +1,7 @@
-use native.Mathlib.Omega.{arith}
-use mathlib.Core.Path.{◌≡◌, refl}
-use Prim.Native.Nat.{◌+◌, ◌*◌, ◌≤◌, ◌-◌}
+use mathlib.Core.Path.{◌≡◌}
+use Prim.Native.Nat.{◌*◌, ◌≤◌, ◌-◌}
 use lib.ListN.{length, drop}
-use Rattle.base_calendars.proofs.Finding.{skip, beyond, ended, stands, next}
-use borrow.Author.Rules.{rules}
+use Rattle.base_calendars.proofs.Finding.{skip}
 use Rattle.base_calendars.proofs.find.Given as goal
 
 abbrev pub invariant-loop-p : goal.invariant-loop-p

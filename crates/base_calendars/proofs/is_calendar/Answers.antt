@@ -1,6 +1,5 @@
 -- `base_calendars::is_calendar`: a header, as many bytes behind it as it says, and kind 24.
 use Rattle.base_calendars.proofs.Records.{short, cut, by_kind}
-use borrow.Author.Rules.{rules}
 use Rattle.base_calendars.proofs.is_calendar.Goals as goal
 
 pub returns-then-s-lt-HEADER : goal.returns-then-s-lt-HEADER

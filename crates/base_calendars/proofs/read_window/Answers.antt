@@ -1,7 +1,6 @@
 -- `base_calendars::read_window`: the three numbers of a window at their bytes.
 use Prim.Native.Nat.{◌+◌, ◌*◌}
 use Rattle.base_calendars.proofs.Windows.{window-read}
-use borrow.Author.Rules.{rules}
 use Rattle.base_calendars.proofs.read_window.Goals as goal
 
 pub returns : goal.returns

@@ -1,6 +1,5 @@
 -- `base_calendars::record_fits`: a whole record of kind 24, and then its content.
 use Rattle.base_calendars.proofs.Records.{end-within, by-content, no_record}
-use borrow.Author.Rules.{rules}
 use Rattle.base_calendars.proofs.record_fits.Goals as goal
 
 pub slice_bounds-content_fits-end : goal.slice_bounds-content_fits-end

@@ -1,5 +1,5 @@
 -- `base_checkpoints::checkpointed_cell` meets its contract, by Laws.
-use Rattle.std.proofs.Common.{sym, ◌∙◌, arith, to_z-of_z, rules}
+use Rattle.std.proofs.Common.{to_z-of_z}
 use Rattle.base_signed.proofs.SignedWords.{fits}
 use Rattle.base_checkpoints.proofs.Laws.{uses, cell-checkpointed, cell_other}
 use Rattle.base_checkpoints.proofs.checkpointed_cell.Goals as goal
@@ -12,9 +12,3 @@ returns-then-uses_checkpoint c = rw (to_z-of_z (fits c.signed_of.type_inv)) (cel
 
 pub returns : goal.returns
 returns c = rw (to_z-of_z (fits c.cell.type_inv)) (cell_other c.description-w.ensures c.uses_checkpoint.ensures c.if-uses_checkpoint.false c.cell.ensures)
-
-pub checkpointed_word-requires : goal.checkpointed_word-requires
-checkpointed_word-requires c = sym c.uses_checkpoint.ensures ∙ c.if-uses_checkpoint.true
-
-pub signed_of-requires : goal.signed_of-requires
-signed_of-requires c = omega (arith, c.checkpointed_word.type_inv)

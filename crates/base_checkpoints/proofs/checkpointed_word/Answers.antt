@@ -1,5 +1,5 @@
 -- `base_checkpoints::checkpointed_word` meets its contract, by Laws.
-use Rattle.std.proofs.Common.{refl, arith, rules}
+use Rattle.std.proofs.Common.{refl, arith}
 use Rattle.base_checkpoints.proofs.Laws.{uses, place-low, word_low, word-high}
 use Rattle.base_checkpoints.proofs.checkpointed_word.Goals as goal
 
@@ -24,26 +24,11 @@ returns c = word-high c.args.«data».now c.args.w c.args.m c.args.r c.args.c c.
 pub column_place-p-requires : goal.column_place-p-requires
 column_place-p-requires c = omega (arith, (uses refl c.requires).few)
 
-pub overflow_mul-sum_down : goal.overflow_mul-sum_down
-overflow_mul-sum_down c = omega arith
-
 pub overflow_add-r : goal.overflow_add-r
 overflow_add-r c = omega (arith, (uses refl c.requires).row)
 
 pub overflow_sub-r : goal.overflow_sub-r
 overflow_sub-r c = omega (arith, (uses refl c.requires).behind)
 
-pub overflow_cast-m : goal.overflow_cast-m
-overflow_cast-m c = omega arith
-
-pub overflow_mul-sum_down-2 : goal.overflow_mul-sum_down-2
-overflow_mul-sum_down-2 c = omega arith
-
 pub overflow_add-r-2 : goal.overflow_add-r-2
 overflow_add-r-2 c = omega (arith, (uses refl c.requires).row)
-
-pub overflow_sub-r-2 : goal.overflow_sub-r-2
-overflow_sub-r-2 c = omega (arith, c.if-r-lt-SECOND_ROW.false)
-
-pub overflow_cast-m-2 : goal.overflow_cast-m-2
-overflow_cast-m-2 c = omega (arith, c.ranges.m)

@@ -1,6 +1,5 @@
 -- `base_checkpoints::tall` meets its contract, by Laws.
 use Rattle.base_checkpoints.proofs.Laws.{tall-rows, tall-none}
-use Rattle.std.proofs.Common.{rules}
 use Rattle.base_checkpoints.proofs.tall.Goals as goal
 
 pub returns-then-by_columns : goal.returns-then-by_columns

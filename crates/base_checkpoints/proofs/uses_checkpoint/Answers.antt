@@ -1,6 +1,5 @@
 -- `base_checkpoints::uses_checkpoint` meets its contract, by Laws.
 use Rattle.base_checkpoints.proofs.Laws.{unused-row, unused-column, unused-wide, unused-first, used-by, unused-rows}
-use Rattle.std.proofs.Common.{rules}
 use Rattle.base_checkpoints.proofs.uses_checkpoint.Goals as goal
 
 pub returns-then-rows-r : goal.returns-then-rows-r

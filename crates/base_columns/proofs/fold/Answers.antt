@@ -1,5 +1,5 @@
 -- `base_columns::fold` folds the wrapped difference, whichever sign it has. Assumes nothing.
-use Rattle.std.proofs.Common.{sym, arith, rules}
+use Rattle.std.proofs.Common.{sym, arith}
 use Rattle.spec_encoding.proofs.Folding.{fold-low, fold-high}
 use Rattle.base_columns.proofs.WrittenColumns.{fold_is}
 use Rattle.base_columns.proofs.fold.Goals as goal

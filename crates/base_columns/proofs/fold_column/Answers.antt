@@ -1,31 +1,16 @@
 -- `base_columns::fold_column`: the rows so far are folded. Assumes nothing.
-use Rattle.std.proofs.Common.{◌-◌, arith, rules}
-use Rattle.base_columns.proofs.WrittenColumns.{Folding, folding-first, fold-reads, fold-room, fold_next, fold_done}
+use Rattle.std.proofs.Common.{arith}
+use Rattle.base_columns.proofs.WrittenColumns.{folding-first, fold-room, fold_next, fold_done}
 use Rattle.base_columns.proofs.fold_column.Goals as goal
 
 pub loop-r-init : goal.loop-r-init
-loop-r-init c = folding-first c.args.c.now c.args.d.now c.args.from c.args.step c.args.to c.args.n
+loop-r-init c = folding-first c.args.c.now c.args.d.now c.args.from c.args.step c.args.to
 
 pub loop-r-preserved : goal.loop-r-preserved
 loop-r-preserved c = fold_next c.loop-r.invariant c.requires c.loop-r-test.true c.word_in-x.ensures c.fold-y.ensures c.put.ensures
 
-pub word_in-x-requires : goal.word_in-x-requires
-word_in-x-requires c = fold-reads c.loop-r.invariant c.requires c.loop-r-test.true
-
 pub put-requires : goal.put-requires
 put-requires c = fold-room c.loop-r.invariant c.requires c.loop-r-test.true
 
-pub overflow_add-i : goal.overflow_add-i
-overflow_add-i c = omega (arith, fold-reads c.loop-r.invariant c.requires c.loop-r-test.true, c.requires.most)
-
-pub overflow_add-o : goal.overflow_add-o
-overflow_add-o c = omega (arith, fold-room c.loop-r.invariant c.requires c.loop-r-test.true)
-
-pub overflow_add-r : goal.overflow_add-r
-overflow_add-r c = omega (arith, c.loop-r-test.true)
-
-pub shape_of-d : goal.shape_of-d
-shape_of-d c = c.loop-r.invariant.done.long
-
 pub returns : goal.returns
-returns c = fold_done c.loop-r.invariant c.loop-r-test.false
+returns c = fold_done c.loop-r.invariant (omega (arith, c.loop-r-test.false))

@@ -2,7 +2,6 @@
 use native.Mathlib.Omega.{arith}
 use Rattle.spec_calendar.specs.Dates.{on}
 use Rattle.base_dates.proofs.Exits.{date-not, in_order, date-by-day}
-use borrow.Author.Rules.{rules}
 use Rattle.base_dates.proofs.date_exists.Goals as goal
 
 pub returns-then-year-lt-FIRST_YEAR : goal.returns-then-year-lt-FIRST_YEAR

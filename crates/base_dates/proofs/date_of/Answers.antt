@@ -2,11 +2,10 @@
 use native.Mathlib.Omega.{arith}
 use Prim.Native.Nat.{◌-◌}
 use Rattle.base_dates.proofs.Exits.{date-refused, within-year, date-given}
-use borrow.Author.Rules.{rules}
 use Rattle.base_dates.proofs.date_of.Goals as goal
 
 pub returns-then-n-ge-DAYS : goal.returns-then-n-ge-DAYS
-returns-then-n-ge-DAYS c = date-refused c.args.n c.if-n-ge-DAYS.true
+returns-then-n-ge-DAYS c = date-refused c.args.n c.if-n-ge-DAYS.true c.number.ensures
 
 pub month_of-m-requires : goal.month_of-m-requires
 month_of-m-requires c = within-year c.args.n c.year_of-k.ensures c.leap-l.ensures (omega (arith, c.first_day.ensures))

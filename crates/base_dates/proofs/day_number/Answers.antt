@@ -1,7 +1,6 @@
 -- `base_dates::day_number`: the day number, or 41.
 use Rattle.spec_calendar.specs.Dates.{on}
 use Rattle.base_dates.proofs.Exits.{date-there, day-given, day-refused}
-use borrow.Author.Rules.{rules}
 use Rattle.base_dates.proofs.day_number.Goals as goal
 
 pub number_of-requires : goal.number_of-requires
@@ -13,4 +12,4 @@ returns-then-date_exists c = let a = c.args in
     day-given (on a.year a.month a.day) c.date_exists.ensures c.if-date_exists.true c.number_of.ensures
 
 pub returns : goal.returns
-returns c = let a = c.args in day-refused (on a.year a.month a.day) c.date_exists.ensures c.if-date_exists.false
+returns c = let a = c.args in day-refused (on a.year a.month a.day) c.date_exists.ensures c.if-date_exists.false c.number.ensures

@@ -1,6 +1,5 @@
 -- `base_dates::first_day`: each entry of the table is the first day of its year.
 use Rattle.base_dates.proofs.Tables.{first_days, rule}
-use borrow.Author.Rules.{rules}
 use Rattle.base_dates.proofs.first_day.Goals as goal
 
 pub returns : goal.returns

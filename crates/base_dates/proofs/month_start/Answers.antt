@@ -1,7 +1,6 @@
 -- `base_dates::month_start`: the table of a plain year, a day later from March on in a leap year.
 use native.Mathlib.Omega.{arith}
 use Rattle.base_dates.proofs.Tables.{month_starts, starts-most, start-later, start-early, start_plain}
-use borrow.Author.Rules.{rules}
 use Rattle.base_dates.proofs.month_start.Goals as goal
 
 pub overflow_add-result : goal.overflow_add-result

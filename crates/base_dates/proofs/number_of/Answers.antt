@@ -1,7 +1,6 @@
 -- `base_dates::number_of`: the three parts of the sum.
 use native.Mathlib.Omega.{arith}
 use Rattle.base_dates.proofs.Exits.{day-small, sum-small, sum_is}
-use borrow.Author.Rules.{rules}
 use Rattle.base_dates.proofs.number_of.Goals as goal
 
 pub overflow_sub-month : goal.overflow_sub-month

@@ -4,7 +4,6 @@ use mir.Facts.{to_z-of_z}
 use Rattle.spec_calendar.specs.Hours.{not_before}
 use Rattle.spec_hours.specs.CalendarBytes.{windows_of}
 use Rattle.base_hours.proofs.Minutes.{first-minute, years-over}
-use borrow.Author.Rules.{rules}
 use Rattle.base_hours.proofs.first_from.Goals as goal
 
 pub returns-then-f-lt-MINUTES : goal.returns-then-f-lt-MINUTES

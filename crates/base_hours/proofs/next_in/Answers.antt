@@ -1,8 +1,6 @@
 -- `base_hours::next_in`: the next window of the weekday, the one that has begun, or that of a week on.
-use native.Mathlib.Omega.{arith}
 use Rattle.base_calendars.specs.Contract.{window_in}
 use Rattle.base_hours.proofs.Windows.{no-weekday, no-minute, no-first, at-start, at_once, a-week-on}
-use borrow.Author.Rules.{rules}
 use Rattle.base_hours.proofs.next_in.Goals as goal
 
 pub returns-then-x-gt6 : goal.returns-then-x-gt6

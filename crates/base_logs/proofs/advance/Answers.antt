@@ -1,6 +1,5 @@
 -- `base_logs::advance`: the rows behind each move. Assumes nothing.
 use Rattle.base_logs.proofs.Moves.{after-pair, after_first, after-second}
-use borrow.Author.Rules.{rules}
 use Rattle.base_logs.proofs.advance.Goals as goal
 
 pub returns-in-Pair : goal.returns-in-Pair

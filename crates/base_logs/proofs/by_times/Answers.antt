@@ -1,6 +1,5 @@
 -- `base_logs::by_times`: each way out is `times_move`'s. Assumes nothing.
 use Rattle.base_logs.proofs.Moves.{move-first, move-second, move-pair}
-use borrow.Author.Rules.{rules}
 use Rattle.base_logs.proofs.by_times.Goals as goal
 
 pub returns-then-a-t : goal.returns-then-a-t

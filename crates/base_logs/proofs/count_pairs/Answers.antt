@@ -1,25 +1,10 @@
 -- `base_logs::count_pairs`: the pairs so far, and those that are left. Assumes nothing.
-use Prim.Native.Nat.{◌+◌, ◌-◌}
 use native.Mathlib.Omega.{arith}
-use Rattle.base_tables.specs.Description.{rows_in}
-use Rattle.base_logs.proofs.Moves.{Counting, counting-first, counting-next, counting-done, counting-few}
-use borrow.Author.Rules.{rules}
+use Rattle.base_logs.proofs.Moves.{counting-first, counting-next, counting-done, counting-few}
 use Rattle.base_logs.proofs.count_pairs.Goals as goal
 
 pub loop-r-init : goal.loop-r-init
 loop-r-init c = counting-first c.args.data.now c.args.a c.args.b c.args.t c.first_rows-r.ensures
-
-pub overflow_add-r : goal.overflow_add-r
-overflow_add-r c = omega (arith, c.loop-r.invariant.standing.first-in, c.loop-r.invariant.standing.second-in)
-
-pub overflow_add-m : goal.overflow_add-m
-overflow_add-m c = omega (arith, c.rows-m.ensures, c.rows-n.ensures)
-
-pub next_move-v-requires : goal.next_move-v-requires
-next_move-v-requires c = c.requires.tolerance
-
-pub advance-r-requires : goal.advance-r-requires
-advance-r-requires c = (omega (arith, c.loop-r.invariant.standing.first-in, c.requires.first_few), omega (arith, c.loop-r.invariant.standing.second-in, c.requires.second_few))
 
 pub counted-pairs-requires : goal.counted-pairs-requires
 counted-pairs-requires c = counting-few c.loop-r.invariant c.requires

@@ -1,8 +1,6 @@
 use Prim.Native.Nat.{◌+◌, ◌-◌}
-use native.Mathlib.Omega.{arith}
 use Rattle.base_tables.specs.Description.{rows_in}
-use Rattle.base_logs.proofs.Moves.{Counting, counting-first, counting-next, counting-done, counting-few}
-use borrow.Author.Rules.{rules}
+use Rattle.base_logs.proofs.Moves.{Counting}
 use Rattle.base_logs.proofs.count_pairs.Given as goal
 
 abbrev pub invariant-loop-r : goal.invariant-loop-r

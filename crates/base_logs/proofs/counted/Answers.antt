@@ -1,6 +1,5 @@
 -- `base_logs::counted`: one more for a pair. Assumes nothing.
 use Rattle.base_logs.proofs.Moves.{counted-pair, counted-first, counted-second}
-use borrow.Author.Rules.{rules}
 use Rattle.base_logs.proofs.counted.Goals as goal
 
 pub returns-in-Pair : goal.returns-in-Pair

@@ -2,7 +2,6 @@
 use mathlib.Core.Path.{ap₂}
 use Prim.Native.Nat.{ℕ}
 use Rattle.base_logs.specs.Moves.{first_rows}
-use borrow.Author.Rules.{rules}
 use Rattle.base_logs.proofs.first_rows.Goals as goal
 
 pub returns : goal.returns

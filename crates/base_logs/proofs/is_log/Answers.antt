@@ -1,6 +1,5 @@
 -- `base_logs::is_log`: no table, no list, or by its times. Assumes nothing.
 use Rattle.base_logs.proofs.Times.{log-absent, log-other, log-list}
-use borrow.Author.Rules.{rules}
 use Rattle.base_logs.proofs.is_log.Goals as goal
 
 pub returns-then-columns-eq0 : goal.returns-then-columns-eq0

@@ -1,11 +1,7 @@
 -- `base_logs::lay_records`: three heads, then the cells. Assumes nothing.
 use native.Mathlib.Omega.{arith}
 use Rattle.base_logs.proofs.ThreeRecords.{pairs-few, counted-logs, three-records, tables-apart}
-use borrow.Author.Rules.{rules}
 use Rattle.base_logs.proofs.lay_records.Goals as goal
-
-pub count_pairs-pairs-requires : goal.count_pairs-pairs-requires
-count_pairs-pairs-requires c = c.requires.0
 
 pub overflow_sub-firsts : goal.overflow_sub-firsts
 overflow_sub-firsts c = (pairs-few c.args.data.now c.requires.0 c.rows.ensures c.count_pairs-pairs.ensures).0

@@ -1,7 +1,6 @@
 -- `base_logs::lay_row`: a pair's or a single's bytes at its table's place. Assumes nothing.
 use native.Mathlib.Omega.{arith}
 use Rattle.base_logs.proofs.Laying.{laid-pair, laid-first, laid-second, room-pair, room-first, room-second}
-use borrow.Author.Rules.{rules}
 use Rattle.base_logs.proofs.lay_row.Goals as goal
 
 pub put-requires : goal.put-requires

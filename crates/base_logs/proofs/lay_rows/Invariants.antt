@@ -1,8 +1,6 @@
 use Prim.Native.Nat.{◌+◌, ◌-◌}
-use native.Mathlib.Omega.{arith}
 use Rattle.base_tables.specs.Description.{rows_in}
-use Rattle.base_logs.proofs.Laying.{Laying, laying-first, laying-room, laying-next, laying-done}
-use borrow.Author.Rules.{rules}
+use Rattle.base_logs.proofs.Laying.{Laying}
 use Rattle.base_logs.proofs.lay_rows.Given as goal
 
 abbrev pub invariant-loop-r : goal.invariant-loop-r

@@ -1,15 +1,9 @@
 -- `base_logs::never_falls`: what is left of the times decides. Assumes nothing.
-use Prim.Native.Nat.{◌-◌}
-use native.Mathlib.Omega.{arith}
-use Rattle.base_logs.proofs.Times.{Falling, falling-first, falling-next, falls-here, falls-never}
-use borrow.Author.Rules.{rules}
+use Rattle.base_logs.proofs.Times.{falling-first, falling-next, falls-here, falls-never}
 use Rattle.base_logs.proofs.never_falls.Goals as goal
 
 pub loop-r-init : goal.loop-r-init
 loop-r-init c = falling-first c.args.data.now c.args.w c.rows-n.ensures
-
-pub word_of-x-requires : goal.word_of-x-requires
-word_of-x-requires c = omega (arith, c.loop-r.invariant.count, c.loop-r-test.true)
 
 pub returns-then-t-last : goal.returns-then-t-last
 returns-then-t-last c = falls-here c.loop-r.invariant c.loop-r-test.true c.word_of-x.ensures c.time-t.ensures.0 c.if-t-last.true

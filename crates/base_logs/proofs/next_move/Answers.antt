@@ -1,6 +1,5 @@
 -- `base_logs::next_move`: each way out is `rows_move`'s. Assumes nothing.
 use Rattle.base_logs.proofs.Moves.{first-over, second-over, both_left}
-use borrow.Author.Rules.{rules}
 use Rattle.base_logs.proofs.next_move.Goals as goal
 
 pub returns-then-m-r : goal.returns-then-m-r

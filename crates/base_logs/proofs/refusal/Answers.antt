@@ -1,7 +1,6 @@
 -- `base_logs::refusal`: 53, 54, 52, or none. Assumes nothing.
 use borrow.Author.Tests.{not-true, not-false}
 use Rattle.base_logs.proofs.OwnRefusals.{no-first, no_second, tolerance-beyond, target-short, target-long}
-use borrow.Author.Rules.{rules}
 use mathlib.Core.Path.{ap}
 use mathlib.Core.Bool.{not}
 use Rattle.base_logs.proofs.refusal.Goals as goal

@@ -1,7 +1,6 @@
 -- `base_logs::time`: four bytes counted from -2^31 on. Assumes nothing.
 use native.Mathlib.Omega.{arith}
 use Rattle.base_logs.proofs.Times.{time-is}
-use borrow.Author.Rules.{rules}
 use Rattle.base_logs.proofs.time.Goals as goal
 
 pub returns : goal.returns

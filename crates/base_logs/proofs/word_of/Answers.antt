@@ -1,6 +1,5 @@
 -- `base_logs::word_of`: by columns a sum, by rows four bytes. Assumes nothing.
 use Rattle.base_logs.proofs.Times.{below-columns, below_rows}
-use borrow.Author.Rules.{rules}
 use Rattle.base_logs.proofs.word_of.Goals as goal
 
 pub returns-then-by_columns : goal.returns-then-by_columns

@@ -1,5 +1,4 @@
 -- `base_scratch::clear` meets its contract, by Laws.
-use borrow.Author.Rules.{rules}
 use Rattle.base_scratch.specs.Map.{scratch_size}
 use Rattle.base_scratch.proofs.Laws.{wiped-front}
 use Rattle.base_scratch.proofs.clear.Goals as goal

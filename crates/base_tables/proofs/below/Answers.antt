@@ -1,5 +1,5 @@
 -- `base_tables::below` undoes a folded difference, whichever sign it has, and adds it. Assumes nothing.
-use Rattle.std.proofs.Common.{arith, rules}
+use Rattle.std.proofs.Common.{arith}
 use Rattle.base_tables.proofs.ByteReaders.{odd_part, below-is}
 use Rattle.base_tables.proofs.below.Goals as goal
 

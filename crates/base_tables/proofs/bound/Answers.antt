@@ -1,6 +1,5 @@
 -- `base_tables::bound`: each way out is one of `bound_in`'s. Assumes nothing.
 use Rattle.base_tables.proofs.ByteReaders.{bound-beside, bound-short, bound-inside}
-use Rattle.std.proofs.Common.{rules}
 use Rattle.base_tables.proofs.bound.Goals as goal
 
 pub returns-then-width-c : goal.returns-then-width-c

@@ -1,9 +1,9 @@
 -- `base_tables::cell`: each way out is one of `cell_in`'s. Assumes nothing.
-use Rattle.std.proofs.Common.{◌≡◌, ℕ, ◌/◌, ◌%◌, sym, refl, ap, ◌∙◌, arith, to_z-of_z, rules}
+use Rattle.std.proofs.Common.{◌≡◌, ℕ, ◌/◌, ◌%◌, sym, refl, ap, ◌∙◌, arith, to_z-of_z}
 use Rattle.spec_encoding.specs.Record.{Bytes, four}
 use Rattle.base_signed.proofs.SignedWords.{fits}
 use Rattle.base_tables.specs.Description.{one_kind, subset_in, kind_in, place_in, word_in}
-use Rattle.base_tables.proofs.ByteReaders.{rows_few, cell_below, cell-beside, cell-inside}
+use Rattle.base_tables.proofs.ByteReaders.{cell_below, cell-beside, cell-inside}
 use Rattle.base_tables.proofs.TableCells.{word-by-rows}
 use Rattle.base_tables.proofs.cell.Goals as goal
 

@@ -1,5 +1,4 @@
 -- `base_tables::cell_within`: one test for both ends. Assumes nothing.
-use Rattle.std.proofs.Common.{rules}
 use Rattle.base_tables.proofs.ColumnBounds.{cell-within-is}
 use Rattle.base_tables.proofs.cell_within.Goals as goal
 

@@ -1,5 +1,5 @@
 -- `base_tables::cell_word`: where no row is left out the stored word, else that of the row that is kept. Assumes nothing.
-use Rattle.std.proofs.Common.{refl, arith, rules}
+use Rattle.std.proofs.Common.{refl}
 use Rattle.base_tables.proofs.ByteReaders.{word-full, word_kept}
 use Rattle.base_tables.proofs.cell_word.Goals as goal
 

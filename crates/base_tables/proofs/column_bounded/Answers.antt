@@ -20,9 +20,3 @@ returns-then-b-lt-MOST_BOUND c = bound-low-rows c.args.kind c.requires c.four_in
 
 pub returns : goal.returns
 returns c = bound-high-either c.args.kind c.requires c.four_in-b.ensures.0 c.if-b-lt-MOST_BOUND.false
-
-pub sums_within-requires : goal.sums_within-requires
-sums_within-requires c = (c.requires, c.if-b-lt-MOST_BOUND.true)
-
-pub column_within-requires : goal.column_within-requires
-column_within-requires c = (c.requires, c.if-b-lt-MOST_BOUND.true)

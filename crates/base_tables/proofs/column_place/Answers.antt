@@ -1,5 +1,5 @@
 -- `base_tables::column_place` meets its contract, by ByteReaders.
-use Rattle.std.proofs.Common.{arith, rules}
+use Rattle.std.proofs.Common.{arith}
 use Rattle.base_tables.proofs.ByteReaders.{column-place-is}
 use Rattle.base_tables.proofs.column_place.Goals as goal
 

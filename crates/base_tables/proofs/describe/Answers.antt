@@ -1,6 +1,5 @@
 -- `base_tables::describe` packs the description. Assumes nothing.
 use Rattle.base_tables.proofs.ByteReaders.{describes}
-use Rattle.std.proofs.Common.{rules}
 use Rattle.base_tables.proofs.describe.Goals as goal
 
 pub returns : goal.returns

@@ -1,5 +1,4 @@
 -- `base_tables::description` meets its contract, by TableWords.
-use Rattle.std.proofs.Common.{rules}
 use Rattle.base_tables.proofs.TableWords.{description-none, description-is}
 use Rattle.base_tables.proofs.description.Goals as goal
 

@@ -1,5 +1,5 @@
 -- `base_tables::has_stretches` meets its contract, by Stretches. Assumes nothing.
-use Rattle.std.proofs.Common.{sym, rules}
+use Rattle.std.proofs.Common.{sym}
 use Rattle.base_signed.proofs.SignedWords.{no}
 use Rattle.base_tables.proofs.Stretches.{stretchable}
 use Rattle.base_tables.proofs.has_stretches.Goals as goal

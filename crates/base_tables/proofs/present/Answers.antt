@@ -1,5 +1,4 @@
 -- `base_tables::present` meets its contract, by TableWords.
-use Rattle.std.proofs.Common.{rules}
 use Rattle.base_tables.proofs.TableWords.{present-columns}
 use Rattle.base_tables.proofs.present.Goals as goal
 

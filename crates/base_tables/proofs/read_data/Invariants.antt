@@ -1,5 +1,5 @@
-use Rattle.std.proofs.Common.{◌-◌, length, sym, ◌∙◌, arith, rules}
-use Rattle.base_tables.proofs.ReadLoop.{ReadLoop, going-first, from-lent, going-ninth, going-refused, going-falls, going-number, going_next, going-ended}
+use Rattle.std.proofs.Common.{◌-◌, length}
+use Rattle.base_tables.proofs.ReadLoop.{ReadLoop}
 use Rattle.base_tables.proofs.read_data.Given as goal
 
 abbrev pub invariant-loop-p : goal.invariant-loop-p

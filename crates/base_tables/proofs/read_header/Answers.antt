@@ -1,5 +1,5 @@
 -- `base_tables::read_header`: each way out gives what `header_at` does. Assumes nothing.
-use Rattle.std.proofs.Common.{sym, ap, ◌∙◌, arith, rules}
+use Rattle.std.proofs.Common.{sym, ap, ◌∙◌, arith}
 use Rattle.spec_encoding.specs.Data.{is_kind}
 use Rattle.base_signed.proofs.SignedWords.{no}
 use Rattle.base_tables.proofs.ByteReaders.{header-bad, header-good}

@@ -1,5 +1,5 @@
 -- `base_tables::stretch` meets its contract, by Stretches. Assumes nothing.
-use Rattle.std.proofs.Common.{ℕ, ◌*◌, refl, ap, ◌∙◌, rules}
+use Rattle.std.proofs.Common.{ℕ, ◌*◌, refl, ap, ◌∙◌}
 use Rattle.base_tables.proofs.Stretches.{stretched}
 use Rattle.base_tables.proofs.stretch.Goals as goal
 

@@ -1,5 +1,4 @@
 -- `base_tables::table` meets its contract, by TableWords.
-use Rattle.std.proofs.Common.{rules}
 use Rattle.base_tables.proofs.TableWords.{table-few, table-past}
 use Rattle.base_tables.proofs.table.Goals as goal
 

@@ -1,5 +1,5 @@
 -- `base_tables::well_formed`: each way out is one of `fits`'s tests. Assumes nothing.
-use Rattle.std.proofs.Common.{arith, rules}
+use Rattle.std.proofs.Common.{arith}
 use Rattle.base_tables.proofs.ByteReaders.{unfit, fits-length}
 use Rattle.base_tables.proofs.well_formed.Goals as goal
 

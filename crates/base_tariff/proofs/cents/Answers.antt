@@ -8,7 +8,6 @@ use Rattle.spec_tariff.specs.Tariff.{charge}
 use Rattle.base_signed.proofs.SignedWords.{up}
 use Rattle.base_tariff.specs.Contract.{tariff_in}
 use Rattle.base_tariff.proofs.Laws.{header-in, cents-is, magnitude-most}
-use borrow.Author.Rules.{rules}
 use Rattle.base_tariff.proofs.cents.Goals as goal
 
 pub slice_bounds-charge-count : goal.slice_bounds-charge-count

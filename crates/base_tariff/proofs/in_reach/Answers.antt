@@ -4,7 +4,6 @@ use mir.Facts.{to_z-of_z, sfits_lit}
 use lib.IntN.{pos, nat_abs}
 use Rattle.base_signed.proofs.SignedWords.{lt-is}
 use Rattle.base_tariff.proofs.Laws.{below-0, from-0}
-use borrow.Author.Rules.{rules}
 use Rattle.base_tariff.proofs.in_reach.Goals as goal
 
 pub returns-then-x-lt0 : goal.returns-then-x-lt0

@@ -1,6 +1,5 @@
 -- `base_tariff::is_alone`: a header, kind 22, and as many bytes behind it as it says.
 use Rattle.base_tariff.proofs.Laws.{cut, other-kind, by_length}
-use borrow.Author.Rules.{rules}
 use Rattle.base_tariff.proofs.is_alone.Goals as goal
 
 pub returns-then-l-lt-HEADER : goal.returns-then-l-lt-HEADER

@@ -1,7 +1,6 @@
 -- `base_tariff::last_upper`: the upper draught of the last step.
 use native.Mathlib.Omega.{arith}
 use Rattle.base_tariff.proofs.Laws.{last-is}
-use borrow.Author.Rules.{rules}
 use Rattle.base_tariff.proofs.last_upper.Goals as goal
 
 pub returns : goal.returns

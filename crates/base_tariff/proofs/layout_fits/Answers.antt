@@ -1,7 +1,6 @@
 -- `base_tariff::layout_fits`: 1 to 16 steps, as many bytes as they take, uppers, rates, and the minimum.
 use borrow.Author.Tests.{not-true, not-false}
 use Rattle.base_tariff.proofs.Laws.{no_step, many-steps, other_length, not-rising, rate-above, by-minimum}
-use borrow.Author.Rules.{rules}
 use mathlib.Core.Path.{ap}
 use mathlib.Core.Bool.{not}
 use Rattle.base_tariff.proofs.layout_fits.Goals as goal

@@ -4,7 +4,6 @@ use Rattle.spec_encoding.specs.Record.{Bytes}
 use Rattle.spec_tariff.specs.Tariff.{last_upper}
 use Rattle.spec_tariff.specs.TariffBytes.{tariff_of}
 use Rattle.base_tariff.proofs.Laws.{header-in, content-is, some-step}
-use borrow.Author.Rules.{rules}
 use Rattle.base_tariff.proofs.reach.Goals as goal
 
 pub slice_bounds-last_upper-count : goal.slice_bounds-last_upper-count

@@ -1,6 +1,5 @@
 -- `base_tariff::tariff_fits`: one whole record of kind 22, and then its content.
 use Rattle.base_tariff.proofs.Laws.{header-within, by-content, no-tariff}
-use borrow.Author.Rules.{rules}
 use Rattle.base_tariff.proofs.tariff_fits.Goals as goal
 
 pub slice_bounds-layout_fits-count : goal.slice_bounds-layout_fits-count

@@ -8,6 +8,3 @@ use Rattle.base_text.proofs.say.Given as goal
 
 abbrev pub invariant-loop-i : goal.invariant-loop-i
 invariant-loop-i l = (length l.text ≡ length l.initial.text) × Lays l.limit (take l.i l.b) l.initial.text l.p l.text l.q
-
-abbrev pub decreases-loop-i : goal.decreases-loop-i
-decreases-loop-i l = length l.b - l.i

@@ -17,30 +17,6 @@ pub loop-i-init : goal.loop-i-init
 unfolding ascii spaced
 loop-i-init c = (refl, omega arith, lays-nil c.args.limit c.args.p c.args.text.now, omega arith)
 
-pub put-q-requires : goal.put-q-requires
-unfolding ascii spaced
-put-q-requires c = search rules
-
-pub offset_bounds-words-i : goal.offset_bounds-words-i
-unfolding ascii spaced
-offset_bounds-words-i c = search rules
-
-pub bounds-words-i : goal.bounds-words-i
-unfolding ascii spaced
-bounds-words-i c = search rules
-
-pub signed-q-requires : goal.signed-q-requires
-unfolding ascii spaced
-signed-q-requires c = search rules
-
-pub overflow_add-i : goal.overflow_add-i
-unfolding ascii spaced
-overflow_add-i c = search rules
-
-pub loop-i-smaller : goal.loop-i-smaller
-unfolding ascii spaced
-loop-i-smaller c = search rules
-
 pub loop-i-preserved : goal.loop-i-preserved
 unfolding ascii spaced
 loop-i-preserved c = let f = fits c.signed-arg-in-loop-i-1.given in (
@@ -49,10 +25,6 @@ loop-i-preserved c = let f = fits c.signed-arg-in-loop-i-1.given in (
   spaced-more c.args.words.now c.loop-i.i c.loop-i-test.true c.loop-i.invariant.2 c.put-q.ensures (lays-as (ap signed_decimal (to_z-of_z f)) c.signed-q.ensures),
   spaced-longer c.args.words.now c.loop-i.i c.loop-i-test.true f c.loop-i.invariant.3,
 )
-
-pub shape_of-text : goal.shape_of-text
-unfolding ascii spaced
-shape_of-text c = c.loop-i.invariant.0
 
 pub returns : goal.returns
 unfolding ascii spaced

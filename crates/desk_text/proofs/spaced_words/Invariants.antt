@@ -14,6 +14,3 @@ use Rattle.desk_text.proofs.spaced_words.Given as goal
 
 abbrev pub invariant-loop-i : goal.invariant-loop-i
 invariant-loop-i l = (length l.text ≡ length l.initial.text) × (l.i ≤ length l.words) × Lays l.limit (spaced (take l.i l.words)) l.initial.text l.p l.text l.q × (length (spaced (take l.i l.words)) ≤ 21 * l.i)
-
-abbrev pub decreases-loop-i : goal.decreases-loop-i
-decreases-loop-i l = length l.words - l.i

@@ -1,14 +1,15 @@
--- `engine::admit` meets its contract.
-use mathlib.Core.Path.{subst}
-use Rattle.front_end.specs.PrepareContract.{PreparePost}
-use borrow.Author.Rules.{rules}
-use Rattle.engine.proofs.admit.Reads as reads
-use Rattle.engine.proofs.admit.Lts as lts
-use Rattle.front_end.proofs.prepare.Reads as prepare-reads
+-- `engine::admit` meets its contract, by Calls.
+use Rattle.engine.proofs.Calls.{admit-scant, admit-room, admit-refused, admit-accepted}
 use Rattle.engine.proofs.admit.Goals as goal
 
-pub returns-in-Refused : goal.returns-in-Refused
-returns-in-Refused c = record { is = (c.if-scratch-lt-WORDS.false, subst (PreparePost _ _ _ _) c.in-Refused.is c.prepare.ensures) }
+pub returns-then-scratch-lt-WORDS : goal.returns-then-scratch-lt-WORDS
+returns-then-scratch-lt-WORDS c = admit-scant c.if-scratch-lt-WORDS.true c.from.ensures.0 c.from.ensures.1
 
-pub returns-in-Accepted : goal.returns-in-Accepted
-returns-in-Accepted c = record { is = (c.if-scratch-lt-WORDS.false, subst (PreparePost _ _ _ _) c.in-Accepted.is c.prepare.ensures) }
+pub returns-in-Ok : goal.returns-in-Ok
+returns-in-Ok c = admit-accepted c.if-scratch-lt-WORDS.false c.prepare.ensures c.in-Ok.is
+
+pub conclude-requires : goal.conclude-requires
+conclude-requires c = admit-room c.if-scratch-lt-WORDS.false c.prepare.ensures
+
+pub returns-in-Err : goal.returns-in-Err
+returns-in-Err c = admit-refused c.if-scratch-lt-WORDS.false c.prepare.ensures c.in-Err.is c.conclude.ensures

@@ -1,38 +1,18 @@
 -- `engine::dislogha_answer_by_loops` meets its contract, by Calls.
 use Rattle.spec_outcome.specs.Outcome.{looped, by_loops}
-use Rattle.engine.proofs.Calls.{room-refused, asked, room-answered, answer-scant, answer-refused, answer-given}
-use borrow.Author.Rules.{rules}
-use Rattle.engine.proofs.dislogha_answer_by_loops.Reads as reads
-use Rattle.engine.proofs.dislogha_answer_by_loops.Lts as lts
-use Rattle.engine.proofs.admit.Reads as admit-reads
-use Rattle.engine.proofs.finish.Reads as finish-reads
-use Rattle.loop_answer.proofs.answer.Reads as answer-reads
+use Rattle.engine.proofs.Calls.{asked, room-answered, answer-refused, answer-given}
 use Rattle.engine.proofs.dislogha_answer_by_loops.Goals as goal
 
-pub finish-requires : goal.finish-requires
-finish-requires c = room-refused c.admit.ensures c.in-Refused.is
+pub answer-outcome-requires : goal.answer-outcome-requires
+answer-outcome-requires c = asked c.admit.ensures c.in-Ok.is
 
-pub answer-requires : goal.answer-requires
-answer-requires c = asked c.admit.ensures c.in-Accepted.is
+pub conclude-requires : goal.conclude-requires
+conclude-requires c = room-answered c.admit.ensures looped c.in-Ok.is c.answer-outcome.ensures
 
-pub finish-requires-in-Short : goal.finish-requires-in-Short
-finish-requires-in-Short c = room-answered c.admit.ensures looped c.in-Accepted.is c.answer.ensures
-
-pub finish-requires-in-Length : goal.finish-requires-in-Length
-finish-requires-in-Length c = room-answered c.admit.ensures looped c.in-Accepted.is c.answer.ensures
-
-pub returns-in-Scant : goal.returns-in-Scant
+pub returns-in-Err : goal.returns-in-Err
 unfolding by_loops
-returns-in-Scant c = answer-scant c.admit.ensures looped c.in-Scant.is
+returns-in-Err c = answer-refused c.admit.ensures looped c.in-Err.is
 
-pub returns-in-Refused : goal.returns-in-Refused
+pub returns-in-Ok : goal.returns-in-Ok
 unfolding by_loops
-returns-in-Refused c = answer-refused c.admit.ensures looped c.in-Refused.is c.finish.ensures
-
-pub returns-in-Short : goal.returns-in-Short
-unfolding by_loops
-returns-in-Short c = answer-given c.admit.ensures looped c.in-Accepted.is c.answer.ensures c.in-Short.is c.finish-in-Short.ensures
-
-pub returns-in-Length : goal.returns-in-Length
-unfolding by_loops
-returns-in-Length c = answer-given c.admit.ensures looped c.in-Accepted.is c.answer.ensures c.in-Length.is c.finish-in-Length.ensures
+returns-in-Ok c = answer-given c.admit.ensures looped c.in-Ok.is c.answer-outcome.ensures c.conclude.ensures

@@ -4,13 +4,10 @@ use mathlib.Core.Path.{refl, sym, subst, ◌∙◌}
 use lib.IntN.{pos}
 use mir.Facts.{to_z-of_z, sfits_lit}
 use Rattle.base_signed.proofs.SignedWords.{fits, same-is}
-use Rattle.form_words.specs.FormTree.{left}
 use Rattle.form_words.proofs.NodeWords.{look-number, look-truth, look-cell, look-binary, look-negation, look-operator, look-comprehension, leaf-recast}
 use Rattle.exec_terms.specs.Contract.{ScalarPost}
 use Rattle.form_words.proofs.Operands.{truth-behind, branch-past}
 use Rattle.exec_terms.proofs.ReaderExits.{s-number, s-truth, s-cell, s-out, s-rest, s-operated, s-negation, s-choice, s-open, s-comp}
-use borrow.Author.Rules.{rules}
-use Prim.Native.Nat.{ℕ, ◌+◌, ◌<◌}
 use Rattle.exec_terms.proofs.+operand_scalar.Goals as goal
 
 pub operand-scalar-requires : goal.operand-scalar-requires
@@ -28,38 +25,20 @@ operand-returns-in-Other t c = subst (ScalarPost c.args.data.now c.args.s.now c.
 pub scalar-returns-then-i-ge-FORM_WORDS : goal.scalar-returns-then-i-ge-FORM_WORDS
 scalar-returns-then-i-ge-FORM_WORDS t c = s-out c.if-i-ge-FORM_WORDS.true
 
-pub scalar-overflow_add-i : goal.scalar-overflow_add-i
-scalar-overflow_add-i t c = omega (arith, c.if-i-ge-FORM_WORDS.false)
-
 pub scalar-operand-a-requires : goal.scalar-operand-a-requires
 scalar-operand-a-requires t c = let w = look-binary {s = c.args.s.now} c.if-i-ge-FORM_WORDS.false c.word-w.ensures c.arg-x.ensures c.kind.ensures c.in-6.is c.from_number-o.ensures refl in (omega (arith, c.decreases, w.inside.0, w.inside.1), tt)
-
-pub scalar-overflow_add-i-in-6 : goal.scalar-overflow_add-i-in-6
-scalar-overflow_add-i-in-6 t c = omega (arith, c.if-i-ge-FORM_WORDS.false)
 
 pub scalar-operand-b-requires : goal.scalar-operand-b-requires
 scalar-operand-b-requires t c = let w = look-binary {s = c.args.s.now} c.if-i-ge-FORM_WORDS.false c.word-w.ensures c.arg-x.ensures c.kind.ensures c.in-6.is c.from_number-o.ensures c.next.ensures in (omega (arith, c.decreases, w.inside.0, w.inside.1), tt)
 
-pub scalar-overflow_add-i-in-7 : goal.scalar-overflow_add-i-in-7
-scalar-overflow_add-i-in-7 t c = omega (arith, c.if-i-ge-FORM_WORDS.false)
-
 pub scalar-scalar-a-requires : goal.scalar-scalar-a-requires
 scalar-scalar-a-requires t c = let w = look-negation {s = c.args.s.now} c.if-i-ge-FORM_WORDS.false c.word-w.ensures c.arg-x.ensures c.kind.ensures c.in-7.is in (omega (arith, c.decreases, w.inside), tt)
-
-pub scalar-overflow_add-i-in-Choice : goal.scalar-overflow_add-i-in-Choice
-scalar-overflow_add-i-in-Choice t c = omega (arith, c.if-i-ge-FORM_WORDS.false)
 
 pub scalar-operand-c-requires : goal.scalar-operand-c-requires
 scalar-operand-c-requires t c = let w = look-operator {s = c.args.s.now} c.if-i-ge-FORM_WORDS.false c.word-w.ensures c.arg-x.ensures c.kind.ensures c.in-11.is c.from_number.ensures c.next-e.ensures in (omega (arith, c.decreases, truth-behind w c.upto.ensures, w.inside.0, w.inside.1), tt)
 
-pub scalar-overflow_add-i-in-Choice-2 : goal.scalar-overflow_add-i-in-Choice-2
-scalar-overflow_add-i-in-Choice-2 t c = omega (arith, c.if-i-ge-FORM_WORDS.false)
-
 pub scalar-operand-requires : goal.scalar-operand-requires
 scalar-operand-requires t c = let w = look-operator {s = c.args.s.now} c.if-i-ge-FORM_WORDS.false c.word-w.ensures c.arg-x.ensures c.kind.ensures c.in-11.is c.from_number.ensures c.next-e.ensures in (omega (arith, c.decreases, branch-past w _ c.branch-j.ensures, w.inside.0, w.inside.1), tt)
-
-pub scalar-overflow_add-i-in-Open : goal.scalar-overflow_add-i-in-Open
-scalar-overflow_add-i-in-Open t c = omega (arith, c.if-i-ge-FORM_WORDS.false)
 
 pub scalar-operand-t-requires : goal.scalar-operand-t-requires
 scalar-operand-t-requires t c = let w = look-operator {s = c.args.s.now} c.if-i-ge-FORM_WORDS.false c.word-w.ensures c.arg-x.ensures c.kind.ensures c.in-11.is c.from_number.ensures c.next-e.ensures in (omega (arith, c.decreases, truth-behind w c.upto-in-Open.ensures, w.inside.0, w.inside.1), tt)

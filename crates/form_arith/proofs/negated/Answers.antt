@@ -2,7 +2,6 @@
 use mir.Facts.{to_z-of_z}
 use Rattle.base_signed.proofs.SignedWords.{fits}
 use Rattle.form_arith.proofs.Exits.{negated-is}
-use borrow.Author.Rules.{rules}
 use Rattle.form_arith.proofs.negated.Goals as goal
 
 pub returns : goal.returns

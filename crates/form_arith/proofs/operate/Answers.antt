@@ -3,7 +3,6 @@ use lib.IntN.{◌+ℤ◌, ◌-ℤ◌, ◌*ℤ◌}
 use mir.Facts.{to_z-of_z}
 use Rattle.base_signed.proofs.SignedWords.{fits}
 use Rattle.form_arith.proofs.Exits.{plus-size, minus-size, times-size, result_ok, op-plus, op-minus, op-times, op-equal, op-less, op-and-no, op-and-yes, op-or-no, op-or-yes}
-use borrow.Author.Rules.{rules}
 use Rattle.form_arith.proofs.operate.Goals as goal
 
 pub overflow_add-result : goal.overflow_add-result

@@ -1,6 +1,5 @@
 -- `form_words::branch` meets its contract, by Operands.
 use Rattle.form_words.proofs.Operands.{branch-other, branch-first}
-use borrow.Author.Rules.{rules}
 use Rattle.form_words.proofs.branch.Goals as goal
 
 pub returns-then-other : goal.returns-then-other

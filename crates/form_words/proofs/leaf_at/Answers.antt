@@ -1,7 +1,5 @@
 -- `form_words::leaf_at` meets its contract, by NodeWords, base_signed/SignedWords.
-use borrow.Author.Rules.{rules}
 use mathlib.Core.Path.{◌∙◌}
-use native.Mathlib.Omega.{arith}
 use mir.Facts.{to_z-of_z}
 use Rattle.base_signed.proofs.SignedWords.{fits}
 use Rattle.form_words.proofs.NodeWords.{leaf-out, leaf-number, leaf-cell, leaf-rest}

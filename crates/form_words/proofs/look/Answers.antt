@@ -1,7 +1,5 @@
 -- `form_words::look` meets its contract, by NodeWords, base_signed/SignedWords.
-use borrow.Author.Rules.{rules}
 use mathlib.Core.Path.{refl, ◌∙◌}
-use native.Mathlib.Omega.{arith}
 use mir.Facts.{to_z-of_z}
 use Rattle.base_signed.proofs.SignedWords.{fits}
 use Rattle.form_words.proofs.NodeWords.{look-out, look-number, look-truth, look-row, look-cell, look-record, look-binary, look-negation, look-comprehension, look-generator, look-condition, look-operator, look-rest}

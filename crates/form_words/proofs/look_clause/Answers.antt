@@ -1,5 +1,4 @@
 -- `form_words::look_clause` meets its contract, by NodeWords.
-use borrow.Author.Rules.{rules}
 use Rattle.form_words.proofs.NodeWords.{clause-out, clause-generator, clause-condition, clause-head}
 use Rattle.form_words.proofs.look_clause.Goals as goal
 

@@ -1,5 +1,4 @@
 -- `form_words::monoid_of` meets its contract, by NodeWords.
-use borrow.Author.Rules.{rules}
 use Rattle.form_words.proofs.NodeWords.{monoid-out, monoid-is, monoid-rest}
 use Rattle.form_words.proofs.monoid_of.Goals as goal
 

@@ -1,5 +1,4 @@
 -- `form_words::number` meets its contract, by NodeWords.
-use borrow.Author.Rules.{rules}
 use Rattle.form_words.proofs.NodeWords.{number_ok, number_is}
 use Rattle.form_words.proofs.number.Goals as goal
 

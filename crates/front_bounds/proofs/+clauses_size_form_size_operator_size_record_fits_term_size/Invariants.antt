@@ -1,13 +1,7 @@
-use borrow.Author.Rules.{rules}
-use native.Mathlib.Omega.{arith}
-use mathlib.Core.Path.{refl}
-use Prim.Native.Nat.{◌+◌, ℕ, ◌<◌}
-use mir.Facts.{to_z-of_z}
-use Rattle.base_signed.proofs.SignedWords.{fits}
+use Prim.Native.Nat.{◌+◌}
 use Rattle.form_words.specs.FormTree.{left}
-use Rattle.form_words.proofs.NodeWords.{recast, recast_c, next_past}
 use Rattle.form_env.specs.Environment.{declared_in}
-use Rattle.front_bounds.proofs.CutBounds.{size_number, size-truth, size-row, size-cell, size-record, size-binary, size-negation, size-comprehension, size-operator, operator-terms, left_after, term-none, term-some, size-generator, size-condition, size-nothing, Sizing, sizing-first, sizing-generator, sizing-condition, sizing-head, Fitting, fitting-first, fitting-again, fitting-last}
+use Rattle.front_bounds.proofs.CutBounds.{Sizing, Fitting}
 use Rattle.front_bounds.proofs.+clauses_size_form_size_operator_size_record_fits_term_size.Given as goal
 
 abbrev pub decreases-clauses_size : goal.decreases-clauses_size

@@ -2,7 +2,6 @@
 use lib.ListN.{length}
 use Rattle.spec_hours.specs.CalendarBytes.{calendars_of}
 use Rattle.front_calendars.proofs.Exits.{lent-open, lent_other}
-use borrow.Author.Rules.{rules}
 use Rattle.front_calendars.proofs.node_lent.Goals as goal
 
 pub returns-then-kind-eq-KIND_OPEN : goal.returns-then-kind-eq-KIND_OPEN

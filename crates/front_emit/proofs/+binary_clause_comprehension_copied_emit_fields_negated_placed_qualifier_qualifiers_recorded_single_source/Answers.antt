@@ -1,18 +1,14 @@
 -- `front_emit`: `binary`, `clause`, `comprehension`, `copied`, `emit`, `fields`, `negated`, `placed`, `qualifier`, `qualifiers`, `recorded`, `single` and `source` meet their contracts together, by WriterExits, TermCalls, QualifierCalls, ConditionCalls.
 use native.Mathlib.Omega.{arith}
-use mathlib.Core.Path.{◌≡◌, refl, ◌∙◌}
-use lib.ListN.{length}
-use Prim.Native.Nat.{◌+◌, ◌-◌, ◌*◌, ℕ, ◌<◌}
+use mathlib.Core.Path.{refl, ◌∙◌}
 use Rattle.front_nodes.proofs.ReaderExits.{recast, looked-inside}
 use Rattle.front_resolve.specs.Resolved.{under}
 use Rattle.front_resolve.proofs.Exits.{picks-cast}
-use Rattle.front_emit.proofs.WriterExits.{moved, moved_f, moved_q, one-done, qual-source, qual-condition}
-use Rattle.front_emit.proofs.TermCalls.{term-place, term-done, has-place, two-below, not-below, comp-below, ends, ends-later, two-first, two-second, two-done, not_first, not_done, headed-small, record-first, record-done, field-first, FieldsLeft, left-all, left-none, left_less, one-has-place, one-first}
-use Rattle.front_emit.proofs.QualifierCalls.{copy-ok, copy-starts, copy_done, comp-first, comp-second, comp-written, quals-end, quals-first, quals-second, quals-written, qual-skipped, qual-silent, qual-source-first, qual-condition-first}
-use Rattle.front_emit.proofs.ConditionCalls.{source-comp, source-table, source-never, spliced-written, table-written, never-written, single-starts, both_first, some_first, split-cast, yields-starts, ClauseLeft, left-first, left-source, left-sourced, left-condition, left_one, left_and, left-some}
-use Rattle.front_emit.proofs.LeafForms.{heading-terms, heading-other, simple-starts, simple-written}
-use borrow.Author.Rules.{rules}
-use Prim.Native.Nat.{ℕ, ◌<◌}
+use Rattle.front_emit.proofs.WriterExits.{moved, moved_f, moved_q, one-done}
+use Rattle.front_emit.proofs.TermCalls.{has-place, two-below, not-below, comp-below, ends, ends-later, two-first, two-second, two-done, not_first, not_done, headed-small, record-first, record-done, field-first, left-none, left_less, one-has-place, one-first}
+use Rattle.front_emit.proofs.QualifierCalls.{copy-starts, comp-first, comp-second, comp-written, quals-end, quals-first, quals-second, quals-written, qual-skipped, qual-silent, qual-source-first, qual-condition-first}
+use Rattle.front_emit.proofs.ConditionCalls.{source-comp, source-table, source-never, spliced-written, table-written, never-written, single-starts, both_first, some_first, split-cast, yields-starts, left-condition, left_one, left_and, left-some}
+use Rattle.front_emit.proofs.LeafForms.{heading-other, simple-starts, simple-written}
 use borrow.Enum.Refused.{opened}
 use Rattle.front_emit.proofs.+binary_clause_comprehension_copied_emit_fields_negated_placed_qualifier_qualifiers_recorded_single_source.Goals as goal
 
@@ -31,21 +27,6 @@ binary-close-requires t c = let E = ends-later c.below.ensures (moved c.emit-q.e
 pub binary-returns : goal.binary-returns
 binary-returns t c = two-done c.requires.0 c.requires.1 c.below.ensures c.emit-q.ensures c.emit-r.ensures c.number.ensures.0 c.close.ensures
 
-pub clause-loop-s-init : goal.clause-loop-s-init
-clause-loop-s-init t c = (left-first c.requires.1 c.requires.0, refl)
-
-pub clause-resolve-h-requires : goal.clause-resolve-h-requires
-clause-resolve-h-requires t c = c.loop-s.invariant.0.long
-
-pub clause-source-requires : goal.clause-source-requires
-clause-source-requires t c = (omega (arith, c.decreases, c.loop-s.invariant.0.below, c.resolve-h.ensures.from.below), left-source c.loop-s.invariant.0 c.resolve-h.ensures c.if-ranging.true)
-
-pub clause-shape_of-s-then-ranging : goal.clause-shape_of-s-then-ranging
-clause-shape_of-s-then-ranging t c = c.source.auto.s ∙ c.loop-s.invariant.1
-
-pub clause-returns-then-ranging : goal.clause-returns-then-ranging
-clause-returns-then-ranging t c = left-sourced c.loop-s.invariant.0 c.resolve-h.ensures c.if-ranging.true c.source.ensures
-
 pub clause-clause-r-requires : goal.clause-clause-r-requires
 clause-clause-r-requires t c = let C = left-condition c.loop-s.invariant.0 c.resolve-h.ensures c.if-ranging.false in let w = (split-cast c.split_of.ensures c.in-And.is).is in (omega (arith, c.decreases, c.loop-s.invariant.0.below, c.resolve-h.ensures.from.below, (two-below C w).0), (both_first c.args.v C w, c.resolve-h.ensures.from.fine.long))
 
@@ -58,9 +39,6 @@ clause-loop-s-preserved-in-And t c = (left_and c.loop-s.invariant.0 c.resolve-h.
 pub clause-copied-r-requires : goal.clause-copied-r-requires
 clause-copied-r-requires t c = let C = left-condition c.loop-s.invariant.0 c.resolve-h.ensures c.if-ranging.false in let w = (split-cast c.split_of.ensures c.in-Some.is).is in (omega (arith, c.decreases, c.loop-s.invariant.0.below, c.resolve-h.ensures.from.below), some_first (yields-starts c.args.v w.1 C) w.0)
 
-pub clause-overflow_add-d : goal.clause-overflow_add-d
-clause-overflow_add-d t c = let C = left-condition c.loop-s.invariant.0 c.resolve-h.ensures c.if-ranging.false in let w = (split-cast c.split_of.ensures c.in-Some.is).is in omega (arith, (comp-below C w.0).1)
-
 pub clause-loop-s-smaller : goal.clause-loop-s-smaller
 clause-loop-s-smaller t c = let C = left-condition c.loop-s.invariant.0 c.resolve-h.ensures c.if-ranging.false in omega (arith, c.resolve-h.ensures.from.below, (comp-below C (split-cast c.split_of.ensures c.in-Some.is).is.0).0)
 
@@ -69,9 +47,6 @@ clause-loop-s-preserved t c = (left-some c.loop-s.invariant.0 c.resolve-h.ensure
 
 pub clause-single-requires : goal.clause-single-requires
 clause-single-requires t c = (omega (arith, c.decreases, c.loop-s.invariant.0.below, c.resolve-h.ensures.from.below), single-starts c.args.v (left-condition c.loop-s.invariant.0 c.resolve-h.ensures c.if-ranging.false) (split-cast c.split_of.ensures c.in-One.is).is)
-
-pub clause-shape_of-s-in-One : goal.clause-shape_of-s-in-One
-clause-shape_of-s-in-One t c = c.single.auto.s ∙ c.loop-s.invariant.1
 
 pub clause-returns-in-One : goal.clause-returns-in-One
 clause-returns-in-One t c = left_one c.loop-s.invariant.0 c.resolve-h.ensures c.if-ranging.false (split-cast c.split_of.ensures c.in-One.is) c.single.ensures
@@ -82,9 +57,6 @@ comprehension-below-requires t c = has-place c.requires.0
 pub comprehension-copied-q-requires : goal.comprehension-copied-q-requires
 comprehension-copied-q-requires t c = (omega (arith, c.decreases), comp-first c.requires.0 c.requires.1 c.below.ensures)
 
-pub comprehension-overflow_add-h : goal.comprehension-overflow_add-h
-comprehension-overflow_add-h t c = omega (arith, (comp-below c.requires.0 c.requires.1).1)
-
 pub comprehension-emit-r-requires : goal.comprehension-emit-r-requires
 comprehension-emit-r-requires t c = (omega (arith, c.decreases, (comp-below c.requires.0 c.requires.1).0), (comp-second c.requires.0 c.requires.1 c.below.ensures c.copied-q.ensures.0 c.copied-q.ensures.1, c.copied-q.ensures.1.long))
 
@@ -94,47 +66,17 @@ comprehension-close-requires t c = let E = ends-later c.below.ensures (moved_q c
 pub comprehension-returns : goal.comprehension-returns
 comprehension-returns t c = comp-written c.requires.0 c.requires.1 c.below.ensures c.copied-q.ensures.0 c.copied-q.ensures.1 c.emit-r.ensures c.bits.ensures.0 c.close.ensures
 
-pub copied-copy-requires : goal.copied-copy-requires
-copied-copy-requires t c = let k = copy-ok c.requires.0 c.requires.1 in (k.0, k.1, c.requires.0.fine.long)
-
-pub copied-overflow_add-h : goal.copied-overflow_add-h
-copied-overflow_add-h t c = omega (arith, (copy-ok c.requires.0 c.requires.1).0)
-
 pub copied-qualifiers-requires : goal.copied-qualifiers-requires
 copied-qualifiers-requires t c = (omega (arith, c.decreases, (comp-below c.requires.0 c.requires.1.is).0, c.prior.ensures, c.start_at-e.ensures.1), (copy-starts c.args.s.now c.args.st c.copy.ensures c.start_at-lo.ensures.0 c.prior.ensures c.start_at-e.ensures.0 c.joined.ensures c.requires.0 c.requires.1, c.copy.ensures.long))
 
-pub copied-returns : goal.copied-returns
-copied-returns t c = (copy_done c.args.s.now c.args.st c.copy.ensures c.start_at-lo.ensures.0 c.prior.ensures c.start_at-e.ensures.0 c.joined.ensures c.qualifiers.ensures, c.copy.ensures)
-
-pub emit-resolve-h-requires : goal.emit-resolve-h-requires
-emit-resolve-h-requires t c = c.requires.1
-
-pub emit-placed-requires : goal.emit-placed-requires
-emit-placed-requires t c = (omega (arith, c.decreases, c.resolve-h.ensures.from.below), term-place c.resolve-h.ensures c.requires.0)
-
-pub emit-returns : goal.emit-returns
-emit-returns t c = term-done c.resolve-h.ensures c.placed.ensures
-
-pub fields-loop-r-init : goal.fields-loop-r-init
-fields-loop-r-init t c = (left-all c.requires.0, refl)
-
-pub fields-shape_of-s-in-Nothing : goal.fields-shape_of-s-in-Nothing
-fields-shape_of-s-in-Nothing t c = c.loop-r.invariant.1
-
-pub fields-returns-in-Nothing : goal.fields-returns-in-Nothing
-fields-returns-in-Nothing t c = left-none c.loop-r.invariant.0 (picks-cast c.child.ensures c.in-Nothing.is)
+pub fields-returns : goal.fields-returns
+fields-returns t c = left-none c.loop-c.invariant.0 (picks-cast c.child.ensures c.in_default.is)
 
 pub fields-emit-r-requires : goal.fields-emit-r-requires
-fields-emit-r-requires t c = let P = picks-cast c.child.ensures c.in-At.is in (omega (arith, c.decreases, P.before), (field-first c.loop-r.invariant.0.starts c.requires.1 P, c.requires.0.fine.long))
+fields-emit-r-requires t c = let P = picks-cast c.child.ensures c.in-Some.is in (omega (arith, c.decreases, P.before), (field-first c.loop-c.invariant.0.starts c.requires.1 P, c.requires.0.fine.long))
 
-pub fields-overflow_add-k : goal.fields-overflow_add-k
-fields-overflow_add-k t c = omega (arith, c.loop-r.invariant.0.few, c.loop-r.invariant.0.starts.starts.room.room)
-
-pub fields-loop-r-smaller : goal.fields-loop-r-smaller
-fields-loop-r-smaller t c = omega (arith, c.loop-r.invariant.0.few, c.loop-r.invariant.0.starts.starts.room.room)
-
-pub fields-loop-r-preserved : goal.fields-loop-r-preserved
-fields-loop-r-preserved t c = (left_less c.loop-r.invariant.0 c.requires.1 (picks-cast c.child.ensures c.in-At.is) c.emit-r.ensures, c.emit-r.auto.s ∙ c.loop-r.invariant.1)
+pub fields-loop-c-preserved : goal.fields-loop-c-preserved
+fields-loop-c-preserved t c = (left_less c.loop-c.invariant.0 c.requires.1 (picks-cast c.child.ensures c.in-Some.is) c.emit-r.ensures, c.emit-r.auto.s ∙ c.loop-c.invariant.1)
 
 pub negated-below-requires : goal.negated-below-requires
 negated-below-requires t c = has-place c.requires.0
@@ -148,50 +90,20 @@ negated-close-requires t c = let E = ends c.below.ensures (not_first c.requires.
 pub negated-returns : goal.negated-returns
 negated-returns t c = not_done c.requires.0 c.requires.1 c.below.ensures c.emit-r.ensures c.close.ensures
 
-pub placed-recorded-requires : goal.placed-recorded-requires
-placed-recorded-requires t c = (omega (arith, c.decreases), (c.requires, heading-terms c.heading_of.ensures c.in-Terms.is))
-
-pub placed-binary-requires : goal.placed-binary-requires
-placed-binary-requires t c = (omega (arith, c.decreases), (c.requires, c.in-Two.is))
-
-pub placed-negated-requires : goal.placed-negated-requires
-placed-negated-requires t c = (omega (arith, c.decreases), (c.requires, c.in-Not.is))
-
-pub placed-comprehension-requires : goal.placed-comprehension-requires
-placed-comprehension-requires t c = (omega (arith, c.decreases), (c.requires, c.in-Comp.is))
-
 pub placed-simple-requires : goal.placed-simple-requires
-placed-simple-requires t c = simple-starts (under c.args.env.now c.args.h) (heading-other c.heading_of.ensures c.in-Other.is) (opened c.in_default.in_default-own.keys4) c.requires
-
-pub placed-returns-in-Terms : goal.placed-returns-in-Terms
-placed-returns-in-Terms t c = c.recorded.ensures
-
-pub placed-returns-in-Two : goal.placed-returns-in-Two
-placed-returns-in-Two t c = c.binary.ensures
-
-pub placed-returns-in-Not : goal.placed-returns-in-Not
-placed-returns-in-Not t c = c.negated.ensures
-
-pub placed-returns-in-Comp : goal.placed-returns-in-Comp
-placed-returns-in-Comp t c = c.comprehension.ensures
+placed-simple-requires t c = simple-starts (under c.args.env.now c.args.h) (heading-other c.heading_of.ensures c.in-None.is) (opened c.in_default.in_default-own.keys4) c.requires
 
 pub placed-returns-in_default : goal.placed-returns-in_default
-placed-returns-in_default t c = simple-written (under c.args.env.now c.args.h) (heading-other c.heading_of.ensures c.in-Other.is) (opened c.in_default.in_default-own.keys4) c.simple.ensures
+placed-returns-in_default t c = simple-written (under c.args.env.now c.args.h) (heading-other c.heading_of.ensures c.in-None.is) (opened c.in_default.in_default-own.keys4) c.simple.ensures
 
-pub qualifier-returns-then-n-eq0 : goal.qualifier-returns-then-n-eq0
-qualifier-returns-then-n-eq0 t c = qual-skipped c.args.env.now c.args.v c.requires.0 c.condition_count-n.ensures c.if-n-eq0.true
+pub qualifier-returns-then-condition_count-eq0 : goal.qualifier-returns-then-condition_count-eq0
+qualifier-returns-then-condition_count-eq0 t c = qual-skipped c.args.env.now c.args.v c.requires.0 c.condition_count.ensures c.if-condition_count-eq0.true
 
 pub qualifier-clause-requires : goal.qualifier-clause-requires
 qualifier-clause-requires t c = let L = recast c.look.ensures c.in-Gen.is in (omega (arith, c.decreases, looked-inside L), (qual-source-first c.args.env.now c.args.v c.requires.0 L, c.requires.1))
 
 pub qualifier-clause-requires-in-Cond : goal.qualifier-clause-requires-in-Cond
 qualifier-clause-requires-in-Cond t c = let L = recast c.look.ensures c.in-Cond.is in (omega (arith, c.decreases, looked-inside L), (qual-condition-first c.args.env.now c.args.v c.requires.0 L, c.requires.1))
-
-pub qualifier-returns-in-Gen : goal.qualifier-returns-in-Gen
-qualifier-returns-in-Gen t c = qual-source (recast c.look.ensures c.in-Gen.is).is c.clause.ensures
-
-pub qualifier-returns-in-Cond : goal.qualifier-returns-in-Cond
-qualifier-returns-in-Cond t c = qual-condition (recast c.look.ensures c.in-Cond.is).is c.clause-in-Cond.ensures
 
 pub qualifier-returns-in_default : goal.qualifier-returns-in_default
 qualifier-returns-in_default t c = qual-silent c.args.env.now c.args.v c.requires.0 c.look.ensures (opened c.in_default.in_default-own.keys3)

@@ -1,5 +1,4 @@
 -- `front_emit::collection_number` meets its contract, by SmallFunctions.
-use borrow.Author.Rules.{rules}
 use native.Mathlib.Omega.{arith}
 use mathlib.Core.Path.{◌∙◌, ap, sym}
 use Rattle.front_emit.proofs.SmallFunctions.{number_by, described, number-list}

@@ -1,6 +1,5 @@
 -- `front_emit::copy` meets its contract, by SmallFunctions.
 use Rattle.front_emit.proofs.SmallFunctions.{copy_is}
-use borrow.Author.Rules.{rules}
 use Rattle.front_emit.proofs.copy.Goals as goal
 
 pub returns : goal.returns

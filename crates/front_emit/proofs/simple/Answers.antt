@@ -1,7 +1,6 @@
 -- `front_emit::simple` meets its contract, by LeafForms.
-use borrow.Author.Rules.{rules}
 use native.Mathlib.Omega.{arith}
-use Rattle.front_emit.proofs.LeafForms.{one_place, cell-small, row_small, table-starts, simple-number, simple-truth, simple-row, simple-cell, simple-table, simple-rest}
+use Rattle.front_emit.proofs.LeafForms.{one_place, cell-small, row_small, table-starts, simple-number, simple-truth, simple-row, simple-cell, simple-rest}
 use borrow.Enum.Refused.{opened}
 use Rattle.front_emit.proofs.simple.Goals as goal
 
@@ -13,12 +12,6 @@ leaf-requires-in-Truth c = (omega arith, omega (arith, c.truth_number.ensures.1)
 
 pub leaf-requires-in-Row : goal.leaf-requires-in-Row
 leaf-requires-in-Row c = (omega arith, omega (arith, row_small c.requires c.in-Row.is), one_place c.requires)
-
-pub overflow_mul-k : goal.overflow_mul-k
-overflow_mul-k c = omega (arith, (cell-small c.requires c.in-Cell.is).0)
-
-pub overflow_add-k : goal.overflow_add-k
-overflow_add-k c = omega (arith, (cell-small c.requires c.in-Cell.is).0, (cell-small c.requires c.in-Cell.is).1)
 
 pub leaf-requires-in-Cell : goal.leaf-requires-in-Cell
 leaf-requires-in-Cell c = (omega arith, omega (arith, (cell-small c.requires c.in-Cell.is).0, (cell-small c.requires c.in-Cell.is).1), one_place c.requires)
@@ -40,9 +33,6 @@ returns-in-Row c = simple-row c.requires c.in-Row.is c.leaf-in-Row.ensures
 
 pub returns-in-Cell : goal.returns-in-Cell
 returns-in-Cell c = simple-cell c.requires c.in-Cell.is c.leaf-in-Cell.ensures
-
-pub returns-in-Table : goal.returns-in-Table
-returns-in-Table c = simple-table c.requires c.in-Table.is c.table.ensures
 
 pub returns-in_default : goal.returns-in_default
 returns-in_default c = simple-rest c.requires (opened c.in_default.in_default-own.keys6) c.leaf-in_default.ensures

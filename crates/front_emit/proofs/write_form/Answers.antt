@@ -1,5 +1,4 @@
 -- `front_emit::write_form` meets its contract, by FormInScratch.
-use borrow.Author.Rules.{rules}
 use mathlib.Core.Path.{refl}
 use lib.ListN.{replicate}
 use Rattle.front_emit.proofs.FormInScratch.{whole-starts, whole-done}

@@ -1,7 +1,6 @@
 -- `front_end::formed` meets its contract, by Exits, PrepareExits.
 use Rattle.spec_calculus.proofs.Truths.{not-true, not-false}
 use Rattle.front_end.proofs.PrepareExits.{bound-over, all_pass}
-use borrow.Author.Rules.{rules}
 use mathlib.Core.Path.{ap}
 use mathlib.Core.Bool.{not}
 use Rattle.front_end.proofs.formed.Goals as goal

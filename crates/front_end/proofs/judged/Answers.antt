@@ -1,7 +1,6 @@
 -- `front_end::judged` meets its contract, by Exits.
 use Rattle.spec_calculus.proofs.Truths.{not-true, not-false}
 use Rattle.front_end.proofs.Exits.{names-wrong, names-right}
-use borrow.Author.Rules.{rules}
 use mathlib.Core.Path.{ap}
 use mathlib.Core.Bool.{not}
 use Rattle.front_end.proofs.judged.Goals as goal

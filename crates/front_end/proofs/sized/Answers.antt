@@ -1,6 +1,5 @@
 -- `front_end::sized` meets its contract, by Exits.
 use Rattle.front_end.proofs.Exits.{too_large, small-enough}
-use borrow.Author.Rules.{rules}
 use Rattle.front_end.proofs.sized.Goals as goal
 
 pub returns-then-z : goal.returns-then-z

@@ -1,7 +1,6 @@
 -- `front_end::typed` meets its contract, by Exits.
 use Rattle.spec_calculus.proofs.Truths.{not-true, not-false}
 use Rattle.front_end.proofs.Exits.{types-wrong, calendars-wrong, generators-wrong, both-fit}
-use borrow.Author.Rules.{rules}
 use mathlib.Core.Path.{ap}
 use mathlib.Core.Bool.{not}
 use Rattle.front_end.proofs.typed.Goals as goal

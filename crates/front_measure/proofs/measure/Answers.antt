@@ -1,7 +1,5 @@
 -- `front_measure::measure` meets its contract, by LoopInvariant.
-use Prim.Native.Nat.{◌-◌}
-use Rattle.front_measure.proofs.LoopInvariant.{MeasureLoop, going-first, going_on, going-last}
-use borrow.Author.Rules.{rules}
+use Rattle.front_measure.proofs.LoopInvariant.{going-first, going_on, going-last}
 use Rattle.front_measure.proofs.measure.Goals as goal
 
 pub loop-i-init : goal.loop-i-init

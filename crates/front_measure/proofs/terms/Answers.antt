@@ -1,11 +1,7 @@
 -- `front_measure::terms` meets its contract, by PartExits, front_resolve/Exits.
-use Prim.Native.Nat.{◌-◌}
-use lib.ListN.{length}
 use native.Mathlib.Omega.{arith}
-use Rattle.front_nodes.specs.NodeTable.{children_of}
-use Rattle.front_measure.proofs.PartExits.{Summed, few-terms, terms-none, terms-next, terms-within, terms-end}
+use Rattle.front_measure.proofs.PartExits.{few-terms, terms-none, terms-next, terms-within, terms-end}
 use Rattle.front_resolve.proofs.Exits.{picks-cast}
-use borrow.Author.Rules.{rules}
 use Rattle.front_measure.proofs.terms.Goals as goal
 
 pub loop-c-init : goal.loop-c-init
@@ -17,12 +13,12 @@ overflow_add-k c = omega
 
 pub loop-c-smaller : goal.loop-c-smaller
 loop-c-smaller c = omega
-    (arith, terms-within c.loop-c.invariant (picks-cast c.child.ensures c.in-At.is))
+    (arith, terms-within c.loop-c.invariant (picks-cast c.child.ensures c.in-Some.is))
 
 pub loop-c-preserved : goal.loop-c-preserved
 loop-c-preserved c = terms-next c.loop-c.invariant
-    (picks-cast c.child.ensures c.in-At.is) c.term_count.ensures
+    (picks-cast c.child.ensures c.in-Some.is) c.term_count.ensures
     c.side-t.ensures
 
-pub returns-in-Nothing : goal.returns-in-Nothing
-returns-in-Nothing c = terms-end c.loop-c.invariant (picks-cast c.child.ensures c.in-Nothing.is)
+pub returns : goal.returns
+returns c = terms-end c.loop-c.invariant (picks-cast c.child.ensures c.in_default.is)

@@ -1,10 +1,7 @@
 use Prim.Native.Nat.{◌-◌}
 use lib.ListN.{length}
-use native.Mathlib.Omega.{arith}
 use Rattle.front_nodes.specs.NodeTable.{children_of}
-use Rattle.front_measure.proofs.PartExits.{Summed, few-terms, terms-none, terms-next, terms-within, terms-end}
-use Rattle.front_resolve.proofs.Exits.{picks-cast}
-use borrow.Author.Rules.{rules}
+use Rattle.front_measure.proofs.PartExits.{Summed}
 use Rattle.front_measure.proofs.terms.Given as goal
 
 abbrev pub invariant-loop-c : goal.invariant-loop-c

@@ -1,23 +1,7 @@
 -- `front_measure::weigh` meets its contract, by WeighExits.
-use Rattle.front_measure.proofs.WeighExits.{weigh-number, weigh-truth, weigh-name, weigh-field, weigh-record, weigh-app, weigh-two, weigh-not, weigh-comp, weigh-table, weigh-gen, weigh-bind, weigh-cond, weigh-bad}
-use borrow.Author.Rules.{rules}
+use mathlib.Core.Logic.{inl, inr}
+use Rattle.front_measure.proofs.WeighExits.{weigh-number, weigh-truth, weigh-followed, weigh-record, weigh-app, weigh-two, weigh-not, weigh-comp, weigh-table, weigh-gen, weigh-bind, weigh-cond, weigh-bad}
 use Rattle.front_measure.proofs.weigh.Goals as goal
-
-pub returns-in-Number : goal.returns-in-Number
-returns-in-Number c = weigh-number c.look.ensures c.in-Number.is c.scalar.ensures
-
-pub returns-in-Truth : goal.returns-in-Truth
-returns-in-Truth c = weigh-truth c.look.ensures c.in-Truth.is c.scalar-in-Truth.ensures
-
-pub returns-in-Name : goal.returns-in-Name
-returns-in-Name c = weigh-name c.look.ensures c.followed.ensures c.in-Name.is
-
-pub returns-in-Field : goal.returns-in-Field
-returns-in-Field c = weigh-field c.look.ensures c.followed-in-Field.ensures c.in-Field.is
-
-pub returns-in-Record : goal.returns-in-Record
-returns-in-Record c = weigh-record c.look.ensures c.in-Record.is
-    c.terms.ensures c.raise.ensures c.scalar-in-Record.ensures
 
 pub returns-in-Two : goal.returns-in-Two
 returns-in-Two c = weigh-two c.look.ensures c.in-Two.is c.two.ensures
@@ -44,9 +28,17 @@ pub returns-in-Cond : goal.returns-in-Cond
 returns-in-Cond c = weigh-cond c.look.ensures c.in-Cond.is c.conditions.ensures
     c.qualifier-in-Cond.ensures
 
-pub returns-in-Operator : goal.returns-in-Operator
-returns-in-Operator c = weigh-app c.look.ensures c.in-Operator.is
-    c.terms-in-Operator.ensures c.raise-in-Operator.ensures c.scalar-in-Operator.ensures
+pub returns-in-Number : goal.returns-in-Number
+returns-in-Number c = elim c.in-Number.is [
+  | inl p ↦ weigh-number c.look.ensures p.1 c.scalar.ensures
+  | inr q ↦ elim q [ inl p ↦ weigh-truth c.look.ensures p.1 c.scalar.ensures | inr e ↦ weigh-bad c.look.ensures e c.scalar.ensures ]
+]
 
-pub returns-in-Bad : goal.returns-in-Bad
-returns-in-Bad c = weigh-bad c.look.ensures c.in-Bad.is c.scalar-in-Bad.ensures
+pub returns-in-Name : goal.returns-in-Name
+returns-in-Name c = weigh-followed c.look.ensures c.followed.ensures c.in-Name.is
+
+pub returns-in-Record : goal.returns-in-Record
+returns-in-Record c = elim c.in-Record.is [
+  | inl e ↦ weigh-record c.look.ensures e c.terms.ensures c.raise.ensures c.scalar-in-Record.ensures
+  | inr p ↦ weigh-app c.look.ensures p.1 c.terms.ensures c.raise.ensures c.scalar-in-Record.ensures
+]

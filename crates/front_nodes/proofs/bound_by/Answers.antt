@@ -1,7 +1,6 @@
 -- `front_nodes::bound_by` meets its contract, by ReaderExits.
 use Rattle.front_nodes.proofs.ReaderExits.{recast, bound-gen, bound-bind, bound-other}
 use borrow.Enum.Refused.{opened}
-use borrow.Author.Rules.{rules}
 use Rattle.front_nodes.proofs.bound_by.Goals as goal
 
 pub returns-in-Gen : goal.returns-in-Gen

@@ -1,6 +1,5 @@
 -- `front_nodes::kind_of` meets its contract, by ReaderExits.
 use Rattle.front_nodes.proofs.ReaderExits.{kind-at, no_kind}
-use borrow.Author.Rules.{rules}
 use Rattle.front_nodes.proofs.kind_of.Goals as goal
 
 pub returns-in-6 : goal.returns-in-6

@@ -4,7 +4,6 @@ use mir.Facts.{to_z-of_z}
 use Rattle.base_syntax.specs.MonoidWord.{monoid_of}
 use Rattle.base_signed.proofs.SignedWords.{fits}
 use Rattle.front_nodes.proofs.ReaderExits.{kind-is, arg_is, look-number, look-truth, look-name, look-table, look-field, look-comp, look-record, look-two, look-not, look-gen, look-bind, look-cond, look-choice, look-open, look-bad, look-far}
-use borrow.Author.Rules.{rules}
 use Rattle.front_nodes.proofs.look.Goals as goal
 
 pub returns-then-i-ge-MOST_NODES : goal.returns-then-i-ge-MOST_NODES

@@ -1,7 +1,6 @@
 -- `front_nodes::named` meets its contract, by ReaderExits.
 use mathlib.Core.Path.{refl}
 use Rattle.front_nodes.proofs.ReaderExits.{name-unbound, name-behind, name-outside, name-bound}
-use borrow.Author.Rules.{rules}
 use Rattle.front_nodes.proofs.named.Goals as goal
 
 pub returns-then-w-eq0 : goal.returns-then-w-eq0

@@ -1,6 +1,5 @@
 -- `front_nodes::number` meets its contract, by ReaderExits.
 use Rattle.front_nodes.proofs.ReaderExits.{number_ok, number_is}
-use borrow.Author.Rules.{rules}
 use Rattle.front_nodes.proofs.number.Goals as goal
 
 pub overflow_sub-result : goal.overflow_sub-result

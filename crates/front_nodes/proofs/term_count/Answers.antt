@@ -1,11 +1,7 @@
 -- `front_nodes::term_count`: one term of kind 21, else the argument says it.
-use mathlib.Core.Path.{◌≡◌, sym, ap, ◌∙◌}
-use Prim.Native.Nat.{ℕ}
-use lib.ListN.{get_or}
-use Rattle.spec_encoding.specs.Reader.{kinds, unknown}
+use mathlib.Core.Path.{sym, ◌∙◌}
 use Rattle.front_words.specs.NodeWord.{node_kind_of, arg_of}
 use Rattle.front_nodes.proofs.ReaderExits.{count-open, count-plain}
-use borrow.Author.Rules.{rules}
 use Rattle.front_nodes.proofs.term_count.Goals as goal
 
 pub returns-then-kind-eq-KIND_OPEN : goal.returns-then-kind-eq-KIND_OPEN

@@ -1,12 +1,7 @@
-use native.Mathlib.Omega.{arith}
-use mathlib.Core.Path.{refl, ◌∙◌}
 use Prim.Native.Nat.{◌+◌, ◌-◌, ◌*◌}
 use lib.ListN.{length}
-use Rattle.front_parser.proofs.Records.{length-after, length-inner, began, term-none, term-refused, term-read, shaped-leaf, shaped-terms, content-terms, content-comprehension, content-other, item-none, item-head, looks-qualifier, item_refused, item-read}
-use Rattle.front_parser.proofs.TermSequences.{TermsUpto, upto-first, upto-last, upto-over, upto-refused, upto-found, upto-within, upto-again, fixed-is, terms-found, compound-broken, compound-refused, compound-few, compound-done}
-use Rattle.front_parser.proofs.Questions.{PartsUpto, parts_first, parts-last-refused, front-qualifier, parts_within, parts_again, parts-last-over, parts_last, comprehension-none, comprehension-zero, comprehension-over, comprehension-refused, comprehension-read, room-inside, room-terms, room-parts, finishing-terms, few-terms, finishing-parts}
-use borrow.Author.Rules.{rules}
-use Prim.Native.Nat.{ℕ, ◌<◌}
+use Rattle.front_parser.proofs.TermSequences.{TermsUpto}
+use Rattle.front_parser.proofs.Questions.{PartsUpto}
 use Rattle.front_parser.proofs.+compound_comprehension_content_parts_qualifier_term_terms.Given as goal
 
 abbrev pub decreases-compound : goal.decreases-compound
@@ -21,11 +16,11 @@ decreases-content l = 4 * length l.c.now + 3
 abbrev pub decreases-parts : goal.decreases-parts
 decreases-parts l = 4 * length l.l.now + 2
 
-abbrev pub invariant-parts-loop-x : goal.invariant-parts-loop-x
-invariant-parts-loop-x l = PartsUpto l.l l.initial.s l.initial.q l.s l.at l.q
+abbrev pub invariant-parts-loop-used : goal.invariant-parts-loop-used
+invariant-parts-loop-used l = PartsUpto l.l l.initial.s l.initial.q l.s l.at l.q
 
-abbrev pub decreases-parts-loop-x : goal.decreases-parts-loop-x
-decreases-parts-loop-x l = length l.l - l.at
+abbrev pub decreases-parts-loop-used : goal.decreases-parts-loop-used
+decreases-parts-loop-used l = length l.l - l.at
 
 abbrev pub decreases-qualifier : goal.decreases-qualifier
 decreases-qualifier l = 4 * length l.l.now + 1

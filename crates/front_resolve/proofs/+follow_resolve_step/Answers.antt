@@ -1,10 +1,7 @@
 -- `front_resolve::resolve`, `step` and `follow` meet their contracts: they go down by the number of the node.
 use native.Mathlib.Omega.{arith}
-use Prim.Native.Nat.{ℕ, ◌+◌, ◌*◌, ◌<◌}
 use Rattle.front_nodes.proofs.ReaderExits.{recast, looked-inside}
-use Rattle.front_resolve.proofs.Exits.{h-settled, h-out, h-name, h-field, f-other, f-bind, f-gen, stepped_by, step-cast, Leads, leads-on, leads-to, bound-cast}
-use borrow.Author.Rules.{rules}
-use Prim.Native.Nat.{ℕ, ◌<◌}
+use Rattle.front_resolve.proofs.Exits.{h-settled, h-out, h-name, h-field, f-other, f-bind, f-gen, stepped_by, step-cast, leads-on, leads-to, bound-cast}
 use borrow.Enum.Refused.{opened}
 use Rattle.front_resolve.proofs.+follow_resolve_step.Goals as goal
 

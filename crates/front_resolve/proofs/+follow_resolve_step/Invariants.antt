@@ -1,10 +1,5 @@
-use native.Mathlib.Omega.{arith}
-use Prim.Native.Nat.{ℕ, ◌+◌, ◌*◌, ◌<◌}
-use Rattle.front_nodes.proofs.ReaderExits.{recast, looked-inside}
-use Rattle.front_resolve.proofs.Exits.{h-settled, h-out, h-name, h-field, f-other, f-bind, f-gen, stepped_by, step-cast, Leads, leads-on, leads-to, bound-cast}
-use borrow.Author.Rules.{rules}
-use Prim.Native.Nat.{ℕ, ◌<◌}
-use borrow.Enum.Refused.{opened}
+use Prim.Native.Nat.{◌+◌, ◌*◌}
+use Rattle.front_resolve.proofs.Exits.{Leads}
 use Rattle.front_resolve.proofs.+follow_resolve_step.Given as goal
 
 abbrev pub decreases-follow : goal.decreases-follow

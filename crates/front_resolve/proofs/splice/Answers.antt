@@ -1,7 +1,6 @@
 -- `front_resolve::splice` meets its contract, by Exits.
 use native.Mathlib.Omega.{arith}
 use Rattle.front_resolve.proofs.Exits.{comp-inside, s-comp, s-table, s-junk, entered}
-use borrow.Author.Rules.{rules}
 use borrow.Enum.Refused.{opened}
 use Rattle.front_resolve.proofs.splice.Goals as goal
 

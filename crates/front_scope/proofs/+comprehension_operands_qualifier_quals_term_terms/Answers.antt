@@ -1,45 +1,13 @@
 -- The cycle of `term`, `terms` and `quals` meets its contracts: each part ends below its parent.
 use native.Mathlib.Omega.{arith}
-use Prim.Native.Nat.{◌+◌, ◌-◌, ◌*◌, ℕ, ◌<◌}
+use Prim.Native.Nat.{◌-◌}
 use mathlib.Core.Path.{refl}
 use Rattle.front_scope.proofs.KindNumbers.{kind-is, kind-not, kind-outside, two-kind-at, kind-above}
-use Rattle.front_scope.proofs.Exits.{term-leaf, term-name, term-field, term-not, term-record, term-choice, term-open, term-two, term-comp, term-bare, operands-both, comp-both, terms-none, terms-more, quals-none, quals-more, qual-gen, qual-bind, qual-cond, qual-none, behind-term, behind-terms, behind-quals}
-use borrow.Author.Rules.{rules}
-use Prim.Native.Nat.{ℕ, ◌<◌}
+use Rattle.front_scope.proofs.Exits.{term-name, term-field, term-not, term-record, term-choice, term-open, term-two, term-comp, term-bare, comp-both, terms-none, terms-more, quals-none, quals-more, qual-gen, qual-bind, qual-cond, qual-none}
 use Rattle.front_scope.proofs.+comprehension_operands_qualifier_quals_term_terms.Goals as goal
-
-pub comprehension-quals-q-requires : goal.comprehension-quals-q-requires
-comprehension-quals-q-requires t c = (search rules, c.requires.1)
-
-pub comprehension-term-h-requires : goal.comprehension-term-h-requires
-comprehension-term-h-requires t c = (search rules, behind-quals c.quals-q.ensures c.requires.1)
 
 pub comprehension-returns : goal.comprehension-returns
 comprehension-returns t c = comp-both c.requires.0 c.start_at-b.ensures.0 c.start_at-a.ensures.0 c.quals-q.ensures c.term-h.ensures
-
-pub operands-term-k-requires : goal.operands-term-k-requires
-operands-term-k-requires t c = (search rules, c.requires.1)
-
-pub operands-term-requires : goal.operands-term-requires
-operands-term-requires t c = (search rules, behind-term c.term-k.ensures c.requires.1)
-
-pub operands-returns : goal.operands-returns
-operands-returns t c = operands-both c.requires.0 c.start_at-b.ensures.0 c.term-k.ensures c.term.ensures
-
-pub qualifier-term-k-requires : goal.qualifier-term-k-requires
-qualifier-term-k-requires t c = (search rules, c.requires)
-
-pub qualifier-bound-requires : goal.qualifier-bound-requires
-qualifier-bound-requires t c = behind-term c.term-k.ensures c.requires
-
-pub qualifier-term-k-requires-in-17 : goal.qualifier-term-k-requires-in-17
-qualifier-term-k-requires-in-17 t c = (search rules, c.requires)
-
-pub qualifier-bound-requires-in-17 : goal.qualifier-bound-requires-in-17
-qualifier-bound-requires-in-17 t c = behind-term c.term-k-in-17.ensures c.requires
-
-pub qualifier-term-requires : goal.qualifier-term-requires
-qualifier-term-requires t c = (search rules, c.requires)
 
 pub qualifier-returns-in-16 : goal.qualifier-returns-in-16
 qualifier-returns-in-16 t c = qual-gen c.term-k.ensures (kind-is c.args.s.now c.args.i 16 c.kind_at.ensures c.in-16.is) c.arg_at.ensures c.bound.ensures
@@ -57,44 +25,8 @@ qualifier-returns-in_default t c = let no = kind-not c.args.s.now c.args.i c.kin
 pub quals-returns-then-e-lo : goal.quals-returns-then-e-lo
 quals-returns-then-e-lo t c = quals-none c.if-e-lo.true
 
-pub quals-quals-k-requires : goal.quals-quals-k-requires
-quals-quals-k-requires t c = (search rules, c.requires)
-
-pub quals-qualifier-requires : goal.quals-qualifier-requires
-quals-qualifier-requires t c = (search rules, behind-quals c.quals-k.ensures c.requires)
-
 pub quals-returns : goal.quals-returns
 quals-returns t c = quals-more c.if-e-lo.false c.start_at-b.ensures.0 c.quals-k.ensures c.qualifier.ensures
-
-pub term-leaf-requires : goal.term-leaf-requires
-term-leaf-requires t c = c.requires.1
-
-pub term-returns-then-e-le1 : goal.term-returns-then-e-le1
-term-returns-then-e-le1 t c = term-leaf c.args.seen.now c.if-e-le1.true c.leaf.ensures
-
-pub term-used-requires : goal.term-used-requires
-term-used-requires t c = c.requires.1
-
-pub term-term-requires : goal.term-term-requires
-term-term-requires t c = (search rules, c.requires)
-
-pub term-terms-requires : goal.term-terms-requires
-term-terms-requires t c = (search rules, c.requires)
-
-pub term-term-requires-in-13 : goal.term-term-requires-in-13
-term-term-requires-in-13 t c = (search rules, c.requires)
-
-pub term-comprehension-requires : goal.term-comprehension-requires
-term-comprehension-requires t c = (search rules, (search rules, c.requires))
-
-pub term-terms-requires-in-19 : goal.term-terms-requires-in-19
-term-terms-requires-in-19 t c = (search rules, c.requires)
-
-pub term-terms-requires-in-21 : goal.term-terms-requires-in-21
-term-terms-requires-in-21 t c = (search rules, c.requires)
-
-pub term-operands-requires : goal.term-operands-requires
-term-operands-requires t c = (search rules, (search rules, c.requires))
 
 pub term-returns-in-3 : goal.term-returns-in-3
 term-returns-in-3 t c = term-name c.args.seen.now (kind-is c.args.s.now (c.args.e - 1) 3 c.kind_at.ensures c.in-3.is) c.arg_at.ensures c.used.ensures
@@ -130,12 +62,6 @@ term-returns-in_default-2 t c = term-bare (kind-above c.args.s.now (c.args.e - 1
 
 pub terms-returns-then-e-lo : goal.terms-returns-then-e-lo
 terms-returns-then-e-lo t c = terms-none c.if-e-lo.true
-
-pub terms-terms-k-requires : goal.terms-terms-k-requires
-terms-terms-k-requires t c = (search rules, c.requires)
-
-pub terms-term-requires : goal.terms-term-requires
-terms-term-requires t c = (search rules, behind-terms c.terms-k.ensures c.requires)
 
 pub terms-returns : goal.terms-returns
 terms-returns t c = terms-more c.if-e-lo.false c.start_at-b.ensures.0 c.terms-k.ensures c.term.ensures

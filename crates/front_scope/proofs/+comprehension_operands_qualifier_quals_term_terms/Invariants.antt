@@ -1,10 +1,4 @@
-use native.Mathlib.Omega.{arith}
-use Prim.Native.Nat.{◌+◌, ◌-◌, ◌*◌, ℕ, ◌<◌}
-use mathlib.Core.Path.{refl}
-use Rattle.front_scope.proofs.KindNumbers.{kind-is, kind-not, kind-outside, two-kind-at, kind-above}
-use Rattle.front_scope.proofs.Exits.{term-leaf, term-name, term-field, term-not, term-record, term-choice, term-open, term-two, term-comp, term-bare, operands-both, comp-both, terms-none, terms-more, quals-none, quals-more, qual-gen, qual-bind, qual-cond, qual-none, behind-term, behind-terms, behind-quals}
-use borrow.Author.Rules.{rules}
-use Prim.Native.Nat.{ℕ, ◌<◌}
+use Prim.Native.Nat.{◌+◌, ◌*◌}
 use Rattle.front_scope.proofs.+comprehension_operands_qualifier_quals_term_terms.Given as goal
 
 abbrev pub decreases-comprehension : goal.decreases-comprehension

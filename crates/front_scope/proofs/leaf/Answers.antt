@@ -2,7 +2,6 @@
 use native.Mathlib.Omega.{arith}
 use Rattle.front_scope.proofs.KindNumbers.{kind-is, kind-not}
 use Rattle.front_scope.proofs.Exits.{leaf-name, leaf-other}
-use borrow.Author.Rules.{rules}
 use Rattle.front_scope.proofs.leaf.Goals as goal
 
 pub returns-then-kind_at-eq-KIND_NAME : goal.returns-then-kind_at-eq-KIND_NAME

@@ -1,7 +1,6 @@
 -- `front_scope::note` meets its contract, by BinderWords.
 use Rattle.front_scope.proofs.BinderWords.{noted-not, noted-beyond, noted_here}
 use native.Mathlib.Omega.{arith}
-use borrow.Author.Rules.{rules}
 use Rattle.front_scope.proofs.note.Goals as goal
 
 pub returns-then-k-lt-KIND_GENERATOR : goal.returns-then-k-lt-KIND_GENERATOR
@@ -9,9 +8,6 @@ returns-then-k-lt-KIND_GENERATOR c = noted-not c.args.s.now c.args.i c.kind_at-k
 
 pub returns-then-k-gt-KIND_BINDING : goal.returns-then-k-gt-KIND_BINDING
 returns-then-k-gt-KIND_BINDING c = noted-not c.args.s.now c.args.i c.kind_at-k.ensures c.arg_at-x.ensures (omega arith)
-
-pub shape_of-s-then-x : goal.shape_of-s-then-x
-shape_of-s-then-x c = c.put_binder.auto.s
 
 pub returns-then-x : goal.returns-then-x
 returns-then-x c = noted_here c.args.s.now c.args.i c.kind_at-k.ensures c.arg_at-x.ensures c.if-k-lt-KIND_GENERATOR.false (omega arith) c.if-x.true c.put_binder.ensures

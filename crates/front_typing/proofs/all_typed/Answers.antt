@@ -1,7 +1,7 @@
--- `front_typing::all_typed_lem` meets its contract, by Exits.
-use Rattle.front_typing.proofs.Exits.{no-parts, Parts, parts-begin, parts-on, parts-off, parts-end}
+-- `front_typing::all_typed` meets its contract, by Exits.
+use Rattle.front_typing.proofs.Exits.{no-parts, parts-begin, parts-on, parts-off, parts-end}
 use borrow.Author.Tests.{not-true, not-false}
-use borrow.Author.Rules.{rules}
+use native.Mathlib.Omega.{arith}
 use mathlib.Core.Path.{ap}
 use mathlib.Core.Bool.{not}
 use Rattle.front_typing.proofs.all_typed.Goals as goal
@@ -9,14 +9,14 @@ use Rattle.front_typing.proofs.all_typed.Goals as goal
 pub returns-then-i-eq0 : goal.returns-then-i-eq0
 returns-then-i-eq0 c = no-parts c.args.s.now c.args.i c.if-i-eq0.true
 
-pub loop-left-init : goal.loop-left-init
-loop-left-init c = parts-begin c.if-i-eq0.false c.node_word.ensures c.term_count-left.ensures
+pub loop-init : goal.loop-init
+loop-init c = parts-begin c.if-i-eq0.false c.node_word.ensures c.term_count-end.ensures (omega arith)
 
 pub returns-then-not-is_typed : goal.returns-then-not-is_typed
-returns-then-not-is_typed c = parts-off c.loop-left.invariant c.loop-left-test.true c.prior-c.ensures c.shape_at.ensures c.is_typed.ensures (not-true c.is_typed.result (ap not c.if-not-is_typed.true))
+returns-then-not-is_typed c = parts-off c.loop.invariant (omega arith) c.prior-c.ensures c.shape_at.ensures c.is_typed.ensures (not-true c.is_typed.result (ap not c.if-not-is_typed.true))
 
-pub loop-left-preserved : goal.loop-left-preserved
-loop-left-preserved c = parts-on c.loop-left.invariant c.loop-left-test.true c.prior-c.ensures c.shape_at.ensures c.is_typed.ensures (not-false c.is_typed.result (ap not c.if-not-is_typed.false)) c.start_at-e.ensures.0
+pub loop-preserved : goal.loop-preserved
+loop-preserved c = parts-on c.loop.invariant (omega arith) c.prior-c.ensures c.shape_at.ensures c.is_typed.ensures (not-false c.is_typed.result (ap not c.if-not-is_typed.false)) c.start_at-e.ensures.0 (omega arith)
 
 pub returns : goal.returns
-returns c = parts-end c.loop-left.invariant c.loop-left-test.false
+returns c = parts-end c.loop.invariant (omega arith)

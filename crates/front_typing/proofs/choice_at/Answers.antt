@@ -1,10 +1,9 @@
 -- `front_typing::choice_at` meets its contract, by Exits.
 use Rattle.front_typing.proofs.Exits.{choice-many, choice-three}
-use borrow.Author.Rules.{rules}
 use Rattle.front_typing.proofs.choice_at.Goals as goal
 
-pub returns-in-At : goal.returns-in-At
-returns-in-At c = choice-many c.child.ensures c.in-At.is
+pub returns-in-Some : goal.returns-in-Some
+returns-in-Some c = choice-many c.child.ensures c.in-Some.is
 
-pub returns-in-Nothing : goal.returns-in-Nothing
-returns-in-Nothing c = choice-three c.child.ensures c.in-Nothing.is c.operand.ensures c.operand-in-Nothing.ensures c.operand-in-Nothing-2.ensures c.choice.ensures
+pub returns-in-None : goal.returns-in-None
+returns-in-None c = choice-three c.child.ensures c.in-None.is c.operand.ensures c.operand-in-None.ensures c.operand-in-None-2.ensures c.choice.ensures

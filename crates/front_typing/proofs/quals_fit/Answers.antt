@@ -1,7 +1,5 @@
 -- `front_typing::quals_fit` meets its contract, by Exits.
-use Rattle.front_typing.proofs.Exits.{Quals, quals-begin, quals-on, quals-off, quals-end}
-use Rattle.front_typing.specs.ShapeWords.{rules}
-use Rattle.base_syntax.specs.MonoidWord.{monoid_of}
+use Rattle.front_typing.proofs.Exits.{quals-begin, quals-on, quals-off, quals-end}
 use borrow.Author.Tests.{not-true, not-false}
 use mathlib.Core.Path.{ap}
 use mathlib.Core.Bool.{not}

@@ -1,7 +1,6 @@
-use Rattle.front_typing.proofs.Exits.{Quals, quals-begin, quals-on, quals-off, quals-end}
+use Rattle.front_typing.proofs.Exits.{Quals}
 use Rattle.front_typing.specs.ShapeWords.{rules}
 use Rattle.base_syntax.specs.MonoidWord.{monoid_of}
-use borrow.Author.Tests.{not-true, not-false}
 use Rattle.front_typing.proofs.quals_fit.Given as goal
 
 abbrev pub invariant-loop-e : goal.invariant-loop-e

@@ -1,6 +1,5 @@
 -- `front_words::binder_word` meets its contract, by NodeWords.
 use mathlib.Core.Path.{◌∙◌}
-use borrow.Author.Rules.{rules}
 use Rattle.front_words.proofs.NodeWords.{far-binder, binder-at}
 use Rattle.front_words.proofs.binder_word.Goals as goal
 

@@ -1,27 +1,16 @@
 -- `loop_collect`: `collect`, `each`, `flat`, `part`, `parts` and `write` meet their contracts together, by Exits, base_signed/SignedWords, form_words/NodeWords, answer_writer/Exits.
 use native.Mathlib.Omega.{arith}
-use mathlib.Core.Path.{sym, ap, ◌∙◌}
-use Prim.Native.Nat.{◌+◌, ◌-◌, ◌*◌}
+use mathlib.Core.Path.{ap}
 use lib.IntN.{pos}
 use mir.Syntax.{w64}
 use mir.Val.{of_z}
 use mir.Facts.{to_z-of_z, sfits_lit}
 use Rattle.base_signed.proofs.SignedWords.{fits, eq_is, up}
-use Rattle.form_words.specs.FormTree.{left}
 use Rattle.form_words.proofs.NodeWords.{recast_c}
 use Rattle.answer_writer.proofs.Exits.{shape-recast}
 use Rattle.loop_collect.proofs.HeadLoops.{ready-each, ready-test, ready-head}
-use Rattle.loop_collect.proofs.Exits.{ready-flat, ready-word, w-past, w-word, w-row, ready-parts, w-record, ready-collect, count_most, w-collection, p-done, ready-part, next-behind, Parting, parts_first, parts_again, c-generator, c-no, c-head, Collecting, collect-first, collect-again, RowLoop, go-first, go-length, go-past, go-ready, go-again, go-last}
-use borrow.Author.Rules.{rules}
-use Prim.Native.Nat.{ℕ, ◌<◌}
-use borrow.Enum.Refused.{opened}
+use Rattle.loop_collect.proofs.Exits.{w-past, w-word, w-row, ready-parts, w-record, ready-collect, count_most, w-collection, p-done, ready-part, next-behind, parts_again, c-generator, c-no, c-head, collect-again, go-first, go-ready, go-again, go-last}
 use Rattle.loop_collect.proofs.+collect_each_flat_part_parts_write.Goals as goal
-
-pub collect-loop-g-init : goal.collect-loop-g-init
-collect-loop-g-init t c = collect-first c.requires
-
-pub collect-overflow_add-j : goal.collect-overflow_add-j
-collect-overflow_add-j t c = let p = (recast_c c.look_clause.ensures c.in-Generator.is).inside in omega arith
 
 pub collect-each-requires : goal.collect-each-requires
 collect-each-requires t c = let w = (recast_c c.look_clause.ensures c.in-Generator.is) in (omega (arith, c.decreases, c.loop-g.invariant.low, w.inside.0), ready-each c.loop-g.invariant.ready w)
@@ -29,17 +18,11 @@ collect-each-requires t c = let w = (recast_c c.look_clause.ensures c.in-Generat
 pub collect-returns-in-Generator : goal.collect-returns-in-Generator
 collect-returns-in-Generator t c = c.loop-g.invariant.back _ _ _ (c-generator (recast_c c.look_clause.ensures c.in-Generator.is) c.each.ensures)
 
-pub collect-overflow_add-j-in-Condition : goal.collect-overflow_add-j-in-Condition
-collect-overflow_add-j-in-Condition t c = let p = (recast_c c.look_clause.ensures c.in-Condition.is).inside in omega arith
-
 pub collect-scalar-x-requires : goal.collect-scalar-x-requires
 collect-scalar-x-requires t c = ready-test c.loop-g.invariant.ready (recast_c c.look_clause.ensures c.in-Condition.is)
 
 pub collect-returns-then-x-eq0 : goal.collect-returns-then-x-eq0
 collect-returns-then-x-eq0 t c = c.loop-g.invariant.back _ _ _ (c-no c.loop-g.invariant.ready (recast_c c.look_clause.ensures c.in-Condition.is) c.scalar-x.ensures (eq_is (fits c.scalar-x.type_inv) (sfits_lit {z = pos 0} tt) c.if-x-eq0.true))
-
-pub collect-loop-g-smaller : goal.collect-loop-g-smaller
-collect-loop-g-smaller t c = let w = (recast_c c.look_clause.ensures c.in-Condition.is) in omega (arith, w.inside.0, w.inside.1)
 
 pub collect-loop-g-preserved : goal.collect-loop-g-preserved
 collect-loop-g-preserved t c = collect-again c.loop-g.invariant (recast_c c.look_clause.ensures c.in-Condition.is) c.scalar-x.ensures (λ e. c.if-x-eq0.false (ap (of_z w64) e))
@@ -53,35 +36,17 @@ collect-returns-in-Head t c = c.loop-g.invariant.back _ _ _ (c-head (recast_c c.
 pub each-loop-r-init : goal.each-loop-r-init
 each-loop-r-init t c = go-first
 
-pub each-turn-r-requires : goal.each-turn-r-requires
-each-turn-r-requires t c = c.requires.table
-
-pub each-shape_of-s-then-r-ge-NO_MORE : goal.each-shape_of-s-then-r-ge-NO_MORE
-each-shape_of-s-then-r-ge-NO_MORE t c = c.bind.auto.s ∙ go-length c.loop-r.invariant c.requires c.turn-r.ensures c.if-r-ge-NO_MORE.true
-
-pub each-shape_of-out-then-r-ge-NO_MORE : goal.each-shape_of-out-then-r-ge-NO_MORE
-each-shape_of-out-then-r-ge-NO_MORE t c = c.loop-r.invariant.long
-
 pub each-returns-then-r-ge-NO_MORE : goal.each-returns-then-r-ge-NO_MORE
 each-returns-then-r-ge-NO_MORE t c = go-last c.loop-r.invariant c.requires c.turn-r.ensures c.if-r-ge-NO_MORE.true c.slot-old.ensures c.bind.ensures
 
 pub each-collect-a-requires : goal.each-collect-a-requires
 each-collect-a-requires t c = (omega (arith, c.decreases), go-ready c.loop-r.invariant c.requires c.turn-r.ensures c.if-r-ge-NO_MORE.false)
 
-pub each-loop-r-smaller : goal.each-loop-r-smaller
-each-loop-r-smaller t c = omega (arith, c.if-r-ge-NO_MORE.false, go-past c.loop-r.invariant c.requires c.turn-r.ensures c.if-r-ge-NO_MORE.false)
-
 pub each-loop-r-preserved : goal.each-loop-r-preserved
 each-loop-r-preserved t c = go-again c.loop-r.invariant c.requires c.turn-r.ensures c.if-r-ge-NO_MORE.false c.collect-a.ensures c.collect-a.auto.out
 
 pub flat-returns-then-limit-p : goal.flat-returns-then-limit-p
 flat-returns-then-limit-p t c = w-past c.requires.ready (shape-recast c.shape_at.ensures c.in-Word.is) c.if-limit-p.true c.more.ensures
-
-pub flat-operand-x-requires : goal.flat-operand-x-requires
-flat-operand-x-requires t c = ready-word c.requires.ready
-
-pub flat-overflow_add-i : goal.flat-overflow_add-i
-flat-overflow_add-i t c = let p = (shape-recast c.shape_at.ensures c.in-Record.is).inside in omega arith
 
 pub flat-parts-requires : goal.flat-parts-requires
 flat-parts-requires t c = let w = shape-recast c.shape_at.ensures c.in-Record.is in (omega (arith, c.decreases, w.inside.0, w.inside.1), ready-parts c.requires.ready w)
@@ -95,24 +60,6 @@ flat-returns-in-Row t c = w-row c.requires.ready (shape-recast c.shape_at.ensure
 pub flat-returns-in-Record : goal.flat-returns-in-Record
 flat-returns-in-Record t c = w-record c.requires.ready (shape-recast c.shape_at.ensures c.in-Record.is) c.parts.ensures
 
-pub flat-returns-in-Collection : goal.flat-returns-in-Collection
-flat-returns-in-Collection t c = absurd (c.requires.flat (sym c.shape_at.ensures.is ∙ c.in-Collection.is))
-
-pub part-flat-requires : goal.part-flat-requires
-part-flat-requires t c = (omega (arith, c.decreases), ready-flat c.requires c.shape_at.ensures (opened c.in_default.in_default-own.keys2))
-
-pub part-returns-in_default : goal.part-returns-in_default
-part-returns-in_default t c = c.flat.ensures
-
-pub part-write-requires : goal.part-write-requires
-part-write-requires t c = (omega (arith, c.decreases), c.requires)
-
-pub part-returns : goal.part-returns
-part-returns t c = c.write.ensures
-
-pub parts-loop-j-init : goal.parts-loop-j-init
-parts-loop-j-init t c = parts_first c.requires
-
 pub parts-part-q-requires : goal.parts-part-q-requires
 parts-part-q-requires t c = (omega (arith, c.decreases, c.loop-j.invariant.low), ready-part c.loop-j-test.true c.loop-j.invariant.ready)
 
@@ -122,23 +69,8 @@ parts-loop-j-smaller t c = omega (arith, c.loop-j.invariant.ready.top, c.loop-j-
 pub parts-loop-j-preserved : goal.parts-loop-j-preserved
 parts-loop-j-preserved t c = parts_again c.loop-j.invariant c.loop-j-test.true c.part-q.ensures c.part-q.auto.out c.next-j.ensures
 
-pub parts-shape_of-s : goal.parts-shape_of-s
-parts-shape_of-s t c = c.loop-j.invariant.long
-
-pub parts-shape_of-out : goal.parts-shape_of-out
-parts-shape_of-out t c = c.loop-j.invariant.wide
-
 pub parts-returns : goal.parts-returns
 parts-returns t c = c.loop-j.invariant.back _ _ _ (p-done c.loop-j-test.false)
-
-pub write-flat-requires : goal.write-flat-requires
-write-flat-requires t c = (omega (arith, c.decreases), ready-flat c.requires c.shape_at.ensures (opened c.in_default.in_default-own.keys2))
-
-pub write-returns-in_default : goal.write-returns-in_default
-write-returns-in_default t c = c.flat.ensures
-
-pub write-overflow_add-i : goal.write-overflow_add-i
-write-overflow_add-i t c = let p = (shape-recast c.shape_at.ensures c.in-Collection.is).inside in omega arith
 
 pub write-collect-e-requires : goal.write-collect-e-requires
 write-collect-e-requires t c = let w = shape-recast c.shape_at.ensures c.in-Collection.is in (omega (arith, c.decreases, w.inside), ready-collect c.requires w)

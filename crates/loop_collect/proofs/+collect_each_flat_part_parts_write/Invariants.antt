@@ -1,19 +1,6 @@
-use native.Mathlib.Omega.{arith}
-use mathlib.Core.Path.{sym, ap, ◌∙◌}
 use Prim.Native.Nat.{◌+◌, ◌-◌, ◌*◌}
-use lib.IntN.{pos}
-use mir.Syntax.{w64}
-use mir.Val.{of_z}
-use mir.Facts.{to_z-of_z, sfits_lit}
-use Rattle.base_signed.proofs.SignedWords.{fits, eq_is, up}
 use Rattle.form_words.specs.FormTree.{left}
-use Rattle.form_words.proofs.NodeWords.{recast_c}
-use Rattle.answer_writer.proofs.Exits.{shape-recast}
-use Rattle.loop_collect.proofs.HeadLoops.{ready-each, ready-test, ready-head}
-use Rattle.loop_collect.proofs.Exits.{ready-flat, ready-word, w-past, w-word, w-row, ready-parts, w-record, ready-collect, count_most, w-collection, p-done, ready-part, next-behind, Parting, parts_first, parts_again, c-generator, c-no, c-head, Collecting, collect-first, collect-again, RowLoop, go-first, go-length, go-past, go-ready, go-again, go-last}
-use borrow.Author.Rules.{rules}
-use Prim.Native.Nat.{ℕ, ◌<◌}
-use borrow.Enum.Refused.{opened}
+use Rattle.loop_collect.proofs.Exits.{Parting, Collecting, RowLoop}
 use Rattle.loop_collect.proofs.+collect_each_flat_part_parts_write.Given as goal
 
 abbrev pub decreases-collect : goal.decreases-collect

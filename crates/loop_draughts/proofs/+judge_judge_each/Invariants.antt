@@ -1,17 +1,6 @@
-use native.Mathlib.Omega.{arith}
-use mathlib.Core.Path.{ap, ◌∙◌}
 use Prim.Native.Nat.{◌+◌, ◌-◌, ◌*◌}
-use lib.IntN.{pos}
-use mir.Syntax.{w64}
-use mir.Val.{of_z}
-use mir.Facts.{to_z-of_z, sfits_lit}
-use Rattle.base_signed.proofs.SignedWords.{fits, eq_is}
 use Rattle.form_words.specs.FormTree.{left}
-use Rattle.form_words.proofs.NodeWords.{recast_c}
-use Rattle.loop_collect.proofs.HeadLoops.{ready-each, ready-test, ready-head}
-use Rattle.loop_draughts.proofs.Exits.{j-generator, j-no, j-head, Judging, judge-first, judge-again, JudgedRows, each_first, each-length, each-past, each-ready, each_again, each_last}
-use borrow.Author.Rules.{rules}
-use Prim.Native.Nat.{ℕ, ◌<◌}
+use Rattle.loop_draughts.proofs.Exits.{Judging, JudgedRows}
 use Rattle.loop_draughts.proofs.+judge_judge_each.Given as goal
 
 abbrev pub decreases-judge : goal.decreases-judge

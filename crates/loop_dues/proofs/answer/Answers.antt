@@ -4,16 +4,12 @@ use mathlib.Core.Path.{refl}
 use borrow.Author.Tests.{not-true, not-false}
 use Rattle.base_tariff.specs.Contract.{tariff_in}
 use Rattle.loop_dues.proofs.DuesOutcome.{ready-judge, few, ready-write, answers-unfit, answers-short, answers-beyond, answers-dues}
-use borrow.Author.Rules.{rules}
 use mathlib.Core.Path.{ap}
 use mathlib.Core.Bool.{not}
 use Rattle.loop_dues.proofs.answer.Goals as goal
 
 pub returns-then-not-fits : goal.returns-then-not-fits
 returns-then-not-fits c = answers-unfit (tariff_in c.args.tariff.now) c.args.out.now c.gives_ships-fits.ensures (not-true c.gives_ships-fits.result (ap not c.if-not-fits.true))
-
-pub reach-requires : goal.reach-requires
-reach-requires c = c.requires.1
 
 pub judge-e-requires : goal.judge-e-requires
 judge-e-requires c = ready-judge c.requires.0 c.gives_ships-fits.ensures (not-false c.gives_ships-fits.result (ap not c.if-not-fits.false))
@@ -38,10 +34,6 @@ returns-then-not-within c = answers-beyond (tariff_in c.args.tariff.now) c.args.
 pub write-requires : goal.write-requires
 write-requires c = ready-write c.requires.0 c.gives_ships-fits.ensures (not-false c.gives_ships-fits.result (ap not c.if-not-fits.false)) c.judge-e.ensures.heads.kept
     (omega (arith, c.if-out-g.false, c.well_formed.1.1.1.0.1))
-
-pub settle_dues-requires : goal.settle_dues-requires
-settle_dues-requires c = record
-    { tariff = c.requires.1; few = few c.requires.0 c.gives_ships-fits.ensures (not-false c.gives_ships-fits.result (ap not c.if-not-fits.false)) c.no_elements.ensures c.judge-e.ensures }
 
 pub returns : goal.returns
 returns c = answers-dues (tariff_in c.args.tariff.now) c.args.out.now c.gives_ships-fits.ensures

@@ -1,5 +1,4 @@
 -- `loop_outages::countable`: the table is there, and has few rows. Assumes nothing.
-use borrow.Author.Rules.{rules}
 use Rattle.loop_outages.proofs.Exits.{few-rows, no_table}
 use Rattle.loop_outages.proofs.countable.Goals as goal
 

@@ -1,27 +1,17 @@
 -- `loop_scalar`: `fold`, `operand`, `reduced`, `rounds`, `scalar`, `term` and `total` meet their contracts together, by Exits, NodeMonoid, MergedRows, base_signed/SignedWords, form_words/NodeWords.
 use native.Mathlib.Omega.{arith}
 use mathlib.Core.Path.{refl, sym, ap, ◌∙◌}
-use Prim.Native.Nat.{◌+◌, ◌-◌, ◌*◌}
 use lib.IntN.{pos}
 use mir.Syntax.{w64}
-use mir.Val.{to_z, of_z}
+use mir.Val.{of_z}
 use mir.Facts.{to_z-of_z, sfits_lit}
 use Rattle.base_signed.proofs.SignedWords.{fits, eq_is, same-is}
-use Rattle.form_words.specs.FormTree.{left}
 use Rattle.form_words.proofs.NodeWords.{recast, recast_c, leaf-recast}
 use Rattle.form_words.proofs.Operands.{truth-behind}
-use Rattle.loop_scalar.proofs.Exits.{s-number, s-truth, s-row, s-cell, s-record, s-generator, s-condition, s-nothing, ready-first, ready-second, ready-operate, s-binary, ready-negated, s-negation, ready-truth, branch-behind, ready-branch, s-choice, s-open, s-same, ready-comp, s-comp, ready-turns, f-generator, ready-test, f-no, ready-head, ready-merge, f-head, Folding, fold-first, fold-again, Turning, turn-first, turn-length, turn-past, turn-ready, turn-again, turn_last, total-rest, total-folded}
-use Rattle.loop_scalar.proofs.NodeMonoid.{monoid-looks, ready-looked, ready_read}
+use Rattle.loop_scalar.proofs.Exits.{s-number, s-truth, s-row, s-cell, s-record, s-generator, s-condition, s-nothing, ready-first, ready-second, ready-operate, s-binary, ready-negated, s-negation, ready-truth, branch-behind, ready-branch, s-choice, s-open, ready-comp, s-comp, ready-turns, f-generator, ready-test, f-no, ready-head, ready-merge, f-head, fold-again, turn-first, turn-ready, turn-again, turn_last, total-folded}
+use Rattle.loop_scalar.proofs.NodeMonoid.{monoid-looks}
 use Rattle.loop_scalar.proofs.MergedRows.{total-ready, total-done}
-use borrow.Author.Rules.{rules}
-use Prim.Native.Nat.{ℕ, ◌<◌}
 use Rattle.loop_scalar.proofs.+fold_operand_reduced_rounds_scalar_term_total.Goals as goal
-
-pub fold-loop-g-init : goal.fold-loop-g-init
-fold-loop-g-init t c = fold-first (total-rest (to_z-of_z c.ranges.acc) c.requires)
-
-pub fold-overflow_add-j : goal.fold-overflow_add-j
-fold-overflow_add-j t c = let p = (recast_c c.look_clause.ensures c.in-Generator.is).inside in omega arith
 
 pub fold-rounds-requires : goal.fold-rounds-requires
 fold-rounds-requires t c = let w = (recast_c c.look_clause.ensures c.in-Generator.is) in (omega (arith, c.decreases, c.loop-g.invariant.low, w.inside.0), ready-turns c.loop-g.invariant.ready w refl)
@@ -29,17 +19,11 @@ fold-rounds-requires t c = let w = (recast_c c.look_clause.ensures c.in-Generato
 pub fold-returns-in-Generator : goal.fold-returns-in-Generator
 fold-returns-in-Generator t c = total-folded (to_z-of_z c.ranges.acc) (c.loop-g.invariant.back _ _ (f-generator c.loop-g.invariant.ready (recast_c c.look_clause.ensures c.in-Generator.is) refl c.rounds.ensures (to_z-of_z (fits c.rounds.type_inv)))) refl
 
-pub fold-overflow_add-j-in-Condition : goal.fold-overflow_add-j-in-Condition
-fold-overflow_add-j-in-Condition t c = let p = (recast_c c.look_clause.ensures c.in-Condition.is).inside in omega arith
-
 pub fold-term-x-requires : goal.fold-term-x-requires
 fold-term-x-requires t c = let w = (recast_c c.look_clause.ensures c.in-Condition.is) in (omega (arith, c.decreases, c.loop-g.invariant.low, w.inside.0, w.inside.1), ready-test c.loop-g.invariant.ready w)
 
 pub fold-returns-then-x-eq0 : goal.fold-returns-then-x-eq0
 fold-returns-then-x-eq0 t c = total-folded (to_z-of_z c.ranges.acc) (c.loop-g.invariant.back _ _ (f-no c.loop-g.invariant.ready (recast_c c.look_clause.ensures c.in-Condition.is) c.term-x.ensures (eq_is (fits c.term-x.type_inv) (sfits_lit {z = pos 0} tt) c.if-x-eq0.true) refl)) refl
-
-pub fold-loop-g-smaller : goal.fold-loop-g-smaller
-fold-loop-g-smaller t c = let w = (recast_c c.look_clause.ensures c.in-Condition.is) in omega (arith, w.inside.0, w.inside.1)
 
 pub fold-loop-g-preserved : goal.fold-loop-g-preserved
 fold-loop-g-preserved t c = fold-again c.loop-g.invariant (recast_c c.look_clause.ensures c.in-Condition.is) c.term-x.ensures (λ e. c.if-x-eq0.false (ap (of_z w64) e))
@@ -53,38 +37,23 @@ fold-merge-requires t c = ready-merge c.loop-g.invariant.ready (recast_c c.look_
 pub fold-returns-in-Head : goal.fold-returns-in-Head
 fold-returns-in-Head t c = total-folded (to_z-of_z c.ranges.acc) (c.loop-g.invariant.back _ _ (f-head c.loop-g.invariant.ready (recast_c c.look_clause.ensures c.in-Head.is) c.sort_of.ensures c.term-x-in-Head.ensures refl (to_z-of_z (fits c.term-x-in-Head.type_inv)) (to_z-of_z (fits c.merge.type_inv) ∙ c.merge.ensures))) refl
 
-pub operand-term-requires : goal.operand-term-requires
-operand-term-requires t c = (omega (arith, c.decreases), c.requires)
-
 pub operand-returns-in-Number : goal.operand-returns-in-Number
 operand-returns-in-Number t c = s-number (sym (leaf-recast c.leaf_at.ensures c.in-Number.is).is) (to_z-of_z (fits c.in-Number.known_told-1-own.given.0.1)) (to_z-of_z (fits c.read_as.type_inv) ∙ c.read_as.ensures)
 
 pub operand-returns-in-Cell : goal.operand-returns-in-Cell
 operand-returns-in-Cell t c = s-cell (sym (leaf-recast c.leaf_at.ensures c.in-Cell.is).is) c.field.ensures (to_z-of_z (fits c.field.type_inv)) (to_z-of_z (fits c.read_as-in-Cell.type_inv) ∙ c.read_as-in-Cell.ensures)
 
-pub operand-returns-in-Other : goal.operand-returns-in-Other
-operand-returns-in-Other t c = s-same c.term.ensures (to_z-of_z (fits c.term.type_inv))
-
 pub reduced-overflow_add-i : goal.reduced-overflow_add-i
-reduced-overflow_add-i t c = let p = (monoid-looks c.monoid_of.ensures c.in-Is.is).inside in omega (arith, p)
+reduced-overflow_add-i t c = let p = (monoid-looks c.monoid_of.ensures c.in-Some.is).inside in omega (arith, p)
 
 pub reduced-total-t-requires : goal.reduced-total-t-requires
-reduced-total-t-requires t c = let w = (monoid-looks c.monoid_of.ensures c.in-Is.is) in (omega (arith, c.decreases, w.inside), ready-comp w (to_z-of_z (fits c.zero.type_inv) ∙ c.zero.ensures) c.requires.ready)
+reduced-total-t-requires t c = let w = (monoid-looks c.monoid_of.ensures c.in-Some.is) in (omega (arith, c.decreases, w.inside), ready-comp w (to_z-of_z (fits c.zero.type_inv) ∙ c.zero.ensures) c.requires.ready)
 
-pub reduced-returns-in-Is : goal.reduced-returns-in-Is
-reduced-returns-in-Is t c = s-comp (monoid-looks c.monoid_of.ensures c.in-Is.is) c.requires.ready c.sort_of.ensures (to_z-of_z (fits c.zero.type_inv) ∙ c.zero.ensures) c.total-t.ensures (to_z-of_z (fits c.total-t.type_inv)) c.finish-x.ensures (to_z-of_z (fits c.finish-x.type_inv)) (to_z-of_z (fits c.read_as.type_inv) ∙ c.read_as.ensures)
-
-pub reduced-returns-in-Other : goal.reduced-returns-in-Other
-reduced-returns-in-Other t c = absurd (c.requires.comprehension (sym c.monoid_of.ensures.is ∙ c.in-Other.is))
+pub reduced-returns-in-Some : goal.reduced-returns-in-Some
+reduced-returns-in-Some t c = s-comp (monoid-looks c.monoid_of.ensures c.in-Some.is) c.requires.ready c.sort_of.ensures (to_z-of_z (fits c.zero.type_inv) ∙ c.zero.ensures) c.total-t.ensures (to_z-of_z (fits c.total-t.type_inv)) c.finish-x.ensures (to_z-of_z (fits c.finish-x.type_inv)) (to_z-of_z (fits c.read_as.type_inv) ∙ c.read_as.ensures)
 
 pub rounds-loop-r-init : goal.rounds-loop-r-init
 rounds-loop-r-init t c = turn-first refl
-
-pub rounds-turn-r-requires : goal.rounds-turn-r-requires
-rounds-turn-r-requires t c = c.requires.table
-
-pub rounds-shape_of-s-then-r-ge-NO_MORE : goal.rounds-shape_of-s-then-r-ge-NO_MORE
-rounds-shape_of-s-then-r-ge-NO_MORE t c = c.bind.auto.s ∙ turn-length c.loop-r.invariant (to_z-of_z c.ranges.acc) c.requires c.turn-r.ensures c.if-r-ge-NO_MORE.true
 
 pub rounds-returns-then-r-ge-NO_MORE : goal.rounds-returns-then-r-ge-NO_MORE
 rounds-returns-then-r-ge-NO_MORE t c = turn_last c.loop-r.invariant (to_z-of_z c.ranges.acc) c.requires c.turn-r.ensures c.if-r-ge-NO_MORE.true c.slot-old.ensures c.bind.ensures
@@ -92,14 +61,8 @@ rounds-returns-then-r-ge-NO_MORE t c = turn_last c.loop-r.invariant (to_z-of_z c
 pub rounds-total-a-requires : goal.rounds-total-a-requires
 rounds-total-a-requires t c = (omega (arith, c.decreases), turn-ready c.loop-r.invariant (to_z-of_z c.ranges.acc) c.requires c.turn-r.ensures c.if-r-ge-NO_MORE.false)
 
-pub rounds-loop-r-smaller : goal.rounds-loop-r-smaller
-rounds-loop-r-smaller t c = omega (arith, c.if-r-ge-NO_MORE.false, turn-past c.loop-r.invariant (to_z-of_z c.ranges.acc) c.requires c.turn-r.ensures c.if-r-ge-NO_MORE.false)
-
 pub rounds-loop-r-preserved : goal.rounds-loop-r-preserved
 rounds-loop-r-preserved t c = turn-again c.loop-r.invariant (to_z-of_z c.ranges.acc) c.requires c.turn-r.ensures c.if-r-ge-NO_MORE.false c.total-a.ensures (to_z-of_z (fits c.total-a.type_inv))
-
-pub scalar-overflow_add-i : goal.scalar-overflow_add-i
-scalar-overflow_add-i t c = let p = (recast c.look.ensures c.in-Binary.is).inside in omega arith
 
 pub scalar-operand-a-requires : goal.scalar-operand-a-requires
 scalar-operand-a-requires t c = let w = recast c.look.ensures c.in-Binary.is in (omega (arith, c.decreases, w.inside.0, w.inside.1), ready-first w c.requires)
@@ -110,32 +73,17 @@ scalar-operand-b-requires t c = let w = recast c.look.ensures c.in-Binary.is in 
 pub scalar-operate-requires : goal.scalar-operate-requires
 scalar-operate-requires t c = ready-operate (recast c.look.ensures c.in-Binary.is) c.operands-k.ensures c.operand-a.ensures c.operand-b.ensures c.requires (to_z-of_z (fits c.operand-a.type_inv)) (to_z-of_z (fits c.operand-b.type_inv))
 
-pub scalar-overflow_add-i-in-Negation : goal.scalar-overflow_add-i-in-Negation
-scalar-overflow_add-i-in-Negation t c = let p = (recast c.look.ensures c.in-Negation.is).inside in omega arith
-
 pub scalar-term-a-requires : goal.scalar-term-a-requires
 scalar-term-a-requires t c = let w = recast c.look.ensures c.in-Negation.is in (omega (arith, c.decreases, w.inside), ready-negated w c.requires)
-
-pub scalar-overflow_add-i-in-Choice : goal.scalar-overflow_add-i-in-Choice
-scalar-overflow_add-i-in-Choice t c = let w = recast c.look.ensures c.in-Operator.is in omega (arith, w.inside.0, w.inside.1)
 
 pub scalar-operand-c-requires : goal.scalar-operand-c-requires
 scalar-operand-c-requires t c = let w = recast c.look.ensures c.in-Operator.is in (omega (arith, c.decreases, truth-behind w c.upto.ensures, w.inside.0, w.inside.1), ready-truth w c.upto.ensures c.requires)
 
-pub scalar-overflow_add-i-in-Choice-2 : goal.scalar-overflow_add-i-in-Choice-2
-scalar-overflow_add-i-in-Choice-2 t c = let w = recast c.look.ensures c.in-Operator.is in omega (arith, w.inside.0, w.inside.1)
-
 pub scalar-operand-requires : goal.scalar-operand-requires
 scalar-operand-requires t c = let w = recast c.look.ensures c.in-Operator.is in (omega (arith, c.decreases, branch-behind w c.upto.ensures c.operand-c.ensures _ c.branch-j.ensures, w.inside.0, w.inside.1), ready-branch w c.upto.ensures c.operand-c.ensures _ c.requires c.branch-j.ensures)
 
-pub scalar-overflow_add-i-in-Open : goal.scalar-overflow_add-i-in-Open
-scalar-overflow_add-i-in-Open t c = let w = recast c.look.ensures c.in-Operator.is in omega (arith, w.inside.0, w.inside.1)
-
 pub scalar-operand-t-requires : goal.scalar-operand-t-requires
 scalar-operand-t-requires t c = let w = recast c.look.ensures c.in-Operator.is in (omega (arith, c.decreases, truth-behind w c.upto-in-Open.ensures, w.inside.0, w.inside.1), ready-truth w c.upto-in-Open.ensures c.requires)
-
-pub scalar-reduced-requires : goal.scalar-reduced-requires
-scalar-reduced-requires t c = (omega (arith, c.decreases), ready-looked c.requires (recast c.look.ensures c.in-Comprehension.is))
 
 pub scalar-returns-in-Number : goal.scalar-returns-in-Number
 scalar-returns-in-Number t c = s-number (recast c.look.ensures c.in-Number.is).is (to_z-of_z (fits c.in-Number.known_told-1-own.given.0.1)) (to_z-of_z (fits c.read_as.type_inv) ∙ c.read_as.ensures)
@@ -164,9 +112,6 @@ scalar-returns-in-Choice t c = s-choice (recast c.look.ensures c.in-Operator.is)
 pub scalar-returns-in-Open : goal.scalar-returns-in-Open
 scalar-returns-in-Open t c = s-open (recast c.look.ensures c.in-Operator.is) c.upto-in-Open.ensures c.operand-t.ensures c.in-Open.is (to_z-of_z (fits c.operand-t.type_inv)) c.open_at.ensures c.truth_word-in-Open.ensures (to_z-of_z (fits c.truth_word-in-Open.type_inv)) (to_z-of_z (fits c.read_as-in-Open.type_inv) ∙ c.read_as-in-Open.ensures)
 
-pub scalar-returns-in-Comprehension : goal.scalar-returns-in-Comprehension
-scalar-returns-in-Comprehension t c = s-same c.reduced.ensures (to_z-of_z (fits c.reduced.type_inv))
-
 pub scalar-returns-in-Generator : goal.scalar-returns-in-Generator
 scalar-returns-in-Generator t c = s-generator (recast c.look.ensures c.in-Generator.is).is
 
@@ -176,26 +121,8 @@ scalar-returns-in-Condition t c = s-condition (recast c.look.ensures c.in-Condit
 pub scalar-returns-in-Nothing : goal.scalar-returns-in-Nothing
 scalar-returns-in-Nothing t c = s-nothing (recast c.look.ensures c.in-Nothing.is).is
 
-pub term-reduced-requires : goal.term-reduced-requires
-term-reduced-requires t c = (omega (arith, c.decreases), ready_read c.requires c.monoid_of.ensures c.in-Is.is)
-
-pub term-scalar-requires : goal.term-scalar-requires
-term-scalar-requires t c = (omega (arith, c.decreases), c.requires)
-
-pub term-returns-in-Is : goal.term-returns-in-Is
-term-returns-in-Is t c = s-same c.reduced.ensures (to_z-of_z (fits c.reduced.type_inv))
-
-pub term-returns-in-Other : goal.term-returns-in-Other
-term-returns-in-Other t c = s-same c.scalar.ensures (to_z-of_z (fits c.scalar.type_inv))
-
 pub total-quick-requires : goal.total-quick-requires
 total-quick-requires t c = total-ready c.requires (to_z-of_z c.ranges.acc)
 
-pub total-fold-requires : goal.total-fold-requires
-total-fold-requires t c = (omega (arith, c.decreases), total-rest (to_z-of_z c.ranges.acc) c.requires)
-
-pub total-returns-in-Done : goal.total-returns-in-Done
-total-returns-in-Done t c = total-done c.requires (to_z-of_z c.ranges.acc) c.quick.ensures c.in-Done.is (to_z-of_z (fits c.in-Done.known_told-1-own.given.0.1))
-
-pub total-returns-in-Other : goal.total-returns-in-Other
-total-returns-in-Other t c = total-folded (to_z-of_z c.ranges.acc) c.fold.ensures (to_z-of_z (fits c.fold.type_inv))
+pub total-returns-in-Some : goal.total-returns-in-Some
+total-returns-in-Some t c = total-done c.requires (to_z-of_z c.ranges.acc) c.quick.ensures c.in-Some.is (to_z-of_z (fits c.in-Some.known_told-1-own.given.0.1))

@@ -1,19 +1,6 @@
-use native.Mathlib.Omega.{arith}
-use mathlib.Core.Path.{refl, sym, ap, ◌∙◌}
 use Prim.Native.Nat.{◌+◌, ◌-◌, ◌*◌}
-use lib.IntN.{pos}
-use mir.Syntax.{w64}
-use mir.Val.{to_z, of_z}
-use mir.Facts.{to_z-of_z, sfits_lit}
-use Rattle.base_signed.proofs.SignedWords.{fits, eq_is, same-is}
 use Rattle.form_words.specs.FormTree.{left}
-use Rattle.form_words.proofs.NodeWords.{recast, recast_c, leaf-recast}
-use Rattle.form_words.proofs.Operands.{truth-behind}
-use Rattle.loop_scalar.proofs.Exits.{s-number, s-truth, s-row, s-cell, s-record, s-generator, s-condition, s-nothing, ready-first, ready-second, ready-operate, s-binary, ready-negated, s-negation, ready-truth, branch-behind, ready-branch, s-choice, s-open, s-same, ready-comp, s-comp, ready-turns, f-generator, ready-test, f-no, ready-head, ready-merge, f-head, Folding, fold-first, fold-again, Turning, turn-first, turn-length, turn-past, turn-ready, turn-again, turn_last, total-rest, total-folded}
-use Rattle.loop_scalar.proofs.NodeMonoid.{monoid-looks, ready-looked, ready_read}
-use Rattle.loop_scalar.proofs.MergedRows.{total-ready, total-done}
-use borrow.Author.Rules.{rules}
-use Prim.Native.Nat.{ℕ, ◌<◌}
+use Rattle.loop_scalar.proofs.Exits.{Folding, Turning}
 use Rattle.loop_scalar.proofs.+fold_operand_reduced_rounds_scalar_term_total.Given as goal
 
 abbrev pub decreases-fold : goal.decreases-fold

@@ -9,14 +9,6 @@ use borrow.Author.Rules.{rules}
 use Prim.Native.Nat.{ℕ, ◌<◌}
 use Rattle.plan_lines.proofs.+closings.Goals as goal
 
-pub look_clause-requires : goal.look_clause-requires
-unfolding ascii
-look_clause-requires t c = search rules
-
-pub enum_known-g : goal.enum_known-g
-unfolding ascii
-enum_known-g t c = search rules
-
 pub overflow_add-i : goal.overflow_add-i
 unfolding ascii
 overflow_add-i t c = let p = (recast_c c.look_clause.ensures c.in-Generator.is).inside in omega (arith, p.0)
@@ -25,21 +17,9 @@ pub closings-requires : goal.closings-requires
 unfolding ascii
 closings-requires t c = let p = (recast_c c.look_clause.ensures c.in-Generator.is).inside in (omega (arith, p.0, c.decreases), tt)
 
-pub enum_known-j : goal.enum_known-j
-unfolding ascii
-enum_known-j t c = search rules
-
-pub mark-requires : goal.mark-requires
-unfolding ascii
-mark-requires t c = search rules
-
 pub closings-requires-then-mark-m : goal.closings-requires-then-mark-m
 unfolding ascii
 closings-requires-then-mark-m t c = let p = (recast_c c.look_clause.ensures c.in-Condition.is).inside in (omega (arith, p.0, p.1, c.decreases), tt)
-
-pub shape_of-text-then-mark-m : goal.shape_of-text-then-mark-m
-unfolding ascii
-shape_of-text-then-mark-m t c = search rules
 
 pub returns-then-mark-m : goal.returns-then-mark-m
 unfolding ascii
@@ -49,45 +29,21 @@ pub overflow_add-i-in-Condition : goal.overflow_add-i-in-Condition
 unfolding ascii
 overflow_add-i-in-Condition t c = let p = (recast_c c.look_clause.ensures c.in-Condition.is).inside in omega (arith, p.0, p.1)
 
-pub condition-q-requires : goal.condition-q-requires
-unfolding ascii
-condition-q-requires t c = search rules
-
 pub closings-requires-in-Condition : goal.closings-requires-in-Condition
 unfolding ascii
 closings-requires-in-Condition t c = let p = (recast_c c.look_clause.ensures c.in-Condition.is).inside in (omega (arith, p.0, p.1, c.decreases), tt)
-
-pub enum_told-1 : goal.enum_told-1
-unfolding ascii
-enum_told-1 t c = search rules
 
 pub returns-then-later : goal.returns-then-later
 unfolding ascii
 returns-then-later t c = closings-later c.args.m (recast_c c.look_clause.ensures c.in-Head.is) c.if-later.true
 
-pub say-requires : goal.say-requires
-unfolding ascii
-say-requires t c = search rules
-
-pub shape_of-text-in-Generator : goal.shape_of-text-in-Generator
-unfolding ascii
-shape_of-text-in-Generator t c = search rules
-
 pub returns-in-Generator : goal.returns-in-Generator
 unfolding ascii
 returns-in-Generator t c = conds-generator (closes c.args.later) c.args.m (recast_c c.look_clause.ensures c.in-Generator.is) c.closings.ensures
 
-pub shape_of-text-else-mark-m : goal.shape_of-text-else-mark-m
-unfolding ascii
-shape_of-text-else-mark-m t c = search rules
-
 pub returns-else-mark-m : goal.returns-else-mark-m
 unfolding ascii
 returns-else-mark-m t c = closings-condition c.args.later (recast_c c.look_clause.ensures c.in-Condition.is) c.mark.ensures c.if-mark-m.false c.condition-q.ensures c.closings-in-Condition.ensures
-
-pub shape_of-text-else-later : goal.shape_of-text-else-later
-unfolding ascii
-shape_of-text-else-later t c = search rules
 
 pub returns-else-later : goal.returns-else-later
 unfolding ascii

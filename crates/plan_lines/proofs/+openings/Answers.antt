@@ -9,14 +9,6 @@ use borrow.Author.Rules.{rules}
 use Prim.Native.Nat.{ℕ, ◌<◌}
 use Rattle.plan_lines.proofs.+openings.Goals as goal
 
-pub look_clause-requires : goal.look_clause-requires
-unfolding ascii
-look_clause-requires t c = search rules
-
-pub enum_known-g : goal.enum_known-g
-unfolding ascii
-enum_known-g t c = search rules
-
 pub overflow_add-i : goal.overflow_add-i
 unfolding ascii
 overflow_add-i t c = let p = (recast_c c.look_clause.ensures c.in-Generator.is).inside in omega (arith, p.0)
@@ -25,37 +17,17 @@ pub openings-requires : goal.openings-requires
 unfolding ascii
 openings-requires t c = let p = (recast_c c.look_clause.ensures c.in-Generator.is).inside in (omega (arith, p.0, c.decreases), tt)
 
-pub enum_known-j : goal.enum_known-j
-unfolding ascii
-enum_known-j t c = search rules
-
-pub mark-requires : goal.mark-requires
-unfolding ascii
-mark-requires t c = search rules
-
 pub openings-requires-then-mark-m : goal.openings-requires-then-mark-m
 unfolding ascii
 openings-requires-then-mark-m t c = let p = (recast_c c.look_clause.ensures c.in-Condition.is).inside in (omega (arith, p.0, p.1, c.decreases), tt)
-
-pub shape_of-text-then-mark-m : goal.shape_of-text-then-mark-m
-unfolding ascii
-shape_of-text-then-mark-m t c = search rules
 
 pub returns-then-mark-m : goal.returns-then-mark-m
 unfolding ascii
 returns-then-mark-m t c = conds-skip (opens c.args.later) c.args.m (recast_c c.look_clause.ensures c.in-Condition.is) c.mark.ensures c.if-mark-m.true c.openings-then-mark-m.ensures
 
-pub say-q-requires : goal.say-q-requires
-unfolding ascii
-say-q-requires t c = search rules
-
 pub openings-requires-then-later : goal.openings-requires-then-later
 unfolding ascii
 openings-requires-then-later t c = let p = (recast_c c.look_clause.ensures c.in-Condition.is).inside in (omega (arith, p.0, p.1, c.decreases), tt)
-
-pub shape_of-text-then-later : goal.shape_of-text-then-later
-unfolding ascii
-shape_of-text-then-later t c = search rules
 
 pub returns-then-later : goal.returns-then-later
 unfolding ascii
@@ -65,21 +37,9 @@ pub openings-requires-in-Condition : goal.openings-requires-in-Condition
 unfolding ascii
 openings-requires-in-Condition t c = let p = (recast_c c.look_clause.ensures c.in-Condition.is).inside in (omega (arith, p.0, p.1, c.decreases), tt)
 
-pub enum_told-1 : goal.enum_told-1
-unfolding ascii
-enum_told-1 t c = search rules
-
-pub shape_of-text-in-Generator : goal.shape_of-text-in-Generator
-unfolding ascii
-shape_of-text-in-Generator t c = search rules
-
 pub returns-in-Generator : goal.returns-in-Generator
 unfolding ascii
 returns-in-Generator t c = conds-generator (opens c.args.later) c.args.m (recast_c c.look_clause.ensures c.in-Generator.is) c.openings.ensures
-
-pub shape_of-text-else-later : goal.shape_of-text-else-later
-unfolding ascii
-shape_of-text-else-later t c = search rules
 
 pub returns-else-later : goal.returns-else-later
 unfolding ascii

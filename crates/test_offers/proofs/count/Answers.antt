@@ -18,12 +18,6 @@ shape_of-out-then-at-eq1 c = c.loop-n.invariant.wide
 pub returns-then-at-eq1 : goal.returns-then-at-eq1
 returns-then-at-eq1 c = count-over c.loop-n.invariant c.requires c.if-at-eq1.true
 
-pub overflow_add-n : goal.overflow_add-n
-overflow_add-n c = omega (arith, c.loop-n-test.true)
-
-pub loop-n-smaller : goal.loop-n-smaller
-loop-n-smaller c = omega (arith, c.loop-n-test.true)
-
 pub loop-n-preserved : goal.loop-n-preserved
 loop-n-preserved c = count-again c.loop-n.invariant c.if-at-eq1.false c.loop-n-test.true c.portion-at.ensures c.portion-at.auto.s c.portion-at.auto.out
 

@@ -7,6 +7,3 @@ use Rattle.test_offers.proofs.count.Given as goal
 
 abbrev pub invariant-loop-n : goal.invariant-loop-n
 invariant-loop-n l = Counting l.«data» l.initial.s l.initial.out l.code l.s l.out l.at l.n
-
-abbrev pub decreases-loop-n : goal.decreases-loop-n
-decreases-loop-n l = longest - l.n

@@ -1,6 +1,5 @@
 -- `base_syntax::Monoid::finish` meets its contract, by base_signed/SignedWords.
-use borrow.Author.Rules.{rules}
-use mathlib.Core.Path.{◌≡◌, refl, sym, ap, ◌∙◌}
+use mathlib.Core.Path.{◌≡◌, sym, ap, ◌∙◌}
 use mathlib.Core.Bool.{Bool}
 use lib.IntN.{ℤ, pos}
 use mir.Syntax.{w64}
@@ -26,22 +25,6 @@ module _ {a : ℤ} (f : SFits w64 a) where
   unfolding pick
   no_none h = sym (ap (λ (t : Bool). pick t (pos 0) a) (eq_no f (sfits_lit {z = none_word} tt) h))
 
-pub returns-in-List : goal.returns-in-List
-unfolding finish_word
-returns-in-List c = answers c.args.a c.in-List.is c.ranges.a refl
-
-pub returns-in-Bag : goal.returns-in-Bag
-unfolding finish_word
-returns-in-Bag c = answers c.args.a c.in-Bag.is c.ranges.a refl
-
-pub returns-in-Set : goal.returns-in-Set
-unfolding finish_word
-returns-in-Set c = answers c.args.a c.in-Set.is c.ranges.a refl
-
-pub returns-in-Sum : goal.returns-in-Sum
-unfolding finish_word
-returns-in-Sum c = answers c.args.a c.in-Sum.is c.ranges.a refl
-
 pub returns-then-a-eq-NONE : goal.returns-then-a-eq-NONE
 unfolding finish_word
 returns-then-a-eq-NONE c = answers c.args.a c.in-Max.is (sfits_lit {z = pos 0} tt) (is_none c.ranges.a c.if-a-eq-NONE.true)
@@ -49,14 +32,6 @@ returns-then-a-eq-NONE c = answers c.args.a c.in-Max.is (sfits_lit {z = pos 0} t
 pub returns-else-a-eq-NONE : goal.returns-else-a-eq-NONE
 unfolding finish_word
 returns-else-a-eq-NONE c = answers c.args.a c.in-Max.is c.ranges.a (no_none c.ranges.a c.if-a-eq-NONE.false)
-
-pub returns-in-Some : goal.returns-in-Some
-unfolding finish_word
-returns-in-Some c = answers c.args.a c.in-Some.is c.ranges.a refl
-
-pub returns-in-All : goal.returns-in-All
-unfolding finish_word
-returns-in-All c = answers c.args.a c.in-All.is c.ranges.a refl
 
 pub returns-then-a-eq-NONE-2 : goal.returns-then-a-eq-NONE-2
 unfolding finish_word

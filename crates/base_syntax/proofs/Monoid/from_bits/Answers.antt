@@ -1,5 +1,4 @@
 -- `base_syntax::Monoid::from_bits` meets its contract, by Numbers.
-use borrow.Author.Rules.{rules}
 use mathlib.Core.Path.{◌∙◌}
 use Prim.Native.Nat.{◌%◌}
 use Rattle.base_syntax.proofs.Numbers.{bits-min, bits-other}

@@ -1,5 +1,4 @@
 -- `base_syntax::Monoid::merge` meets its contract, by base_signed/SignedWords.
-use borrow.Author.Rules.{rules}
 use mathlib.Core.Path.{◌≡◌, refl, sym, ap, ap₂, subst, ◌∙◌}
 use mathlib.Core.Bool.{Bool}
 use Prim.Native.Nat.{◌<◌, ◌^◌}

@@ -1,6 +1,5 @@
 -- `base_syntax::Monoid::one_more` meets its contract, by base_signed/Limit.
 use Rattle.base_signed.proofs.Limit.{bump-more, bump-full}
-use borrow.Author.Rules.{rules}
 use Rattle.base_syntax.proofs.Monoid.one_more.Goals as goal
 
 pub returns-then-n-lt-COUNT_LIMIT : goal.returns-then-n-lt-COUNT_LIMIT

@@ -1,14 +1,9 @@
 -- `front_parser::value::leaf` meets its contract, by LeafRecords.
-use native.Mathlib.Omega.{arith}
-use Rattle.front_parser.proofs.LeafRecords.{leaf-small, value-is, leaf-broken, leaf-read}
-use borrow.Author.Rules.{rules}
+use Rattle.front_parser.proofs.LeafRecords.{passed_on, absent, present, leaf-broken, leaf-read}
 use Rattle.front_parser.proofs.value.leaf.Goals as goal
 
-pub finish-requires : goal.finish-requires
-finish-requires c = let v = value-is c.argument.ensures c.in-Is.is in let h = leaf-small c.requires.0 in let w = c.requires.1 in omega arith
+pub returns-in_err-a : goal.returns-in_err-a
+returns-in_err-a c = let n = absent _ c.ok_or.ensures.value c.in_err-a.was in rw (passed_on _ c.from_residual.ensures.1, n.1) (leaf-broken c.argument.ensures n.0)
 
-pub returns-in-Broken : goal.returns-in-Broken
-returns-in-Broken c = leaf-broken c.argument.ensures c.in-Broken.is
-
-pub returns-in-Is : goal.returns-in-Is
-returns-in-Is c = leaf-read c.argument.ensures c.in-Is.is c.finish.ensures
+pub returns : goal.returns
+returns c = leaf-read c.argument.ensures (present _ c.ok_or.ensures.value c.in_ok-a.was) c.finish.ensures

@@ -1,6 +1,5 @@
 -- `front_parser::value::name` meets its contract, by LeafRecords.
 use Rattle.front_parser.proofs.LeafRecords.{name-broken, name-is}
-use borrow.Author.Rules.{rules}
 use Rattle.front_parser.proofs.value.name.Goals as goal
 
 pub returns-then-c-ne2 : goal.returns-then-c-ne2

@@ -1,5 +1,4 @@
 -- `front_parser::value::shape_of` meets its contract, by LeafRecords.
-use mathlib.Core.Path.{refl}
 use native.Mathlib.Omega.{arith}
 use Rattle.front_parser.specs.RecordKinds.{table_kind, of_field, of_record, of_not}
 use Rattle.front_parser.proofs.LeafRecords.{shaped-at, shaped-none, shaped-value, shaped-two}
@@ -11,12 +10,6 @@ returns-then-k-eq0 c = shaped-at c.if-k-eq0.true shaped-none
 pub returns-then-k-le-KIND_NAME : goal.returns-then-k-le-KIND_NAME
 returns-then-k-le-KIND_NAME c = shaped-value c.if-k-eq0.false c.if-k-le-KIND_NAME.true
 
-pub later_shape-requires : goal.later_shape-requires
-later_shape-requires c = c.if-k-gt-KIND_TABLE.true
-
-pub returns-then-k-gt-KIND_TABLE : goal.returns-then-k-gt-KIND_TABLE
-returns-then-k-gt-KIND_TABLE c = c.later_shape.ensures
-
 pub returns-in-4 : goal.returns-in-4
 returns-in-4 c = shaped-at c.in-4.is (record { is = (of_field, omega arith) })
 
@@ -25,9 +18,6 @@ returns-in-5 c = shaped-at c.in-5.is (record { is = (of_record, omega arith) })
 
 pub returns-in-13 : goal.returns-in-13
 returns-in-13 c = shaped-at c.in-13.is (record { is = (of_not, omega arith) })
-
-pub returns-in-14 : goal.returns-in-14
-returns-in-14 c = shaped-at c.in-14.is (record { is = refl })
 
 pub returns-in-15 : goal.returns-in-15
 returns-in-15 c = shaped-at c.in-15.is (record { is = table_kind })

@@ -1,6 +1,5 @@
 -- `front_parser::value::table` meets its contract, by LeafRecords.
 use Rattle.front_parser.proofs.LeafRecords.{table-broken, table_is}
-use borrow.Author.Rules.{rules}
 use Rattle.front_parser.proofs.value.table.Goals as goal
 
 pub returns-then-c-ne1 : goal.returns-then-c-ne1
