@@ -13,7 +13,7 @@ use form_words::monoid_of;
 use loop_scalar::scalar;
 
 // "The counts, true first, are the answer's two words."
-const ANSWER_WORDS: usize = 2;
+pub const ANSWER_WORDS: usize = 2;
 
 // "a question whose monoid is some or all"
 fn asks_truth(s: &[u64]) -> bool
